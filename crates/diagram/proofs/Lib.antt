@@ -1,0 +1,12 @@
+-- Laws that belong to no one function.
+--     Words       words of a slice that a loop has passed
+--     Tests       by cases on a test
+--     Count       counting the numbers that pass a test; some number does; the first that does
+--     Reaching    the test `reaches` says `Reach`
+--     Marking     the search for reachable nodes
+pub mod Words
+pub mod Tests
+pub mod Count
+pub mod Reaching
+pub mod Marking
+

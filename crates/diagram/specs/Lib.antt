@@ -1,0 +1,10 @@
+-- What a reader must believe of diagrams and of their check.
+--     Limits      the numbers of document 01
+--     Diagram     words as nodes, valuations, paths, holds; reached, ordered, accepted
+--     Verdict     the numbers of refusal, in the order in which the checks run
+-- and, for the code inside, which no promise to a caller names:
+--     Marking     the search for reachable nodes in the working room
+pub mod Limits
+pub mod Diagram
+pub mod Verdict
+pub mod Marking

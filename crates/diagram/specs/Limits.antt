@@ -1,0 +1,18 @@
+-- Document 01, "Numbers": each limit once. The code has the same numbers in src/limits.rt.
+use Prim.Native.Nat.{ℕ}
+
+-- the most nodes of a diagram
+abbrev pub maxNodes : ℕ
+maxNodes = 4096
+
+-- the most variables
+abbrev pub maxVariables : ℕ
+maxVariables = 255
+
+-- words of working room for each node
+abbrev pub roomPerNode : ℕ
+roomPerNode = 64
+
+-- words of a count
+abbrev pub countWords : ℕ
+countWords = 8
