@@ -32,9 +32,9 @@ count-some (suc n) t q l e =
     by-test (t n)
     (λ a. omega (arith, count-hit n t a))
     (λ a.
-        by-eq q n
-        (λ x. absurd (not-both (t n) (sym (ap t x) ∙ e) a))
-        (λ x. let h = count-some n t q (omega arith) e in omega (arith, count-miss n t a)))
+    by-eq q n
+    (λ x. absurd (not-both (t n) (sym (ap t x) ∙ e) a))
+    (λ x. let h = count-some n t q (omega arith) e in omega (arith, count-miss n t a)))
 
 -- two tests that agree below n are passed equally often
 pub count-same : (n : ℕ) (f g : ℕ → Bool) → ((p : ℕ) → p < n → f p ≡ g p) → count n f ≡ count n g
@@ -48,45 +48,49 @@ count-same (suc n) f g h =
 
 -- one number less passes
 pub count-less : (n : ℕ) (f g : ℕ → Bool) (q : ℕ) → q < n → f q ≡ true → g q ≡ false
-  → ((p : ℕ) → p < n → (p ≡ q → ⊥) → f p ≡ g p) → count n f ≡ suc (count n g)
+    → ((p : ℕ) → p < n → (p ≡ q → ⊥) → f p ≡ g p) → count n f ≡ suc (count n g)
 count-less zero f g q l e d h = absurd (omega arith)
 count-less (suc n) f g q l e d h =
     by-eq n q
     (λ x. count-hit n f (ap f x ∙ e) ∙ ap suc (count-same n f g (λ p m. h p (omega arith) (λ y. omega arith)) ∙ sym (count-miss n g (ap g x ∙ d))))
     (λ x.
-        let i = count-less n f g q (omega arith) e d (λ p m. h p (omega arith)) in
-        let s = h n (omega arith) x in
-        by-test (f n)
-        (λ a. count-hit n f a ∙ ap suc (i ∙ sym (count-hit n g (sym s ∙ a))))
-        (λ a. count-miss n f a ∙ i ∙ ap suc (sym (count-miss n g (sym s ∙ a)))))
+    let i = count-less n f g q (omega arith) e d (λ p m. h p (omega arith)) in
+    let s = h n (omega arith) x in
+    by-test (f n)
+    (λ a. count-hit n f a ∙ ap suc (i ∙ sym (count-hit n g (sym s ∙ a))))
+    (λ a. count-miss n f a ∙ i ∙ ap suc (sym (count-miss n g (sym s ∙ a)))))
 
 -- of two tests, the first included in the second: they agree below n, or the second is passed more often
 pub count-grows : (n : ℕ) (f g : ℕ → Bool) → ((p : ℕ) → p < n → f p ≡ true → g p ≡ true)
-  → ((p : ℕ) → p < n → g p ≡ true → f p ≡ true) ⊎ (count n f < count n g)
+    → ((p : ℕ) → p < n → g p ≡ true → f p ≡ true) ⊎ (count n f < count n g)
 count-grows zero f g h = inl (λ p l e. absurd (omega arith))
 count-grows (suc n) f g h = go (count-grows n f g (λ p l. h p (omega arith)))
   where
     more : count n f ≤ count n g → f n ≡ false → g n ≡ true → count (suc n) f < count (suc n) g
     more i a b = omega (arith, count-miss n f a, count-hit n g b)
+
     same-step : count n f < count n g → count (suc n) f < count (suc n) g
     same-step i =
         by-test (f n)
         (λ a. omega (arith, count-hit n f a, count-hit n g (h n (omega arith) a)))
         (λ a. by-test (g n)
-            (λ b. omega (arith, count-miss n f a, count-hit n g b))
-            (λ b. omega (arith, count-miss n f a, count-miss n g b)))
+        (λ b. omega (arith, count-miss n f a, count-hit n g b))
+        (λ b. omega (arith, count-miss n f a, count-miss n g b)))
+
     all : ((p : ℕ) → p < n → g p ≡ true → f p ≡ true) → (g n ≡ true → f n ≡ true) → (p : ℕ) → p < suc n → g p ≡ true → f p ≡ true
     all i k p l e = by-eq p n (λ x. ap f x ∙ k (sym (ap g x) ∙ e)) (λ x. i p (omega arith) e)
+
     agree : ((p : ℕ) → p < n → g p ≡ true → f p ≡ true) → count n f ≡ count n g
     agree i = count-same n f g (λ p l. by-test (f p) (λ a. a ∙ sym (h p (omega arith) a)) (λ a. by-test (g p) (λ b. absurd (not-both (f p) (i p l b) a)) (λ b. a ∙ sym b)))
+
     go : ((p : ℕ) → p < n → g p ≡ true → f p ≡ true) ⊎ (count n f < count n g)
-      → ((p : ℕ) → p < suc n → g p ≡ true → f p ≡ true) ⊎ (count (suc n) f < count (suc n) g)
+        → ((p : ℕ) → p < suc n → g p ≡ true → f p ≡ true) ⊎ (count (suc n) f < count (suc n) g)
     go (inl i) =
         by-test (f n)
         (λ a. inl (all i (λ b. a)))
         (λ a. by-test (g n)
-            (λ b. let q = agree i in inr (more (omega arith) a b))
-            (λ b. inl (all i (λ c. absurd (not-both (g n) c b)))))
+        (λ b. let q = agree i in inr (more (omega arith) a b))
+        (λ b. inl (all i (λ c. absurd (not-both (g n) c b)))))
     go (inr i) = inr (same-step i)
 
 -- some number below n passes a test
@@ -108,12 +112,79 @@ any-elim (suc n) t e =
 
 -- the first of the k numbers from a on that passes: none below it does, and it does unless it is the end
 pub first-is : (t : ℕ → Bool) (a k i : ℕ) → a ≤ i → i ≤ a + k → ((p : ℕ) → a ≤ p → p < i → t p ≡ false)
-  → (i < a + k → t i ≡ true) → first t a k ≡ i
+    → (i < a + k → t i ≡ true) → first t a k ≡ i
 unfolding first
 first-is t a zero i l m below hit = omega arith
 first-is t a (suc k) i l m below hit =
     by-eq a i
     (λ x. cond-true (t a) a (first t (suc a) k) (ap t x ∙ hit (omega arith)) ∙ x)
     (λ x.
-        cond-false (t a) a (first t (suc a) k) (below a (omega arith) (omega arith))
-        ∙ first-is t (suc a) k i (omega arith) (omega arith) (λ p u v. below p (omega arith) v) (λ u. hit (omega arith)))
+    cond-false (t a) a (first t (suc a) k) (below a (omega arith) (omega arith))
+    ∙ first-is t (suc a) k i (omega arith) (omega arith) (λ p u v. below p (omega arith) v) (λ u. hit (omega arith)))
+
+-- it lies from a on, and not past the end
+pub first-from : (t : ℕ → Bool) (a k : ℕ) → (a ≤ first t a k) × (first t a k ≤ a + k)
+unfolding first
+first-from t a zero = omega arith
+first-from t a (suc k) =
+    let i = first-from t (suc a) k in
+    by-test (t a)
+    (λ e. rw e (omega arith))
+    (λ e. rw e (omega (arith, i .0, i .1)))
+
+-- none before it passes, and it does unless it is the end
+pub first-least : (t : ℕ → Bool) (a k q : ℕ) → a ≤ q → q < first t a k → t q ≡ false
+unfolding first
+first-least t a zero q l m = absurd (omega arith)
+first-least t a (suc k) q l m =
+    by-test (t a)
+    (λ e. let m′ : q < a = rw e at m in absurd (omega arith))
+    (λ e. let m′ : q < first t (suc a) k = rw e at m in by-eq q a (λ x. ap t x ∙ e) (λ x. first-least t (suc a) k q (omega arith) m′))
+
+pub first-passes : (t : ℕ → Bool) (a k : ℕ) → first t a k < a + k → t (first t a k) ≡ true
+unfolding first
+first-passes t a zero l = absurd (omega arith)
+first-passes t a (suc k) l =
+    by-test (t a)
+    (λ e. rw e e)
+    (λ e. let l′ : first t (suc a) k < a + suc k = rw e at l in rw e (first-passes t (suc a) k (omega arith)))
+
+-- two tests that agree on them
+pub first-same : (t s : ℕ → Bool) (a k : ℕ) → ((p : ℕ) → a ≤ p → p < a + k → t p ≡ s p) → first t a k ≡ first s a k
+unfolding first
+first-same t s a zero h = refl
+first-same t s a (suc k) h =
+    let i = first-same t s (suc a) k (λ p l m. h p (omega arith) (omega arith)) in
+    rw (h a (omega arith) (omega arith), i)
+
+-- a test on numbers c higher
+pub first-shift : (t s : ℕ → Bool) (c a k : ℕ) → ((p : ℕ) → a ≤ p → p < a + k → t (c + p) ≡ s p) → first t (c + a) k ≡ c + first s a k
+unfolding first
+first-shift t s c a zero h = refl
+first-shift t s c a (suc k) h =
+    let e : c + suc a ≡ suc (c + a) = omega arith in
+    let i = rw e at (first-shift t s c (suc a) k (λ p l m. h p (omega arith) (omega arith))) in
+    by-test (s a)
+    (λ x. cond-true (t (c + a)) (c + a) _ (h a (omega arith) (omega arith) ∙ x) ∙ ap (λ (y : ℕ). c + y) (sym (cond-true (s a) a _ x)))
+    (λ x. cond-false (t (c + a)) (c + a) _ (h a (omega arith) (omega arith) ∙ x) ∙ i ∙ ap (λ (y : ℕ). c + y) (sym (cond-false (s a) a _ x)))
+
+-- a scan from a on, which has come to p
+pub record Scanned (t : ℕ → Bool) (a p : ℕ) : Type 0 where
+  pub from : a ≤ p
+  pub none : (q : ℕ) → a ≤ q → q < p → t q ≡ false
+
+pub scan-start : (t : ℕ → Bool) (a : ℕ) → Scanned t a a
+scan-start t a = record { from = omega arith; none = λ q l m. absurd (omega arith) }
+
+pub scan-on : (t : ℕ → Bool) (a p : ℕ) → Scanned t a p → t p ≡ false → Scanned t a (p + 1)
+scan-on t a p s e =
+    record {
+      from = omega (arith, s .from);
+      none = λ q l m. by-eq q p (λ x. ap t x ∙ e) (λ x. s .none q l (omega arith));
+    }
+
+pub scan-hit : (t : ℕ → Bool) (a k p : ℕ) → Scanned t a p → p < a + k → t p ≡ true → p ≡ first t a k
+scan-hit t a k p s l e = sym (first-is t a k p (s .from) (omega arith) (s .none) (λ x. e))
+
+pub scan-end : (t : ℕ → Bool) (a k p : ℕ) → Scanned t a p → p ≡ a + k → p ≡ first t a k
+scan-end t a k p s l = sym (first-is t a k p (s .from) (omega arith) (s .none) (λ x. absurd (omega arith)))

@@ -4,9 +4,14 @@
 --     Count       counting the numbers that pass a test; some number does; the first that does
 --     Reaching    the test `reaches` says `Reach`
 --     Marking     the search for reachable nodes
+--     Breaks      the tests of check 11
+--     Rows        the returns of the checks are the rows of the verdict
+--     Accepting   what an acceptance tells
 pub mod Words
 pub mod Tests
 pub mod Count
 pub mod Reaching
 pub mod Marking
-
+pub mod Breaks
+pub mod Rows
+pub mod Accepting

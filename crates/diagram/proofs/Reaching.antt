@@ -41,9 +41,9 @@ module _ (w : List ℕ) where
       or-cases (reachedIn w k p) (any (size w) (λ q. reachedIn w k q && isChild w q p)) e
       (λ a. sound k p a)
       (λ a.
-          let r = any-elim (size w) (λ q. reachedIn w k q && isChild w q p) a in
-          let b = and-both (reachedIn w k (r .0)) (isChild w (r .0) p) (r .2) in
-          child-reach (r .0) p (b .1) (sound k (r .0) (b .0)))
+      let r = any-elim (size w) (λ q. reachedIn w k q && isChild w q p) a in
+      let b = and-both (reachedIn w k (r .0)) (isChild w (r .0) p) (r .2) in
+      child-reach (r .0) p (b .1) (sound k (r .0) (b .0)))
 
   pub reaches-sound : (p : ℕ) → reaches w p ≡ true → Reach w (root w) p
   unfolding reaches
@@ -93,14 +93,14 @@ module _ (w : List ℕ) where
         ⊎-elim
         (λ c. inl (c .0, omega (arith, c .1), c .2))
         (λ m.
-            ⊎-elim
-            (λ c. inl (k, omega arith, c))
-            (λ l. inr (omega (arith, m, l)))
-            (count-grows (size w) (reachedIn w k) (reachedIn w (suc k)) (λ p l e. more k p e)))
+        ⊎-elim
+        (λ c. inl (k, omega arith, c))
+        (λ l. inr (omega (arith, m, l)))
+        (count-grows (size w) (reachedIn w k) (reachedIn w (suc k)) (λ p l e. more k p e)))
         (grows k)
 
     enough : (p : ℕ) → Reach w (root w) p → ((j : ℕ) × (j ≤ size w) × Closed j) ⊎ (size w < count (size w) (reachedIn w (size w)))
-      → reachedIn w (size w) p ≡ true
+        → reachedIn w (size w) p ≡ true
     enough p r (inl c) =
         subst (λ (x : ℕ). reachedIn w x p ≡ true) (omega (arith, c .1)) (further (c .0) (size w - c .0) p (closed-all (c .0) (c .2) r .1))
     enough p r (inr m) = absurd (omega (arith, count-most (size w) (reachedIn w (size w))))

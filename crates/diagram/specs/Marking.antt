@@ -7,6 +7,7 @@ use mathlib.Core.List.{List}
 use mathlib.Core.Logic.{_⊎_, _≢_}
 use lib.ListN.{length, getD, set}
 use lib.Dec.{eqb}
+use Rattle.diagram.specs.Limits.{maxNodes}
 use Rattle.diagram.specs.Diagram.{lowOf, highOf, size, root, Reach}
 use Rattle.diagram.specs.Verdict.{reaches}
 
@@ -39,7 +40,7 @@ pub record Working (w : List ℕ) (busy : ℕ) (r : List ℕ) (top : ℕ) : Type
   pub sound : (p : ℕ) → p < size w → Marked r p → Reach w (root w) p
   pub stacked : (k : ℕ) → k < top → (getD r (size w + k) 0 < size w) × Marked r (getD r (size w + k) 0)
   pub done : (p : ℕ) → 2 ≤ p → p < size w → p ≢ busy → Marked r p
-    → OnStack (size w) r top p ⊎ (Marked r (lowOf w p) × Marked r (highOf w p))
+      → OnStack (size w) r top p ⊎ (Marked r (lowOf w p) × Marked r (highOf w p))
 
 -- From one state of the search to a later one: marks stay, and so does what is left to do but for `spent` steps.
 pub record Onward (w : List ℕ) (spent : ℕ) (r : List ℕ) (top : ℕ) (r′ : List ℕ) (top′ : ℕ) : Type 0 where
@@ -49,3 +50,10 @@ pub record Onward (w : List ℕ) (spent : ℕ) (r : List ℕ) (top : ℕ) (r′ 
 -- The search has ended: exactly the reachable nodes have a mark.
 abbrev pub Marks : List ℕ → List ℕ → Type 0
 Marks w r = (p : ℕ) → p < size w → eqb (getD r p 0) 0 ≡ not (reaches w p)
+
+-- The lengths have been looked at: whole nodes, within the limit, and room for marks and stack.
+pub record Sized (w room : List ℕ) : Type 0 where
+  pub whole : length w ≡ 3 * size w
+  pub some : 0 < size w
+  pub few : size w ≤ maxNodes
+  pub fits : 2 * size w ≤ length room

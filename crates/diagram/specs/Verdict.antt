@@ -108,9 +108,12 @@ reaches w p = reachedIn w (size w) p
 unfoldable pub isAbove : List ℕ → ℕ → Bool
 isAbove w p = ltb (varOf w p) (varOf w (lowOf w p)) && ltb (varOf w p) (varOf w (highOf w p))
 
+unfoldable pub isBroken : List ℕ → ℕ → Bool
+isBroken w p = reaches w p && not (isAbove w p)
+
 unfoldable pub graphOf : List ℕ → Outcome
 graphOf w =
-    let broken = firstNode w (λ p. reaches w p && not (isAbove w p)) in
+    let broken = firstNode w (isBroken w) in
     let lost = firstNode w (λ p. not (reaches w p)) in
     row 11 (ltb broken (size w)) broken
     (row 12 (ltb lost (size w)) lost
@@ -123,16 +126,20 @@ contentsOf w = andThen (terminalsOf w) (andThen (rangesOf w) (graphOf w))
 unfoldable pub verdictOf : List ℕ → Output → ℕ → Outcome
 verdictOf w output room = andThen (lengthsOf w output room) (contentsOf w)
 
--- What is left in the working room: refusal 5 and those before it leave it as it was; those after it, and all
--- answers, leave the words that were asked for zero and the rest as it was.
+-- One thing where an outcome is an acceptance, another where it is a refusal.
+abbrev pub ifAccepted : {A : Type 0} → Outcome → A → A → A
+ifAccepted (accepted n v) yes-case no-case = yes-case
+ifAccepted (refused number place) yes-case no-case = no-case
+
+-- What is left in the working room: refusal 5 and those before it, the lengths, leave it as it was; those after it, and
+-- all answers, leave the words that were asked for zero and the rest as it was.
 abbrev pub cleared : List ℕ → List ℕ → List ℕ
 cleared w room = replicate (roomOf w) 0 ++ drop (roomOf w) room
 
-abbrev pub roomAfter : Outcome → List ℕ → List ℕ → List ℕ
-roomAfter (accepted n v) w room = cleared w room
-roomAfter (refused number place) w room = cond (leb number 5) room (cleared w room)
+abbrev pub roomAfter : List ℕ → Output → List ℕ → List ℕ
+roomAfter w output room = ifAccepted (lengthsOf w output (length room)) (cleared w room) room
 
 -- What every check promises: the verdict, and what is left in the room.
 pub record Checked (w : List ℕ) (output : Output) (before after : List ℕ) (r : Verdict) : Type 0 where
   pub verdict : said r ≡ verdictOf w output (length before)
-  pub left : after ≡ roomAfter (verdictOf w output (length before)) w before
+  pub left : after ≡ roomAfter w output before

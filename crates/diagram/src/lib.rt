@@ -1,6 +1,11 @@
 // Decision diagrams as 32-bit words: what they mean, and the check that any words can be offered to.
+pub mod lengths;
 pub mod limits;
 pub mod node;
+mod ranges;
 mod reach;
+pub mod refusal;
 pub mod room;
+mod terminals;
+pub mod validate;
 pub mod verdict;

@@ -43,7 +43,7 @@ loop-holds : tie.Need-loop-holds Inv-loop μ-loop
 loop-holds c =
     let a = c .before .before .before .before .before .before .before .before .before .before .args in
     let s = search-first (now (a .words)) (now (a .room)) (c .before .before .before .before .before .before .clear .last .0) (c .before .before .push .last .0) (a .nodes) (c .before .before .push .result)
-            (c .before .before .before .before .before .before .before .before .before .before .pre .0) (c .before .before .before .before .before .before .before .before .before .before .pre .1) (c .before .before .before .before .before .before .before .before .before .before .pre .2) (c .before .before .before .before .before .before .clear .ensures) (c .before .before .push .ensures .1) (c .before .before .push .ensures .0)
+    (c .before .before .before .before .before .before .before .before .before .before .pre .0) (c .before .before .before .before .before .before .before .before .before .before .pre .1) (c .before .before .before .before .before .before .before .before .before .before .pre .2) (c .before .before .before .before .before .before .clear .ensures) (c .before .before .push .ensures .1) (c .before .before .push .ensures .0)
     in
     (c .before .before .before .before .before .before .before .before .before .before .pre .0, c .before .before .before .before .before .before .before .before .before .before .pre .1, s .0, s .1, refl)
 
@@ -65,12 +65,12 @@ loop-less c = omega (arith, c .before .before .visit .ensures .1 .left)
 loop-again : tie.Need-loop-again Inv-loop μ-loop
 loop-again c =
     let inv = c .before .before .before .before .before .loop .inv in
-    let v = c .before .before .visit .ensures in
-    ( inv .0
-    , inv .1
-    , v .0
-    , v .1 .grown (root (now (c .before .before .before .before .before .before .before .before .before .before .before .before .before .before .before .before .args .words))) (omega (arith, inv .1 .some)) (inv .3)
-    , c .before .before .visit .kept .1 .0 ∙ inv .4
+    let v = c .before .before .visit .ensures in (
+      inv .0,
+      inv .1,
+      v .0,
+      v .1 .grown (root (now (c .before .before .before .before .before .before .before .before .before .before .before .before .before .before .before .before .args .words))) (omega (arith, inv .1 .some)) (inv .3),
+      c .before .before .visit .kept .1 .0 ∙ inv .4,
     )
 
 -- src/reach.rt:47:1

@@ -52,9 +52,9 @@ high-link-of-requires c κs = search needs
 -- src/reach.rt:43:5
 push-requires-2 : tie.Need-push-requires-2
 push-requires-2 c κs =
-    let a = c .before .before .before .before .before .before .before .before .before .before .before .before .before .args in
-    ( omega (arith, c .before .before .before .before .before .before .before .before .before .before .before .before .before .pre .1 .few, c .before .before .before .before .before .before .before .before .before .before .before .before .before .pre .0)
-    , omega (arith, c .before .before .before .before .before .before .before .before .before .before .before .before .before .pre .1 .few, c .before .before .before .before .before .before .before .before .before .before .before .before .before .pre .2 .space, c .before .before .before .before .push .ensures .0, push-most (now (a .room)) (a .below) (c .before .before .before .before .before .before .low-link-of .result .0))
+    let a = c .before .before .before .before .before .before .before .before .before .before .before .before .before .args in (
+      omega (arith, c .before .before .before .before .before .before .before .before .before .before .before .before .before .pre .1 .few, c .before .before .before .before .before .before .before .before .before .before .before .before .before .pre .0),
+      omega (arith, c .before .before .before .before .before .before .before .before .before .before .before .before .before .pre .1 .few, c .before .before .before .before .before .before .before .before .before .before .before .before .before .pre .2 .space, c .before .before .before .before .push .ensures .0, push-most (now (a .room)) (a .below) (c .before .before .before .before .before .before .low-link-of .result .0)),
     )
 
 -- src/reach.rt:32:1

@@ -41,11 +41,11 @@ loop-again : tie.Need-loop-again Inv-loop μ-loop
 loop-again c =
     let i = c .before .loop .i in
     let r₀ = now (c .before .before .before .before .args .room) in
-    let inv = c .before .loop .inv in
-    ( omega arith
-    , inv .1
-    , length-set (c .before .loop .room) i 0 ∙ inv .2
-    , ap (λ r. set r i 0) (inv .3) ∙ fill-more i 0 r₀ (omega arith)
+    let inv = c .before .loop .inv in (
+      omega arith,
+      inv .1,
+      length-set (c .before .loop .room) i 0 ∙ inv .2,
+      ap (λ r. set r i 0) (inv .3) ∙ fill-more i 0 r₀ (omega arith),
     )
 
 same-length : tie.Need-same-length Inv-loop μ-loop

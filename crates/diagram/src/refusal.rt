@@ -1,0 +1,35 @@
+// The numbers of refusal of document 01, each once.
+
+// No words.
+pub const NO_WORDS: u32 = 1;
+
+// The words are not a multiple of 3.
+pub const BROKEN_WORDS: u32 = 2;
+
+// Too many nodes.
+pub const TOO_MANY_NODES: u32 = 3;
+
+// The output is too short.
+pub const SHORT_OUTPUT: u32 = 4;
+
+// The working room is too short.
+pub const SHORT_ROOM: u32 = 5;
+
+// Node 0 or node 1 is no terminal of the variable count.
+pub const NO_TERMINAL: u32 = 6;
+
+// Too many variables.
+pub const TOO_MANY_VARIABLES: u32 = 7;
+
+// A node's variable, low link or high link is out of range.
+pub const BAD_VARIABLE: u32 = 8;
+
+pub const BAD_LOW_LINK: u32 = 9;
+
+pub const BAD_HIGH_LINK: u32 = 10;
+
+// A reachable node has a child that is not at a larger variable.
+pub const BROKEN_ORDER: u32 = 11;
+
+// A node is unreachable.
+pub const UNREACHABLE: u32 = 12;
