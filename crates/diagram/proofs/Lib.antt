@@ -2,6 +2,7 @@
 --     Words       words of a slice that a loop has passed
 --     Tests       by cases on a test
 --     Count       counting the numbers that pass a test; some number does; the first that does
+--     Reading     the path level by level
 --     Reaching    the test `reaches` says `Reach`
 --     Marking     the search for reachable nodes
 --     Breaks      the tests of check 11
@@ -10,6 +11,7 @@
 pub mod Words
 pub mod Tests
 pub mod Count
+pub mod Reading
 pub mod Reaching
 pub mod Marking
 pub mod Breaks

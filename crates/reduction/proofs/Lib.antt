@@ -1,0 +1,23 @@
+-- Laws of reduction.
+--     Store         nodes as words; look-up in a store, and stores that grow at the end
+--     Canon         building: it only adds, building again adds nothing, and only the function's values count
+--     Sound         stores that building keeps sound, in which the pointer stands for the function
+--     Reached       what is added is reached from the pointer, which is then the last node
+--     Graph         building a node of a diagram: the recursion that code follows
+--     Count         counting marks
+--     Fewest        the store has no more nodes than the diagram
+--     Canonical     what is promised of reduction
+--     Chains        look-up by chains of nodes with the same key
+--     Tables        the store's words and the memo as tables
+--     Bench         all tables together
+pub mod Store
+pub mod Canon
+pub mod Sound
+pub mod Reached
+pub mod Graph
+pub mod Count
+pub mod Fewest
+pub mod Canonical
+pub mod Chains
+pub mod Tables
+pub mod Bench

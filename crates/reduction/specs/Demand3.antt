@@ -1,0 +1,29 @@
+-- What is promised of reduction, of any ordered array and so of any accepted one (`demand3` of proofs/Canonical.antt).
+use Prim.Native.Nat.{ℕ, _≤_, _<_}
+use mathlib.Core.Path.{_≡_}
+use mathlib.Core.Logic.{_↔_, _≢_}
+use mathlib.Core.Bool.{Bool}
+use mathlib.Core.List.{List}
+use lib.ListN.{length}
+use Rattle.diagram.specs.Diagram.{varOf, lowOf, highOf, size, vars, holds, Ordered, Accepted}
+use Rattle.reduction.specs.Reduce.{reduce}
+
+-- Two arrays hold for the same valuations of v variables.
+abbrev pub Agree : ℕ → List ℕ → List ℕ → Type 0
+Agree v a b = (bs : List Bool) → length bs ≡ v → holds a bs ≡ holds b bs
+
+pub record Demand3 : Type 0 where
+  -- the reduced diagram is over the same variables and holds for the same valuations
+  pub variables : (w : List ℕ) → Ordered w → vars (reduce w) ≡ vars w
+  pub function : (w : List ℕ) → Ordered w → Agree (vars w) (reduce w) w
+  -- two arrays over the same variables reduce to the same words exactly when they hold for the same valuations
+  pub canonical : (a b : List ℕ) → Ordered a → Ordered b → vars a ≡ vars b → (reduce a ≡ reduce b) ↔ Agree (vars a) a b
+  -- reducing again changes no word
+  pub again : (w : List ℕ) → Ordered w → reduce (reduce w) ≡ reduce w
+  -- it is accepted, so all of it is reached; no node has low = high, and no two nodes are equal
+  pub accepted : (w : List ℕ) → Ordered w → Accepted (reduce w)
+  pub lean : (w : List ℕ) → Ordered w → (p : ℕ) → 2 ≤ p → p < size (reduce w) → lowOf (reduce w) p ≢ highOf (reduce w) p
+  pub distinct : (w : List ℕ) → Ordered w → (p q : ℕ) → p < size (reduce w) → q < size (reduce w)
+      → varOf (reduce w) p ≡ varOf (reduce w) q → lowOf (reduce w) p ≡ lowOf (reduce w) q → highOf (reduce w) p ≡ highOf (reduce w) q → p ≡ q
+  -- no array over the same variables that holds for the same valuations has fewer nodes
+  pub fewest : (w a : List ℕ) → Ordered w → Ordered a → vars a ≡ vars w → Agree (vars w) a w → size (reduce w) ≤ size a

@@ -1,0 +1,1 @@
+// Reduction: the diagram with the fewest nodes that stands for the same function.
