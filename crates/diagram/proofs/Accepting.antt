@@ -21,7 +21,7 @@ never : (n v k p : ℕ) → refused k p ≡ accepted n v → ⊥
 never n v k p e = let z : _≡_ {A = ℕ} 0 1 = cc in omega arith
 
 -- a row that accepts: its test failed, and the rows below accept
-row-passed : (k : ℕ) (t : Bool) (p : ℕ) (below : Outcome) (n v : ℕ) → row k t p below ≡ accepted n v → (t ≡ false) × (below ≡ accepted n v)
+pub row-passed : (k : ℕ) (t : Bool) (p : ℕ) (below : Outcome) (n v : ℕ) → row k t p below ≡ accepted n v → (t ≡ false) × (below ≡ accepted n v)
 unfolding row
 row-passed k true p below n v e = absurd (never n v k p e)
 row-passed k false p below n v e = (refl, e)
@@ -48,6 +48,14 @@ lengths-accepted w o room n v e =
     let d = ltb-false room (roomOf w) (r₅ .0) in
     let same : accepted (size w) (vars w) ≡ accepted n v = r₅ .1 in
     record { nodes = cc; whole = omega arith; some = omega arith; few = c; fits = d }
+
+pub lent-accepted : (w : List ℕ) (o : Output) (room n v : ℕ) → lengthsOf w o room ≡ accepted n v → short w o ≡ false
+unfolding lengthsOf
+lent-accepted w o room n v e =
+    let r₁ = row-passed 1 (eqb (length w) 0) 0 _ n v e in
+    let r₂ = row-passed 2 (not (eqb (length w % 3) 0)) 0 _ n v (r₁ .1) in
+    let r₃ = row-passed 3 (ltb maxNodes (size w)) 0 _ n v (r₂ .1) in
+    row-passed 4 (short w o) 0 _ n v (r₃ .1) .0
 
 -- what the terminals tell
 terminal-told : (w : List ℕ) (p : ℕ) → isTerminal w p ≡ true → Terminal w p

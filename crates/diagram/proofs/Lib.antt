@@ -8,6 +8,7 @@
 --     Breaks      the tests of check 11
 --     Rows        the returns of the checks are the rows of the verdict
 --     Accepting   what an acceptance tells
+--     Meaning     the verdict in document 01's words
 pub mod Words
 pub mod Tests
 pub mod Count
@@ -17,3 +18,4 @@ pub mod Marking
 pub mod Breaks
 pub mod Rows
 pub mod Accepting
+pub mod Meaning
