@@ -48,7 +48,7 @@ fn block(from: usize, to: usize, x: u32) -> Natural {
     Natural { words }
 }
 
-// 2 ^ (16 * WORDS) + 1, which makes the largest number there is with that less 2.
+// 2 ^ (16 * WORDS) + 1: its product with 2 ^ (16 * WORDS) - 1, which is another sample, is the largest number that fits.
 fn half_and_one() -> Natural {
     let mut words = [0u32; WORDS];
     words[0] = 1;
