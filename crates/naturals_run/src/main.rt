@@ -1,5 +1,5 @@
 // Runs every function of `naturals` over fixed cases and writes one line for each, in hex. The expected output was computed apart from this
-// code, with whole numbers of any size and the same cases: a sum, a difference, a product, a shift, and whether each is below 2 ^ (32 * WORDS).
+// code by tests/naturals_cases.py, with whole numbers of any size.
 use libc::STDOUT_FILENO;
 use naturals::Fit;
 use naturals::Natural;
