@@ -4,7 +4,6 @@ use diagram::lengths::most;
 use diagram::node::BddPointer;
 use diagram::node::word;
 use diagram::room::clear;
-use diagram::room::least;
 use diagram::room::put;
 ghost use mathlib.Core.Path.{_≡_};
 ghost use Prim.Native.Nat.{_+_, _*_, _≤_};

@@ -36,14 +36,8 @@ pub(crate) fn build(
     }
     let low = build(words, room, most, count, low_link_of(words, node));
     let high = build(words, room, most, low.count, high_link_of(words, node));
-    let made = join(
-        room,
-        most,
-        high.count,
-        var_of(words, node),
-        low.pointer,
-        high.pointer,
-    );
+    let var = var_of(words, node);
+    let made = join(room, most, high.count, var, low.pointer, high.pointer);
     put(room, at, made.pointer.0 + 1);
     made
 }

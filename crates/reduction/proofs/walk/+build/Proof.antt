@@ -50,8 +50,8 @@ build-to-index-requires t c κs = search needs
 build-word-requires : (t : ℕ) → build-lts.Need-word-requires (known t) (build-at t) build.Post
 build-word-requires t c κs = search needs
 
-build-sub-t15 : (t : ℕ) → build-lts.Need-sub-t15 (known t) (build-at t) build.Post
-build-sub-t15 t c = search needs
+build-sub-t16 : (t : ℕ) → build-lts.Need-sub-t16 (known t) (build-at t) build.Post
+build-sub-t16 t c = search needs
 
 build-same-length : (t : ℕ) → build-lts.Need-same-length (known t) (build-at t) build.Post
 build-same-length t c = search needs
@@ -96,7 +96,7 @@ build-add-put : (t : ℕ) → build-lts.Need-add-put (known t) (build-at t) buil
 build-add-put t c =
     let a = (c .before .before .before .before .before .before .before .before .before .before .before .before .before .before .before .before .before .before .before .before .before .before .before .before .before) .args in
     let two = ltb-false (a .node .0) 2 (sym ((c .before .before .before .before .before .before .before .before .before .before .before .before .before .before .before .before .before .before .before .before .before .before .is-terminal) .ensures) ∙ (c .before .before .before .before .before .before .before .before .before .before .before .before .before .before .before .before .before .before .before .before .before .if1) .left) in
-    omega (arith, walk-few (now (a .words)) (a .most) (now (a .room)) (a .count) (a .node .0) ((c .before .before .before .before .before .before .before .before .before .before .before .before .before .before .before .before .before .before .before .before .before .before .before .before .before) .pre .1), walk-small (now (a .words)) (a .most) (now (a .room)) (a .count) (a .node .0) ((c .before .before .before .before .before .before .before .before .before .before .before .before .before .before .before .before .before .before .before .before .before .before .before .before .before) .pre .1) two ((c .before .before .before .before .before .before .before .before .before .before .before .before .before .before .before .low-link-of) .result .0) ((c .before .before .before .before .before .before .before .before .before .before .before .before .before .before .before .low-link-of) .ensures) ((c .before .before .before .before .before .before .before .before .before .before .before .before .before .before .build) .last .1 .0) ((c .before .before .before .before .before .before .before .before .before .before .before .before .before .before .build) .result .pointer .0) ((c .before .before .before .before .before .before .before .before .before .before .before .before .before .before .build) .result .count) ((c .before .before .before .before .before .before .before .before .before .before .before .before .before .before .build) .ensures) ((c .before .before .before .before .before .before .before .before .before .before .high-link-of) .result .0) ((c .before .before .before .before .before .before .before .before .before .before .high-link-of) .ensures) ((c .before .before .before .before .before .before .before .before .before .build2) .last .1 .0) ((c .before .before .before .before .before .before .before .before .before .build2) .result .pointer .0) ((c .before .before .before .before .before .before .before .before .before .build2) .result .count) ((c .before .before .before .before .before .before .before .before .before .build2) .ensures) ((c .before .before .before .before .before .var-of) .result .0) ((c .before .before .before .before .before .var-of) .ensures) ((c .before .before .before .before .join) .last .0) ((c .before .before .before .before .join) .result .pointer .0) ((c .before .before .before .before .join) .result .count) ((c .before .before .before .before .join) .ensures))
+    omega (arith, walk-few (now (a .words)) (a .most) (now (a .room)) (a .count) (a .node .0) ((c .before .before .before .before .before .before .before .before .before .before .before .before .before .before .before .before .before .before .before .before .before .before .before .before .before) .pre .1), walk-small (now (a .words)) (a .most) (now (a .room)) (a .count) (a .node .0) ((c .before .before .before .before .before .before .before .before .before .before .before .before .before .before .before .before .before .before .before .before .before .before .before .before .before) .pre .1) two ((c .before .before .before .before .before .before .before .before .before .before .before .before .before .before .before .low-link-of) .result .0) ((c .before .before .before .before .before .before .before .before .before .before .before .before .before .before .before .low-link-of) .ensures) ((c .before .before .before .before .before .before .before .before .before .before .before .before .before .before .build) .last .1 .0) ((c .before .before .before .before .before .before .before .before .before .before .before .before .before .before .build) .result .pointer .0) ((c .before .before .before .before .before .before .before .before .before .before .before .before .before .before .build) .result .count) ((c .before .before .before .before .before .before .before .before .before .before .before .before .before .before .build) .ensures) ((c .before .before .before .before .before .before .before .before .before .before .high-link-of) .result .0) ((c .before .before .before .before .before .before .before .before .before .before .high-link-of) .ensures) ((c .before .before .before .before .before .before .before .before .before .build2) .last .1 .0) ((c .before .before .before .before .before .before .before .before .before .build2) .result .pointer .0) ((c .before .before .before .before .before .before .before .before .before .build2) .result .count) ((c .before .before .before .before .before .before .before .before .before .build2) .ensures) ((c .before .before .before .before .before .before .var-of) .result .0) ((c .before .before .before .before .before .before .var-of) .ensures) ((c .before .before .before .before .join) .last .0) ((c .before .before .before .before .join) .result .pointer .0) ((c .before .before .before .before .join) .result .count) ((c .before .before .before .before .join) .ensures))
 
 build-put-requires : (t : ℕ) → build-lts.Need-put-requires (known t) (build-at t) build.Post
 build-put-requires t c κs = search needs
@@ -108,7 +108,7 @@ build-returns-3 : (t : ℕ) → build-lts.Need-returns-3 (known t) (build-at t) 
 build-returns-3 t c =
     let a = (c .before .before .before .before .before .before .before .before .before .before .before .before .before .before .before .before .before .before .before .before .before .before .before .before .before .before .before .before) .args in
     let two = ltb-false (a .node .0) 2 (sym ((c .before .before .before .before .before .before .before .before .before .before .before .before .before .before .before .before .before .before .before .before .before .before .before .before .before .is-terminal) .ensures) ∙ (c .before .before .before .before .before .before .before .before .before .before .before .before .before .before .before .before .before .before .before .before .before .before .before .before .if1) .left) in
-    walk-node (now (a .words)) (a .most) (now (a .room)) (a .count) (a .node .0) ((c .before .before .before .before .before .before .before .before .before .before .before .before .before .before .before .before .before .before .before .before .before .before .before .before .before .before .before .before) .pre .1) two ((c .before .before .before .before .before .before .before .before .before .before .before .before .before .before .before .before .before .before .low-link-of) .result .0) ((c .before .before .before .before .before .before .before .before .before .before .before .before .before .before .before .before .before .before .low-link-of) .ensures) ((c .before .before .before .before .before .before .before .before .before .before .before .before .before .before .before .before .before .build) .last .1 .0) ((c .before .before .before .before .before .before .before .before .before .before .before .before .before .before .before .before .before .build) .result .pointer .0) ((c .before .before .before .before .before .before .before .before .before .before .before .before .before .before .before .before .before .build) .result .count) ((c .before .before .before .before .before .before .before .before .before .before .before .before .before .before .before .before .before .build) .ensures) ((c .before .before .before .before .before .before .before .before .before .before .before .before .before .high-link-of) .result .0) ((c .before .before .before .before .before .before .before .before .before .before .before .before .before .high-link-of) .ensures) ((c .before .before .before .before .before .before .before .before .before .before .before .before .build2) .last .1 .0) ((c .before .before .before .before .before .before .before .before .before .before .before .before .build2) .result .pointer .0) ((c .before .before .before .before .before .before .before .before .before .before .before .before .build2) .result .count) ((c .before .before .before .before .before .before .before .before .before .before .before .before .build2) .ensures) ((c .before .before .before .before .before .before .before .before .var-of) .result .0) ((c .before .before .before .before .before .before .before .before .var-of) .ensures) ((c .before .before .before .before .before .before .before .join) .last .0) ((c .before .before .before .before .before .before .before .join) .result .pointer .0) ((c .before .before .before .before .before .before .before .join) .result .count) ((c .before .before .before .before .before .before .before .join) .ensures) ((c .before .before .put) .last .0) ((c .before .before .put) .ensures ∙ ap (λ (p : ℕ). set ((c .before .before .before .before .before .before .before .join) .last .0) p ((c .before .before .before .before .before .before .before .join) .result .pointer .0 + 1)) ((c .before .before .before .before .before .before .before .before .before .before .before .before .before .before .before .before .before .before .before .before .before .before .before .to-index) .ensures))
+    walk-node (now (a .words)) (a .most) (now (a .room)) (a .count) (a .node .0) ((c .before .before .before .before .before .before .before .before .before .before .before .before .before .before .before .before .before .before .before .before .before .before .before .before .before .before .before .before) .pre .1) two ((c .before .before .before .before .before .before .before .before .before .before .before .before .before .before .before .before .before .before .low-link-of) .result .0) ((c .before .before .before .before .before .before .before .before .before .before .before .before .before .before .before .before .before .before .low-link-of) .ensures) ((c .before .before .before .before .before .before .before .before .before .before .before .before .before .before .before .before .before .build) .last .1 .0) ((c .before .before .before .before .before .before .before .before .before .before .before .before .before .before .before .before .before .build) .result .pointer .0) ((c .before .before .before .before .before .before .before .before .before .before .before .before .before .before .before .before .before .build) .result .count) ((c .before .before .before .before .before .before .before .before .before .before .before .before .before .before .before .before .before .build) .ensures) ((c .before .before .before .before .before .before .before .before .before .before .before .before .before .high-link-of) .result .0) ((c .before .before .before .before .before .before .before .before .before .before .before .before .before .high-link-of) .ensures) ((c .before .before .before .before .before .before .before .before .before .before .before .before .build2) .last .1 .0) ((c .before .before .before .before .before .before .before .before .before .before .before .before .build2) .result .pointer .0) ((c .before .before .before .before .before .before .before .before .before .before .before .before .build2) .result .count) ((c .before .before .before .before .before .before .before .before .before .before .before .before .build2) .ensures) ((c .before .before .before .before .before .before .before .before .before .var-of) .result .0) ((c .before .before .before .before .before .before .before .before .before .var-of) .ensures) ((c .before .before .before .before .before .before .before .join) .last .0) ((c .before .before .before .before .before .before .before .join) .result .pointer .0) ((c .before .before .before .before .before .before .before .join) .result .count) ((c .before .before .before .before .before .before .before .join) .ensures) ((c .before .before .put) .last .0) ((c .before .before .put) .ensures ∙ ap (λ (p : ℕ). set ((c .before .before .before .before .before .before .before .join) .last .0) p ((c .before .before .before .before .before .before .before .join) .result .pointer .0 + 1)) ((c .before .before .before .before .before .before .before .before .before .before .before .before .before .before .before .before .before .before .before .before .before .before .before .to-index) .ensures))
 
 pub +build-spec : {M : Type 1} → statement M
 +build-spec = close μ-build λ t. build-lts.spec (known t)
@@ -118,7 +118,7 @@ pub +build-spec : {M : Type 1} → statement M
     (build-returns t)
     (build-to-index-requires t)
     (build-word-requires t)
-    (build-sub-t15 t)
+    (build-sub-t16 t)
     (build-same-length t)
     (build-returns-2 t)
     (build-low-link-of-requires t)
