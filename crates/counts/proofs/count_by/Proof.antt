@@ -1,3 +1,8 @@
+use denote.Ref.{now}
+use mathlib.Core.Path.{refl, sym, _∙_, ap}
+use lib.Seq.{length-take-le}
+use Prim.Native.Nat.{_*_}
+use Rattle.counts.proofs.Answers.{count-refused, count-nodes, count-fits, count-asks, count-accepted}
 use native.Mathlib.Omega.{arith}
 use borrow.Author.Needs.{needs}
 use Rattle.counts.proofs.count_by.Statement.{statement}
@@ -30,23 +35,24 @@ same-length c = search needs
 
 -- src/lib.rt:29:9
 returns : tie.Need-returns
-returns c = ?
+returns c = count-refused (c .before .before .before .before .before .admit .ensures) (c .before .enum-told .given .1) _ (c .zero .ensures)
 
 -- src/lib.rt:34:16
 mul-used : tie.Need-mul-used
-mul-used c = search needs
+mul-used c = omega (arith, count-nodes (c .before .before .before .before .before .admit .ensures) (c .before .verdict .given .1) .1)
 
 -- src/lib.rt:35:30
 slice-relend-prefix-total : tie.Need-slice-relend-prefix-total
-slice-relend-prefix-total c = search needs
+slice-relend-prefix-total c = count-fits (c .before .before .before .before .before .admit .ensures) (c .before .verdict .given .1)
 
 -- src/lib.rt:35:30
 slice-aggregate-total : tie.Need-slice-aggregate-total
-slice-aggregate-total c = search needs
+slice-aggregate-total c =
+    sym (length-take-le (9 * c .before .before .verdict .given .0 .0) (c .before .before .before .before .before .before .admit .last .1 .0) (count-fits (c .before .before .before .before .before .before .admit .ensures) (c .before .before .verdict .given .1)))
 
 -- src/lib.rt:35:9
 total-requires : tie.Need-total-requires
-total-requires c κs = search needs
+total-requires c κs = count-asks (c .before .before .before .before .before .before .admit .ensures) (c .before .before .verdict .given .1)
 
 -- src/lib.rt:24:1
 same-length-2 : tie.Need-same-length-2
@@ -54,7 +60,8 @@ same-length-2 c = search needs
 
 -- src/lib.rt:24:1
 returns-2 : tie.Need-returns-2
-returns-2 c = ?
+returns-2 c =
+    count-accepted (c .before .before .before .before .before .before .before .before .before .admit .ensures) (c .before .before .before .before .before .verdict .given .1) _ (c .before .before .total .ensures .0) (c .before .before .total .ensures .1)
 
 pub count-by-spec : {M : Type 1} → statement M
 count-by-spec =

@@ -1,3 +1,7 @@
+use denote.Ref.{now}
+use mathlib.Core.Path.{refl, sym, _∙_, ap}
+use Rattle.counts.proofs.Answers.{count-as}
+use Rattle.counts.proofs.Nodes.{total-valuations}
 use native.Mathlib.Omega.{arith}
 use borrow.Author.Needs.{needs}
 use Rattle.counts.proofs.exact_cardinality.Statement.{statement}
@@ -16,7 +20,7 @@ same-length c = search needs
 
 -- src/lib.rt:40:1
 returns : tie.Need-returns
-returns c = ?
+returns c = count-as _ _ (total-valuations (now (c .before .before .before .before .before .before .args .words))) (c .before .before .count-by .ensures)
 
 pub exact-cardinality-spec : {M : Type 1} → statement M
 exact-cardinality-spec = tie.close (tie.spec count-by-requires same-length returns)

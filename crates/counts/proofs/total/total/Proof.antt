@@ -1,3 +1,7 @@
+use denote.Ref.{now}
+use mathlib.Core.Path.{refl, sym, _∙_, ap}
+use Rattle.counts.proofs.Steps.{total-walks, total-done}
+use Rattle.diagram.proofs.Words.{zeros-whole}
 use native.Mathlib.Omega.{arith}
 use borrow.Author.Needs.{needs}
 use Rattle.counts.proofs.total.total.Statement.{statement}
@@ -20,7 +24,8 @@ cast-shift-left c = search needs
 
 -- src/total.rt:22:9
 worth-requires : tie.Need-worth-requires
-worth-requires c κs = search needs
+worth-requires c κs =
+    total-walks (c .before .before .before .args .valuations) (now (c .before .before .before .args .words)) (now (c .before .before .before .args .room)) (c .before .before .before .args .nodes) (c .before .before .before .pre .0) (c .before .before .before .pre .1) (c .before .before .before .pre .2)
 
 -- src/total.rt:23:9
 var-of-requires : tie.Need-var-of-requires
@@ -44,7 +49,8 @@ same-length c = search needs
 
 -- src/total.rt:17:1
 returns : tie.Need-returns
-returns c = ?
+returns c =
+    (total-done (c .before .before .before .before .before .before .before .before .before .before .before .before .before .before .args .valuations) (now (c .before .before .before .before .before .before .before .before .before .before .before .before .before .before .args .words)) (now (c .before .before .before .before .before .before .before .before .before .before .before .before .before .before .args .room)) (c .before .before .before .before .before .before .before .before .before .before .before .before .before .before .args .nodes) (c .before .before .before .before .before .before .before .before .before .before .before .before .before .before .pre .0) (c .before .before .before .before .before .before .before .before .before .before .before .before .before .before .pre .1) (c .before .before .before .before .before .before .before .before .before .before .worth .ensures) (c .before .before .before .before .before .before .before .var-of .result .0) (c .before .before .before .before .before .before .doublings .result) (c .before .before .before .before .before .before .before .var-of .ensures) (c .before .before .before .before .before .before .doublings .ensures) (c .before .before .before .before .before .shift-left .ensures), c .before .before .before .clear .ensures ∙ zeros-whole (c .before .before .before .before .before .before .before .before .before .before .worth .last .1 .0) (now (c .before .before .before .before .before .before .before .before .before .before .before .before .before .before .args .room)) (c .before .before .before .before .before .before .before .before .before .before .worth .kept .1 .0))
 
 pub total-spec : {M : Type 1} → statement M
 total-spec =
