@@ -15,7 +15,7 @@ use Rattle.diagram.proofs.Meaning.{verdict-accepted}
 use Rattle.diagram.proofs.Reading.{accepted-ordered}
 use Rattle.counts.specs.Counted.{Counts}
 use Rattle.counts.specs.Worth.{entry}
-use Rattle.counts.proofs.Entering.{when-refused, when-accepted, admitted, ordered, still-checked, lent-fits, lent-zero, lent-back, checked-as}
+use Rattle.diagram.proofs.Entering.{when-refused, when-accepted, admitted, ordered, still-checked, lent-fits, lent-zero, lent-back, checked-as}
 
 module _ {w before after : List ℕ} {v : Verdict} (c : Checked w Nothing before after v) where
   pub count-refused : {k p : ℕ} → v ≡ No k p → (n : ℕ) {count : List ℕ} → Holds 0 count → Counts w n before after v count

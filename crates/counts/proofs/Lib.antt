@@ -3,11 +3,9 @@
 --     Nodes       a node's worth from its children's, for valuations and for paths
 --     Noting      the worths noted in the working room
 --     Steps       what each step of the walk over the nodes gives
---     Entering    what the check that every operation begins with tells
 --     Answers     what the public functions answer
 pub mod Tally
 pub mod Nodes
 pub mod Noting
 pub mod Steps
-pub mod Entering
 pub mod Answers

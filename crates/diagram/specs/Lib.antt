@@ -1,7 +1,7 @@
 -- What a reader must believe of diagrams and of their check.
 --     Limits      the numbers of document 01
 --     Diagram     words as nodes, valuations, paths, holds; reached, ordered, accepted
---     Valuations  counting valuations
+--     Valuations  counting valuations; the nodes that a path meets
 --     Reading     the same path level by level, for proofs
 --     Verdict     the numbers of refusal, in the order in which the checks run
 -- and, for the code inside, which no promise to a caller names:

@@ -88,14 +88,14 @@ pub(crate) fn first_broken(words: &[u32], room: &[u32], nodes: usize) -> usize
     requires { ⌜ (nodes ≡ size (now words)) × (nodes ≤ maxNodes) × Marks (now words) (now room) ⌝ }
     ensures { λ r. ⌜ r ≡ firstNode (now (words .entry)) (isBroken (now (words .entry))) ⌝ }
 {
-    let mut p = 2;
-    while p < nodes {
-        if is_broken(words, room, p) {
-            return p;
+    let mut node = 2;
+    while node < nodes {
+        if is_broken(words, room, node) {
+            return node;
         }
-        p += 1;
+        node += 1;
     }
-    p
+    node
 }
 
 // The smallest non-terminal without a mark; past the nodes where there is none.

@@ -1,5 +1,5 @@
 // Runs every function of `naturals` over fixed cases and writes one line for each, in hex. The expected output was computed apart from this
-// code, with whole numbers of any size and the same cases: a sum, a difference, a product, a shift, and whether each is below 2 ^ (32 * WORDS).
+// code by tests/naturals_cases.py, with whole numbers of any size.
 use libc::STDOUT_FILENO;
 use naturals::Fit;
 use naturals::Natural;
@@ -48,7 +48,7 @@ fn block(from: usize, to: usize, x: u32) -> Natural {
     Natural { words }
 }
 
-// 2 ^ (16 * WORDS) + 1, which makes the largest number there is with that less 2.
+// 2 ^ (16 * WORDS) + 1: its product with 2 ^ (16 * WORDS) - 1, which is another sample, is the largest number that fits.
 fn half_and_one() -> Natural {
     let mut words = [0u32; WORDS];
     words[0] = 1;

@@ -1,0 +1,129 @@
+"""Writes crates/diagram_run/stdin and stdout: the cases of the check, and what document 01 says of each."""
+import os
+import random
+
+from reading import ROOM, most, room_after, verdict
+
+HERE = os.path.dirname(os.path.abspath(__file__))
+FOLDER = os.path.join(HERE, '..', 'crates', 'diagram_run')
+D = [3, 0, 0, 3, 1, 1, 2, 0, 1, 1, 2, 1, 0, 2, 3]
+
+
+def terminals(v):
+    return [v, 0, 0, v, 1, 1]
+
+
+def layered(rng, n, v, order='random'):
+    """An accepted array of n nodes: each but the root is the child of an earlier one, then the nodes are put in order."""
+    if n <= 2:
+        return terminals(v)[:3 * n]
+    made = [[0, None, None]]
+    free = [(0, 1), (0, 2)]
+    while len(made) < n - 2:
+        spots = [i for i, (q, _) in enumerate(free) if made[q][0] < v - 1]
+        if not spots:
+            break                                       # as many nodes as fit under so few variables
+        q, k = free.pop(rng.choice(spots[-64:]))
+        left = v - 1 - made[q][0]
+        made[q][k] = len(made)
+        made.append([made[q][0] + 1 + (0 if n > 20 * left else rng.randrange(min(left, 3))), None, None])
+        free += [(len(made) - 1, 1), (len(made) - 1, 2)]
+    for q, k in free:
+        later = [i for i in range(q + 1, min(len(made), q + 40)) if made[i][0] > made[q][0]]
+        made[q][k] = rng.choice(later) if later and rng.random() < 0.7 else ('T', rng.randrange(2))
+    place = list(range(2, len(made) + 2))
+    if order == 'children first':
+        place = [len(made) + 1 - i for i in range(len(made))]
+    elif order == 'children last':
+        place = [len(made) + 1] + [1 + i for i in range(1, len(made))]
+    else:
+        rest = list(range(2, len(made) + 1))
+        rng.shuffle(rest)
+        place = [len(made) + 1] + rest
+    out = [None] * (len(made) + 2)
+    out[0], out[1] = (v, 0, 0), (v, 1, 1)
+    for i, (x, low, high) in enumerate(made):
+        link = [c[1] if isinstance(c, tuple) else place[c] for c in (low, high)]
+        out[place[i]] = (x, link[0], link[1])
+    return [w for node in out for w in node]
+
+
+def cases():
+    """(words, room length, word of the room before)"""
+    rng = random.Random(1986)
+
+    def exact(words, more=0):
+        return words, ROOM * most(len(words) // 3) + more, 7
+
+    yield exact(D)
+    yield exact(D, 3)                                   # a longer room keeps its rest
+    yield D, ROOM * 5 - 1, 7                            # a room one word short
+    yield exact([255, 0, 0])                            # 255 variables and 256
+    yield exact([256, 0, 0])
+    yield exact(terminals(255))
+    yield exact(terminals(256))
+    yield [], 128, 7                                    # 1
+    yield [], 0, 7
+    for k in (1, 2, 4, 5, 13, 14, 16):                  # 2
+        yield exact([3] * k)
+    yield [9] * 12291, 0, 7                             # 3 comes before 5
+    yield exact(layered(rng, 4096, 255))                # 4,096 nodes and 4,097
+    yield layered(rng, 4096, 255) + [0, 0, 1], 262208, 7
+    yield exact([0, 0, 1])                              # 6
+    yield exact([1, 0, 0, 0, 1, 1])
+    yield exact([0, 0, 0, 0, 0, 0])
+    yield exact([256, 0, 0, 255, 1, 1])
+    yield exact([256, 0, 1])
+    yield exact([256, 0, 0, 256, 1, 0])                 # 6 comes before 7
+    yield exact([3, 0, 0, 3, 1, 1, 3, 0, 1])            # 8, 9, 10, each with a later fault beside it
+    yield exact([3, 0, 0, 3, 1, 1, 3, 9, 9])
+    yield exact([3, 0, 0, 3, 1, 1, 2, 3, 1])
+    yield exact([3, 0, 0, 3, 1, 1, 2, 3, 3])
+    yield exact([3, 0, 0, 3, 1, 1, 2, 0, 3])
+    yield exact([3, 0, 0, 3, 1, 1, 2, 0, 3, 9, 9, 9])
+    yield exact([3, 0, 0, 3, 1, 1, 2, 0, 1, 9, 9, 9])
+    yield exact([1, 0, 0, 1, 1, 1, 0, 2, 0, 0, 2, 1])   # 11 through another violator
+    yield exact([1, 0, 0, 1, 1, 1, 0, 2, 2, 0, 0, 1])   # an unreachable violator is 12
+    yield exact([1, 0, 0, 1, 1, 1, 0, 0, 1, 0, 3, 1])   # 11 before a 12 at a smaller node
+    yield exact([1, 0, 0, 1, 1, 1, 0, 2, 1])            # self-linked
+    yield exact([2, 0, 0, 2, 1, 1, 0, 3, 1, 1, 2, 0])   # a cycle
+    yield exact([3, 0, 0, 3, 1, 1, 1, 3, 0, 1, 4, 0, 1, 2, 0, 0, 2, 1])
+    yield exact([2, 0, 0, 2, 1, 1, 1, 0, 1, 1, 0, 1])   # 12
+    yield exact([2, 0, 0, 2, 1, 1, 1, 0, 1, 1, 1, 0, 0, 3, 1])
+    yield exact([0, 0, 0])
+    yield exact(terminals(0))
+    yield [0, 0, 0], 127, 7                             # one node asks for the room of two
+    yield [0, 0, 0], 128, 7
+    yield [0, 0, 0], 130, 7
+    yield exact([1, 0, 0, 1, 1, 1, 0, 1, 1])            # low = high is accepted, and so are equal nodes
+    yield exact([2, 0, 0, 2, 1, 1, 1, 0, 1, 1, 0, 1, 0, 2, 3])
+    for order in ('children first', 'children last', 'random'):
+        for n in (3, 10, 60, 300):
+            yield exact(layered(rng, n, 200, order))
+    for _ in range(300):                                # damaged: one word of an accepted array changed
+        n = rng.choice((3, 4, 5, 6, 8, 12))
+        words = layered(rng, n, rng.choice((4, 9)), rng.choice(('children first', 'children last', 'random')))
+        words[rng.randrange(len(words))] = rng.choice((0, 1, 2, 3, n - 1, n, 255, 4294967295))
+        if rng.random() < 0.1:
+            words = words[:-1]
+        yield words, ROOM * most(len(words) // 3) + rng.choice((-1, 0, 0, 0, 2)), 7
+    for _ in range(300):                                # any links at all, in range
+        n = rng.choice((3, 4, 5, 6, 7))
+        v = rng.choice((1, 2, 3, 5))
+        words = terminals(v) + [x for _ in range(n - 2) for x in (rng.randrange(v), rng.randrange(n), rng.randrange(n))]
+        yield exact(words, rng.choice((0, 1)))
+
+
+def main():
+    lines, answers = [], []
+    for words, room, word in cases():
+        kind, a, b = verdict(words, room)
+        said = f'accepted nodes {a} vars {b}' if kind == 'accepted' else f'refused {a} at {b}'
+        zero = room_after(words, room)
+        lines.append(' '.join(str(x) for x in [room, word] + words) + '\n')
+        answers.append(f'{said}, room zero {zero} kept {room - zero}\n')
+    open(os.path.join(FOLDER, 'stdin'), 'w').writelines(lines)
+    open(os.path.join(FOLDER, 'stdout'), 'w').writelines(answers)
+
+
+main()
