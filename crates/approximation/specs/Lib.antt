@@ -1,0 +1,9 @@
+-- What a reader must believe of cuts.
+--     Negation   a diagram with links 0 and 1 exchanged
+--     Cut        cutting by a list, and what refuses a list
+--     Search     priorities, and cutting to a size or to a count
+--     Nights     the examples of document 01
+pub mod Negation
+pub mod Cut
+pub mod Search
+pub mod Nights
