@@ -34,13 +34,13 @@ pass-stays : (w : List ℕ) (i p : ℕ) (b : Bool) → (varOf w p ≡ i → ⊥)
 unfolding pass tests
 pass-stays w i p b ne = simp (ne-eqb (varOf w p) i ne, and-false)
 
-abbrev sentTo : (ℕ → Bool) → ℕ → ℕ → ℕ
+abbrev pub sentTo : (ℕ → Bool) → ℕ → ℕ → ℕ
 sentTo m t q = cond (m q) t q
 
-sent-marked : (m : ℕ → Bool) (t q : ℕ) → m q ≡ true → sentTo m t q ≡ t
+pub sent-marked : (m : ℕ → Bool) (t q : ℕ) → m q ≡ true → sentTo m t q ≡ t
 sent-marked m t q e = rw e refl
 
-sent-other : (m : ℕ → Bool) (t q : ℕ) → m q ≡ false → sentTo m t q ≡ q
+pub sent-other : (m : ℕ → Bool) (t q : ℕ) → m q ≡ false → sentTo m t q ≡ q
 sent-other m t q e = rw e refl
 
 -- ---- cutting as sending links
