@@ -1,9 +1,11 @@
 -- Laws of cuts.
 --     Relink     links sent elsewhere
+--     Negation   the negation holds exactly where the diagram does not
 --     Send       cutting is sending links to a terminal and reducing
 --     Cut        what is promised of a cut
 --     Nights     the examples of document 01
 pub mod Relink
+pub mod Negation
 pub mod Send
 pub mod Cut
 pub mod Nights
