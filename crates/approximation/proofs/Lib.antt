@@ -3,9 +3,11 @@
 --     Negation   the negation holds exactly where the diagram does not
 --     Send       cutting is sending links to a terminal and reducing
 --     Cut        what is promised of a cut
+--     Sort       priorities: sorting by halves, and what a sorted list is
 --     Nights     the examples of document 01
 pub mod Relink
 pub mod Negation
 pub mod Send
 pub mod Cut
+pub mod Sort
 pub mod Nights

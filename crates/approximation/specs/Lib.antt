@@ -3,7 +3,10 @@
 --     Cut        cutting by a list, and what refuses a list
 --     Search     priorities, and cutting to a size or to a count
 --     Nights     the examples of document 01
+-- and, for the code inside, which no promise to a caller names:
+--     Merge      merging sorted lists
 pub mod Negation
 pub mod Cut
 pub mod Search
 pub mod Nights
+pub mod Merge
