@@ -3,11 +3,13 @@
 --     Negation   the negation holds exactly where the diagram does not
 --     Send       cutting is sending links to a terminal and reducing
 --     Cut        what is promised of a cut
---     Sort       priorities: sorting by halves, and what a sorted list is
+--     Sort       sorting by halves
+--     Members    the priorities are each non-terminal once, in order
 --     Nights     the examples of document 01
 pub mod Relink
 pub mod Negation
 pub mod Send
 pub mod Cut
 pub mod Sort
+pub mod Members
 pub mod Nights
