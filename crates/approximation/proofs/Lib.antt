@@ -5,6 +5,7 @@
 --     Cut        what is promised of a cut
 --     Sort       sorting by halves
 --     Members    the priorities are each non-terminal once, in order
+--     Search     the searches obey their rules, and meet their targets
 --     Nights     the examples of document 01
 pub mod Relink
 pub mod Negation
@@ -12,4 +13,5 @@ pub mod Send
 pub mod Cut
 pub mod Sort
 pub mod Members
+pub mod Search
 pub mod Nights
