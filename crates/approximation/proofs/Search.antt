@@ -13,12 +13,12 @@ use Rattle.diagram.specs.Valuations.{tally, countOf, weightOf}
 use Rattle.diagram.specs.Verdict.{Outcome, accepted, refused, row}
 use Rattle.diagram.proofs.Tests.{by-test, by-eq, not-both, both-and}
 use Rattle.diagram.proofs.Reading.{accepted-ordered}
-use Rattle.diagram.proofs.Tally.{tally-never, tally-mono}
-use Rattle.approximation.specs.Negation.{falseOf, trueOf, negated}
+use Rattle.diagram.proofs.Tally.{tally-never, tally-mono, tally-most}
+use Rattle.approximation.specs.Negation.{falseOf, trueOf, other, negated}
 use Rattle.approximation.specs.Cut.{listed, between, underCountOf, overCountOf, Under, Over}
 use Rattle.approximation.specs.Search.{Answer, answer, order, cutFirst, middle, sizeSearch, underToSize, back, overToSize, covering, reached, countSearch, underToCount, overToCount}
 use Rattle.approximation.specs.Rules.{SizeRules, last, exact, fewer, more, CountRules, enough, on}
-use Rattle.approximation.proofs.Negation.{false-holds, true-holds, two-holds, false-accepted, true-accepted, negated-vars, negated-size, negated-is-two, negated-ordered, negated-holds, negated-count, negated-accepted, by-negated}
+use Rattle.approximation.proofs.Negation.{false-holds, true-holds, one-holds, two-holds, false-accepted, true-accepted, negated-vars, negated-size, negated-is-two, negated-ordered, negated-holds, negated-count, negated-accepted, by-negated}
 use Rattle.approximation.proofs.Relink.{relinked-size}
 use Rattle.approximation.proofs.Cut.{cut-root-under, cut-size, cut-under}
 use Rattle.approximation.proofs.Members.{order-length, first-hits, root-taken}
@@ -208,7 +208,7 @@ module _ (w : List ℕ) (t : ℕ) (a : Accepted w) where
 
 negated-most : (w : List ℕ) → size (negated w) ≤ max (size w) 2
 negated-most w = by-negated w (λ x. size x ≤ max (size w) 2)
-    (λ e. omega arith) (λ e. omega arith) (λ x y. let n = relinked-size (Rattle.approximation.specs.Negation.other) w in omega arith)
+    (λ e. omega arith) (λ e. omega arith) (λ x y. let n = relinked-size other w in omega arith)
 
 -- What implies the negation, negated, is implied.
 pub over-by-negation : (w u : List ℕ) → Ordered w → Under (negated w) u → Over w (negated u)
@@ -242,3 +242,198 @@ module _ (w : List ℕ) (t : ℕ) (a : Accepted w) where
       let fits = to-size-fits (negated w) t (negated-accepted w a) two in
       let most = negated-most (underToSize (negated w) t .words) in
       rw (back-words (underToSize (negated w) t)) (omega arith)
+
+-- ---- counts
+
+pub under-count : (w u : List ℕ) → Under w u → countOf u ≤ countOf w
+under-count w u under =
+    let v = ap (λ (k : ℕ). tally k (holds u)) (under .variables) in
+    let less = tally-mono (vars w) (holds u) (holds w) (under .implies) in
+    omega arith
+
+pub over-count : (w u : List ℕ) → Over w u → countOf w ≤ countOf u
+over-count w u over =
+    let v = ap (λ (k : ℕ). tally k (holds u)) (over .variables) in
+    let more = tally-mono (vars w) (holds w) (holds u) (over .implied) in
+    omega arith
+
+pub false-count : (v : ℕ) → countOf (falseOf v) ≡ 0
+false-count v = tally-never v (holds (falseOf v)) (λ bs l. false-holds v bs)
+
+one-count : (w : List ℕ) → size w ≡ 1 → countOf w ≡ 0
+one-count w e = tally-never (vars w) (holds w) (λ bs l. one-holds w bs e)
+
+-- ---- the count search obeys its rules
+
+-- The inner walk takes a node if there is one.
+covering-some : (weight : ℕ → ℕ) (rest : ℕ) (s : List ℕ) → 0 < length s → 0 < covering weight rest s
+unfolding covering
+covering-some weight rest [] h = absurd (omega arith)
+covering-some weight rest (p ∷ s) h = by-test (leb rest (weight p)) (λ e. rw e (omega arith)) (λ e. rw e (omega arith))
+
+module _ (w : List ℕ) where
+  reached-more : (taken rest : ℕ) → taken < size w - 2 → taken < reached w taken rest
+  reached-more taken rest h =
+      let n = order-length w in
+      let l = length-drop taken (order w) in
+      let some = covering-some (weightOf w) rest (drop taken (order w)) (omega arith) in
+      omega arith
+
+module _ (w : List ℕ) (k : ℕ) where
+  pub count-enough : (fuel taken rest trials : ℕ) → countOf (cutFirst w (reached w taken rest)) ≤ k
+      → countSearch w k fuel taken rest trials ≡ answer (cutFirst w (reached w taken rest)) (suc trials)
+  unfolding countSearch
+  count-enough zero taken rest trials h = refl
+  count-enough (suc fuel) taken rest trials h = rw (le-leb (countOf (cutFirst w (reached w taken rest))) k h) refl
+
+  pub count-on : (fuel taken rest trials : ℕ) → k < countOf (cutFirst w (reached w taken rest))
+      → countSearch w k (suc fuel) taken rest trials
+      ≡ countSearch w k fuel (reached w taken rest) (countOf (cutFirst w (reached w taken rest)) - k) (suc trials)
+  unfolding countSearch
+  count-on fuel taken rest trials h = rw (lt-leb (countOf (cutFirst w (reached w taken rest))) k h) refl
+
+  module _ (o : Ordered w) (many : 2 < size w) where
+    all-count : (c : ℕ) → size w - 2 ≤ c → countOf (cutFirst w c) ≤ k
+    all-count c h =
+        let none = ap (λ (x : List ℕ). countOf x) (first-all w o c many h) in
+        let zeros = false-count (vars w) in
+        omega arith
+
+    -- The fuel lasts: each round takes a node, and when all are taken nothing is left.
+    pub count-by-rules : (fuel taken rest trials : ℕ) → size w - 2 ≤ taken + fuel
+        → CountRules w k taken rest trials (countSearch w k fuel taken rest trials)
+    count-by-rules zero taken rest trials f =
+        let h = all-count (reached w taken rest) (omega arith) in
+        rw (count-enough zero taken rest trials h) (enough h)
+    count-by-rules (suc fuel) taken rest trials f = elim (decLt k (countOf (cutFirst w (reached w taken rest)))) [
+      | no out ↦
+          let h : countOf (cutFirst w (reached w taken rest)) ≤ k = omega arith in
+          rw (count-enough (suc fuel) taken rest trials h) (enough h)
+      | yes h ↦ rw (count-on fuel taken rest trials h) (on h
+          (count-by-rules fuel (reached w taken rest) (countOf (cutFirst w (reached w taken rest)) - k) (suc trials)
+          (elim (decLt taken (size w - 2)) [
+            | yes less ↦ let m = reached-more w taken rest less in omega arith
+            | no done ↦ omega arith
+          ])))
+    ]
+
+  pub by-count-rules : (P : List ℕ → Type 0) → ((c : ℕ) → countOf (cutFirst w c) ≤ k → P (cutFirst w c))
+      → {taken rest trials : ℕ} {a : Answer} → CountRules w k taken rest trials a → P (a .words)
+  by-count-rules P each (enough {taken = taken} {rest = rest} h) = each (reached w taken rest) h
+  by-count-rules P each (on h rest) = by-count-rules P each rest
+
+-- ---- underapproximations to a count
+
+module _ (w : List ℕ) (k : ℕ) where
+  pub to-count-none : k ≡ 0 → underToCount w k ≡ answer (falseOf (vars w)) 0
+  unfolding underToCount
+  to-count-none e = rw (eq-eqb k 0 e) refl
+
+  pub to-count-same : 0 < k → countOf w ≤ k → underToCount w k ≡ answer w 0
+  unfolding underToCount
+  to-count-same h c =
+      let ne : k ≡ 0 → ⊥ = omega arith in
+      rw (ne-eqb k 0 ne, le-leb (countOf w) k c) refl
+
+  pub to-count-search : 0 < k → k < countOf w → underToCount w k ≡ countSearch w k (size w - 2) 0 (countOf w - k) 0
+  unfolding underToCount
+  to-count-search h c =
+      let ne : k ≡ 0 → ⊥ = omega arith in
+      rw (ne-eqb k 0 ne, lt-leb (countOf w) k c) refl
+
+  pub by-to-count : (P : Answer → Type 0)
+      → (k ≡ 0 → P (answer (falseOf (vars w)) 0))
+      → (countOf w ≤ k → P (answer w 0))
+      → (0 < k → k < countOf w → P (countSearch w k (size w - 2) 0 (countOf w - k) 0))
+      → P (underToCount w k)
+  by-to-count P none same search = by-eq k 0
+      (λ e. rw (to-count-none e) (none e))
+      (λ ne. elim (decLt k (countOf w)) [
+        | yes h ↦ rw (to-count-search (omega arith) h) (search (omega arith) h)
+        | no h ↦ rw (to-count-same (omega arith) (omega arith)) (same (omega arith))
+      ])
+
+-- No refusal 19: the target is not strictly between 0 and 2^v where the array has two nodes.
+abbrev pub Open : List ℕ → ℕ → Type 0
+Open w k = size w ≡ 2 → 0 < k → k < 2 ^ vars w → ⊥
+
+module _ (w : List ℕ) (k : ℕ) (a : Accepted w) (open-target : Open w k) where
+  -- Where the search runs there is a node to take.
+  search-many : 0 < k → k < countOf w → 2 < size w
+  search-many h c =
+      let some = a .formed .some in
+      let most = tally-most (vars w) (holds w) in
+      by-eq (size w) 1
+      (λ e. let none = one-count w e in absurd (omega arith))
+      (λ x. by-eq (size w) 2 (λ e. absurd (open-target e h (omega arith))) (λ y. omega arith))
+
+  count-search-by : (P : List ℕ → Type 0) → ((c : ℕ) → countOf (cutFirst w c) ≤ k → P (cutFirst w c)) → 0 < k → k < countOf w
+      → P (countSearch w k (size w - 2) 0 (countOf w - k) 0 .words)
+  count-search-by P each low high =
+      by-count-rules w k P each
+      (count-by-rules w k (accepted-ordered w a) (search-many low high) (size w - 2) 0 (countOf w - k) 0 (omega arith))
+
+  pub to-count-under : Under w (underToCount w k .words)
+  to-count-under = by-to-count w k (λ x. Under w (x .words))
+      (λ e. false-under w (accepted-ordered w a))
+      (λ h. itself-under w a)
+      (count-search-by (Under w) (λ c h. first-under w (accepted-ordered w a) c))
+
+  pub to-count-fits : countOf (underToCount w k .words) ≤ k
+  to-count-fits = by-to-count w k (λ x. countOf (x .words) ≤ k)
+      (λ e. let zeros = false-count (vars w) in omega arith)
+      (λ h. h)
+      (count-search-by (λ x. countOf x ≤ k) (λ c h. h))
+
+-- ---- overapproximations to a count
+
+abbrev pub opposite : List ℕ → ℕ → ℕ
+opposite w k = countOf (negated w) - (k - countOf w)
+
+module _ (w : List ℕ) (k : ℕ) where
+  pub over-count-same : k ≤ countOf w → overToCount w k ≡ answer w 0
+  unfolding overToCount
+  over-count-same h = rw (le-leb k (countOf w) h) refl
+
+  pub over-count-negates : countOf w < k → overToCount w k ≡ back (underToCount (negated w) (opposite w k))
+  unfolding overToCount
+  over-count-negates h = rw (lt-leb k (countOf w) h) refl
+
+module _ (w : List ℕ) (k : ℕ) (a : Accepted w) (most : k ≤ 2 ^ vars w) (open-target : size w ≡ 1 → 0 < k → k < 2 ^ vars w → ⊥) where
+  opposite-open : countOf w < k → Open (negated w) (opposite w k)
+  opposite-open high e low less =
+      let one = negated-is-two w e in
+      let none = one-count w one in
+      let all = negated-count w (accepted-ordered w a) in
+      let v = ap (λ (n : ℕ). 2 ^ n) (negated-vars w) in
+      open-target one (omega arith) (omega arith)
+
+  over-words : countOf w < k → overToCount w k .words ≡ negated (underToCount (negated w) (opposite w k) .words)
+  over-words high = ap (λ (x : Answer). x .words) (over-count-negates w k high) ∙ back-words (underToCount (negated w) (opposite w k))
+
+  by-over-count : (P : List ℕ → Type 0) → (k ≤ countOf w → P w)
+      → (countOf w < k → P (negated (underToCount (negated w) (opposite w k) .words))) → P (overToCount w k .words)
+  by-over-count P same negates = elim (decLt (countOf w) k) [
+    | yes h ↦ rw (over-words h) (negates h)
+    | no h ↦ rw (over-count-same w k (omega arith)) (same (omega arith))
+  ]
+
+  negation-under : countOf w < k → Under (negated w) (underToCount (negated w) (opposite w k) .words)
+  negation-under h = to-count-under (negated w) (opposite w k) (negated-accepted w a) (opposite-open h)
+
+  pub over-to-count-over : Over w (overToCount w k .words)
+  over-to-count-over = by-over-count (Over w)
+      (λ h. itself-over w a)
+      (λ h. over-by-negation w (underToCount (negated w) (opposite w k) .words) (accepted-ordered w a) (negation-under h))
+
+  pub over-to-count-fits : k ≤ countOf (overToCount w k .words)
+  over-to-count-fits = by-over-count (λ x. k ≤ countOf x)
+      (λ h. h)
+      (λ h.
+      let u = underToCount (negated w) (opposite w k) .words in
+      let under = negation-under h in
+      let fits = to-count-fits (negated w) (opposite w k) (negated-accepted w a) (opposite-open h) in
+      let all = negated-count w (accepted-ordered w a) in
+      let all-u = negated-count u (accepted-ordered u (under .accepted)) in
+      let v = ap (λ (n : ℕ). 2 ^ n) (under .variables ∙ negated-vars w) in
+      omega arith)
