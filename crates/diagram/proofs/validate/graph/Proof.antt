@@ -1,51 +1,37 @@
+-- `diagram::validate::graph` meets its contract.
 use denote.Ref.{now}
 use Rattle.diagram.proofs.Rows.{refuse-11, refuse-12, pass-12}
-use native.Mathlib.Omega.{arith}
 use borrow.Author.Needs.{needs}
 use Rattle.diagram.proofs.validate.graph.Statement.{statement}
 use Rattle.diagram.proofs.validate.graph.Tie as tie
-use Rattle.diagram.proofs.validate.graph.Reads as reads
-use Rattle.diagram.proofs.validate.graph.Lts as lts
-use Rattle.diagram.proofs.reach.first_broken.Reads as first-broken-reads
-use Rattle.diagram.proofs.reach.first_lost.Reads as first-lost-reads
-use Rattle.diagram.proofs.reach.mark.Reads as mark-reads
 
--- src/validate.rt:27:5
 mark-requires : tie.Need-mark-requires
 mark-requires c κs = search needs
 
--- src/validate.rt:28:9
 first-broken-requires : tie.Need-first-broken-requires
 first-broken-requires c κs = search needs
 
--- src/validate.rt:30:9
 same-length : tie.Need-same-length
 same-length c = search needs
 
--- src/validate.rt:30:9
 returns : tie.Need-returns
 returns c =
     refuse-11 (now (c .before .before .before .before .before .before .before .before .before .args .words)) (c .before .before .before .before .before .before .before .before .before .args .nodes) (c .before .first-broken .result) (c .before .before .before .before .before .before .before .before .before .pre .0) (c .before .first-broken .ensures) (c .if1 .taken)
 
--- src/validate.rt:35:9
 first-lost-requires : tie.Need-first-lost-requires
 first-lost-requires c κs = search needs
 
--- src/validate.rt:37:9
 same-length-2 : tie.Need-same-length-2
 same-length-2 c = search needs
 
--- src/validate.rt:37:9
 returns-2 : tie.Need-returns-2
 returns-2 c =
     refuse-12 (now (c .before .before .before .before .before .before .before .before .before .before .before .before .args .words)) (c .before .before .before .before .before .before .before .before .before .before .before .before .args .nodes) (c .before .before .before .before .first-broken .result) (c .before .before .before .before .before .before .before .before .before .before .before .before .pre .0) (c .before .before .before .before .first-broken .ensures) (c .before .before .before .if1 .left)
     (c .before .before .before .before .before .before .before .before .mark .last .1 .0) (c .before .before .before .before .before .before .before .before .mark .ensures) (c .before .first-lost .result) (c .before .first-lost .ensures) (c .if2 .taken)
 
--- src/validate.rt:23:1
 same-length-3 : tie.Need-same-length-3
 same-length-3 c = search needs
 
--- src/validate.rt:23:1
 returns-3 : tie.Need-returns-3
 returns-3 c =
     pass-12 (now (c .before .before .before .before .before .before .before .before .before .before .before .before .args .words)) (c .before .before .before .before .before .before .before .before .before .before .before .before .args .nodes) (c .before .before .before .before .first-broken .result) (c .before .before .before .before .before .before .before .before .before .before .before .before .pre .0) (c .before .before .before .before .first-broken .ensures) (c .before .before .before .if1 .left)
