@@ -15,7 +15,7 @@ use Rattle.diagram.specs.Valuations.{meets}
 use Rattle.diagram.specs.Verdict.{any}
 use Rattle.diagram.proofs.Tests.{by-test, not-both, and-both, both-and, cond-true, cond-false}
 use Rattle.diagram.proofs.Reading.{layered, root-in, pass-in}
-use Rattle.diagram.proofs.Meeting.{seen, seen-nil, seen-cons, meets-is-seen, meets-root}
+use Rattle.diagram.proofs.Meeting.{meet, meet-nil, meet-cons, meet-here, meets-is-meet}
 use Rattle.reduction.specs.Reduce.{node, words, terminals, reduced, reduce}
 use Rattle.reduction.proofs.Canon.{Same}
 use Rattle.reduction.proofs.Count.{count, count-nodes}
@@ -50,7 +50,7 @@ count-split (suc n) m = split-one (leb 2 n) (m n) (count n (misses m)) (count n 
 module _ (w : List ℕ) (o : Ordered w) (m : ℕ → Bool) (listed-root : m (root w) ≡ true) where
   cut-constant : (t : ℕ) → Same (vars w) (cutHolds w m t) (λ bs. eqb t 1)
   unfolding cutHolds
-  cut-constant t bs l = rw (meets-root w o m bs l listed-root) refl
+  cut-constant t bs l = rw (meets-is-meet w o m bs l, meet-here w m 0 (root w) bs listed-root) refl
 
   pub cut-root-under : cut w m 0 ≡ falseOf (vars w)
   unfolding cut words
@@ -167,17 +167,17 @@ cut-over w o m = record {
 
 -- ---- only the nodes that are marked count
 
-seen-same : (w : List ℕ) → Ordered w → (m l : ℕ → Bool) → ((q : ℕ) → q < size w → m q ≡ l q) → (bs : List Bool) (i p : ℕ) → p < size w
-    → seen w m i p bs ≡ seen w l i p bs
-seen-same w o m l s [] i p h = rw (seen-nil w m i p, seen-nil w l i p) (s p h)
-seen-same w o m l s (b ∷ bs) i p h =
-    rw (seen-cons w m i p b bs, seen-cons w l i p b bs, s p h)
-    (ap (λ (x : Bool). l p || x) (seen-same w o m l s bs (suc i) (pass w i p b) (pass-in w (vars w) (size w) (layered w o) i p b h)))
+meet-same : (w : List ℕ) → Ordered w → (m l : ℕ → Bool) → ((q : ℕ) → q < size w → m q ≡ l q) → (bs : List Bool) (i p : ℕ) → p < size w
+    → meet w m i p bs ≡ meet w l i p bs
+meet-same w o m l s [] i p h = rw (meet-nil w m i p, meet-nil w l i p) (s p h)
+meet-same w o m l s (b ∷ bs) i p h =
+    rw (meet-cons w m i p b bs, meet-cons w l i p b bs, s p h)
+    (ap (λ (x : Bool). l p || x) (meet-same w o m l s bs (suc i) (pass w i p b) (pass-in w (vars w) (size w) (layered w o) i p b h)))
 
 pub cut-same : (w : List ℕ) → Ordered w → (m l : ℕ → Bool) (t : ℕ) → ((q : ℕ) → q < size w → m q ≡ l q) → cut w m t ≡ cut w l t
 unfolding cut cutHolds
 cut-same w o m l t s = reduced-same (vars w) (cutHolds w m t) (cutHolds w l t) (λ bs e.
-    let same : meets w bs m ≡ meets w bs l = meets-is-seen w o m bs e ∙ seen-same w o m l s bs 0 (root w) (root-in w o) ∙ sym (meets-is-seen w o l bs e) in
+    let same : meets w bs m ≡ meets w bs l = meets-is-meet w o m bs e ∙ meet-same w o m l s bs 0 (root w) (root-in w o) ∙ sym (meets-is-meet w o l bs e) in
     ap (λ (x : Bool). cond x (eqb t 1) (holds w bs)) same)
 
 -- Nothing marked: the cut is the reduced diagram.

@@ -15,7 +15,8 @@ use Rattle.diagram.specs.Diagram.{varOf, lowOf, highOf, size, vars, root, walk,
 use Rattle.diagram.specs.Reading.{eval}
 use Rattle.diagram.specs.Valuations.{tally, countOf}
 use Rattle.diagram.proofs.Tests.{by-eq}
-use Rattle.diagram.proofs.Reading.{layered, root-in, by-two, walk-ends, pass-tests, pass-skips, eval-cons, eval-ends, child-in, child-above, at-end, at-level, holds-is-eval, accepted-ordered}
+use Rattle.diagram.proofs.Reading.{layered, root-in, by-two, pass-tests, pass-skips, eval-cons, eval-ends, child-in, child-above, at-end, at-level, holds-is-eval, accepted-ordered}
+use Rattle.diagram.proofs.Meeting.{walk-ends}
 use Rattle.diagram.proofs.Tally.{tally-same, tally-not}
 use Rattle.reduction.specs.Reduce.{words, reduced}
 use Rattle.reduction.proofs.Canonical.{reduced-accepted, reduced-never, reduced-always}

@@ -13,7 +13,7 @@ use Rattle.diagram.specs.Valuations.{tally, countOf, weightOf}
 use Rattle.diagram.specs.Verdict.{Outcome, accepted, refused, row}
 use Rattle.diagram.proofs.Tests.{by-test, by-eq, not-both, both-and}
 use Rattle.diagram.proofs.Reading.{accepted-ordered}
-use Rattle.diagram.proofs.Tally.{tally-never, tally-mono, tally-most}
+use Rattle.diagram.proofs.Tally.{tally-zero, tally-suc, tally-none, tally-most}
 use Rattle.approximation.specs.Negation.{falseOf, trueOf, other, negated}
 use Rattle.approximation.specs.Cut.{listed, between, underCountOf, overCountOf, Under, Over}
 use Rattle.approximation.specs.Search.{Answer, answer, order, cutFirst, middle, sizeSearch, underToSize, back, overToSize, covering, reached, countSearch, underToCount, overToCount}
@@ -245,6 +245,18 @@ module _ (w : List ℕ) (t : ℕ) (a : Accepted w) where
 
 -- ---- counts
 
+-- a test that passes wherever another does
+bit-more : (a b : Bool) → (a ≡ true → b ≡ true) → cond a 1 0 ≤ cond b 1 0
+bit-more false b h = omega arith
+bit-more true b h = rw (h refl) (omega arith)
+
+pub tally-mono : (k : ℕ) (f g : List Bool → Bool) → ((bs : List Bool) → length bs ≡ k → f bs ≡ true → g bs ≡ true) → tally k f ≤ tally k g
+tally-mono zero f g h = omega (arith, tally-zero f, tally-zero g, bit-more (f []) (g []) (h [] refl))
+tally-mono (suc k) f g h =
+    let a = tally-mono k (λ bs. f (false ∷ bs)) (λ bs. g (false ∷ bs)) (λ bs l. h (false ∷ bs) (ap suc l)) in
+    let b = tally-mono k (λ bs. f (true ∷ bs)) (λ bs. g (true ∷ bs)) (λ bs l. h (true ∷ bs) (ap suc l)) in
+    omega (arith, tally-suc k f, tally-suc k g)
+
 pub under-count : (w u : List ℕ) → Under w u → countOf u ≤ countOf w
 under-count w u under =
     let v = ap (λ (k : ℕ). tally k (holds u)) (under .variables) in
@@ -258,10 +270,10 @@ over-count w u over =
     omega arith
 
 pub false-count : (v : ℕ) → countOf (falseOf v) ≡ 0
-false-count v = tally-never v (holds (falseOf v)) (λ bs l. false-holds v bs)
+false-count v = tally-none v (holds (falseOf v)) (λ bs l. false-holds v bs)
 
 one-count : (w : List ℕ) → size w ≡ 1 → countOf w ≡ 0
-one-count w e = tally-never (vars w) (holds w) (λ bs l. one-holds w bs e)
+one-count w e = tally-none (vars w) (holds w) (λ bs l. one-holds w bs e)
 
 -- ---- the count search obeys its rules
 

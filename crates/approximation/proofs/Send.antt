@@ -14,7 +14,7 @@ use Rattle.diagram.specs.Reading.{tests, pass, eval}
 use Rattle.diagram.specs.Valuations.{meets}
 use Rattle.diagram.proofs.Tests.{by-test, by-eq, not-both, and-both, both-and}
 use Rattle.diagram.proofs.Reading.{Layered, layered, by-two, root-in, pass-tests, pass-skips, pass-ends, child-in, eval-nil, eval-cons, eval-ends, var-most, holds-is-eval}
-use Rattle.diagram.proofs.Meeting.{seen, seen-nil, seen-cons, seen-here, meets-is-seen, meets-root}
+use Rattle.diagram.proofs.Meeting.{meet, meet-nil, meet-cons, meet-here, meets-is-meet}
 use Rattle.reduction.specs.Reduce.{Node, node, words, terminals, reduced, reduce, canon, Built}
 use Rattle.reduction.proofs.Canon.{Same, canon-cong}
 use Rattle.reduction.proofs.Count.{count, count-nodes}
@@ -70,18 +70,18 @@ module _ (w : List ℕ) (o : Ordered w) (m : ℕ → Bool) (t : ℕ) (terminal :
 
   -- Read level by level: where the path meets a marked node the terminal, else what the diagram says.
   abbrev Cuts : ℕ → ℕ → List Bool → Type 0
-  Cuts i p bs = eval (send m t w) i p bs ≡ cond (seen w m i p bs) (eqb t 1) (eval w i p bs)
+  Cuts i p bs = eval (send m t w) i p bs ≡ cond (meet w m i p bs) (eqb t 1) (eval w i p bs)
 
   sent-child : (bs : List Bool) (i c : ℕ) → (m c ≡ false → Cuts i c bs)
-      → eval (send m t w) i (sentTo m t c) bs ≡ cond (seen w m i c bs) (eqb t 1) (eval w i c bs)
+      → eval (send m t w) i (sentTo m t c) bs ≡ cond (meet w m i c bs) (eqb t 1) (eval w i c bs)
   sent-child bs i c on = by-test (m c)
-      (λ e. rw (sent-marked m t c e, eval-ends (send m t w) i t bs terminal, seen-here w m i c bs e) refl)
+      (λ e. rw (sent-marked m t c e, eval-ends (send m t w) i t bs terminal, meet-here w m i c bs e) refl)
       (λ e. rw (sent-other m t c e) (on e))
 
   eval-sent : (bs : List Bool) (i p : ℕ) → p < size w → m p ≡ false → Cuts i p bs
-  eval-sent [] i p h e = rw (eval-nil (send m t w) i p, eval-nil w i p, seen-nil w m i p, e) refl
+  eval-sent [] i p h e = rw (eval-nil (send m t w) i p, eval-nil w i p, meet-nil w m i p, e) refl
   eval-sent (b ∷ bs) i p h e =
-      rw (eval-cons (send m t w) i p b bs, eval-cons w i p b bs, seen-cons w m i p b bs, e)
+      rw (eval-cons (send m t w) i p b bs, eval-cons w i p b bs, meet-cons w m i p b bs, e)
       (by-two p
       (λ end. rw (pass-ends (send m t w) i p b end, pass-ends w i p b end) (eval-sent bs (suc i) p h e))
       (λ two. by-eq (varOf w p) i
@@ -100,7 +100,7 @@ module _ (w : List ℕ) (o : Ordered w) (m : ℕ → Bool) (t : ℕ) (terminal :
         holds-is-eval (send m t w) send-ordered bs (l ∙ sym (relinked-var (sentTo m t) w 0))
         ∙ ap (λ (r : ℕ). eval (send m t w) 0 r bs) (relinked-root (sentTo m t) w)
         ∙ eval-sent bs 0 (root w) (root-in w o) free
-        ∙ rw (meets-is-seen w o m bs l, holds-is-eval w o bs l) refl
+        ∙ rw (meets-is-meet w o m bs l, holds-is-eval w o bs l) refl
 
     pub send-is-cut : reduce (send m t w) ≡ cut w m t
     unfolding reduce cut

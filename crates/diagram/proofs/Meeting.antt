@@ -1,126 +1,179 @@
--- The nodes that a path meets, level by level: `meets` is `seen` from the root.
-use Prim.Native.Nat.{ℕ, zero, suc, _+_, _-_, _≤_, _<_}
+-- The nodes that a path meets, level by level.
+use Prim.Native.Nat.{ℕ, zero, suc, _+_, _≤_, _<_}
 use mathlib.Core.Path.{_≡_, refl, sym, ap, _∙_}
-use mathlib.Core.Logic.{⊎-elim}
-use mathlib.Core.Bool.{Bool, true, false, cond, _||_}
+use mathlib.Core.Logic.{_≢_, ⊎-elim}
+use mathlib.Core.Bool.{Bool, true, false, cond, _||_, or-false, or-assoc}
 use mathlib.Core.List.{List, [], _∷_}
 use native.Mathlib.Omega.{arith}
 use lib.ListN.{length, getD, drop, drop-of-length-le}
 use lib.Seq.{drop-cons}
+use lib.Dec.{eqb}
+use borrow.Author.Tests.{lt-ltb, le-ltb, ne-eqb}
 use Rattle.diagram.specs.Diagram.{varOf, lowOf, highOf, size, vars, root, step, walk, Ordered}
-use Rattle.diagram.specs.Reading.{pass}
 use Rattle.diagram.specs.Verdict.{any}
 use Rattle.diagram.specs.Valuations.{meets}
-use Rattle.diagram.proofs.Tests.{or-left}
-use Rattle.diagram.proofs.Reading.{Layered, layered, root-in, pass-tests, pass-skips, step-goes, walk-ends, child-in, child-above, at-end, at-level}
+use Rattle.diagram.specs.Reading.{pass}
+use Rattle.diagram.proofs.Tests.{by-test, or-left}
+use Rattle.diagram.proofs.Reading.{Layered, layered, root-in, pass-tests, pass-skips, child-in, child-above, at-end, at-level, by-pass}
 
-or-assoc : (a b c : Bool) → ((a || b) || c) ≡ (a || (b || c))
-or-assoc true b c = refl
-or-assoc false b c = refl
+-- Whether the path from p meets a node that passes a test, where the bits are those of variable i and of the ones after it.
+unfoldable pub meet : List ℕ → (ℕ → Bool) → ℕ → ℕ → List Bool → Bool
+meet w t i p [] = t p
+meet w t i p (b ∷ bs) = t p || meet w t (suc i) (pass w i p b) bs
 
-or-twice : (a b : Bool) → (a || (a || b)) ≡ (a || b)
-or-twice true b = refl
-or-twice false b = refl
+pub meet-nil : (w : List ℕ) (t : ℕ → Bool) (i p : ℕ) → meet w t i p [] ≡ t p
+unfolding meet
+meet-nil w t i p = refl
 
-or-false : (a : Bool) → (a || false) ≡ a
-or-false true = refl
-or-false false = refl
+pub meet-cons : (w : List ℕ) (t : ℕ → Bool) (i p : ℕ) (b : Bool) (bs : List Bool)
+    → meet w t i p (b ∷ bs) ≡ (t p || meet w t (suc i) (pass w i p b) bs)
+unfolding meet
+meet-cons w t i p b bs = refl
 
-or-itself : (a : Bool) → (a || a) ≡ a
-or-itself true = refl
-or-itself false = refl
+-- the path stands at p first
+pub meet-here : (w : List ℕ) (t : ℕ → Bool) (i p : ℕ) (bs : List Bool) → t p ≡ true → meet w t i p bs ≡ true
+meet-here w t i p [] e = meet-nil w t i p ∙ e
+meet-here w t i p (b ∷ bs) e = meet-cons w t i p b bs ∙ or-left (t p) (meet w t (suc i) (pass w i p b) bs) e
 
--- Some number below n passes: the first one, or a later one.
-any-one : (t : ℕ → Bool) → any 1 t ≡ t 0
+-- so asking p again adds nothing
+pub meet-again : (w : List ℕ) (t : ℕ → Bool) (i p : ℕ) (bs : List Bool) → (t p || meet w t i p bs) ≡ meet w t i p bs
+meet-again w t i p bs = by-test (t p)
+    (λ e. rw e (sym (meet-here w t i p bs e)))
+    (λ e. rw e)
+
+-- ---- on any of the first k numbers
+
+any-zero : (f : ℕ → Bool) → any zero f ≡ false
 unfolding any
-any-one t = refl
+any-zero f = refl
 
-any-more : (n : ℕ) (t : ℕ → Bool) → any (suc n) t ≡ (any n t || t n)
+any-suc : (k : ℕ) (f : ℕ → Bool) → any (suc k) f ≡ (any k f || f k)
 unfolding any
-any-more n t = refl
+any-suc k f = refl
 
-any-front : (n : ℕ) (t : ℕ → Bool) → any (suc (suc n)) t ≡ (t 0 || any (suc n) (λ k. t (suc k)))
-any-front zero t = rw (any-more 1 t, any-one t, any-one (λ k. t (suc k))) refl
-any-front (suc n) t =
-    any-more (suc (suc n)) t
-    ∙ ap (λ (b : Bool). b || t (suc (suc n))) (any-front n t)
-    ∙ or-assoc (t 0) (any (suc n) (λ k. t (suc k))) (t (suc (suc n)))
-    ∙ ap (λ (b : Bool). t 0 || b) (sym (any-more (suc n) (λ k. t (suc k))))
+-- the first of them and the others
+any-front : (k : ℕ) (f : ℕ → Bool) → any (suc k) f ≡ (f 0 || any k (λ m. f (suc m)))
+any-front zero f = rw (any-suc zero f, any-zero f, any-zero (λ m. f (suc m))) (sym (or-false (f 0)))
+any-front (suc k) f =
+    any-suc (suc k) f
+    ∙ ap (λ (b : Bool). b || f (suc k)) (any-front k f)
+    ∙ or-assoc (f 0) (any k (λ m. f (suc m))) (f (suc k))
+    ∙ ap (λ (b : Bool). f 0 || b) (sym (any-suc k (λ m. f (suc m))))
 
-any-constant : (n : ℕ) (b : Bool) → any (suc n) (λ k. b) ≡ b
-any-constant zero b = any-one (λ k. b)
-any-constant (suc n) b = any-more (suc n) (λ k. b) ∙ ap (λ (a : Bool). a || b) (any-constant n b) ∙ or-itself b
+any-same : (k : ℕ) (f g : ℕ → Bool) → ((m : ℕ) → f m ≡ g m) → any k f ≡ any k g
+any-same zero f g h = any-zero f ∙ sym (any-zero g)
+any-same (suc k) f g h = rw (any-suc k f, any-suc k g, any-same k f g h, h k)
 
-any-same : (n : ℕ) (t s : ℕ → Bool) → ((k : ℕ) → t k ≡ s k) → any n t ≡ any n s
-unfolding any
-any-same zero t s h = refl
-any-same (suc n) t s h = rw (any-same n t s h, h n) refl
+pub any-or : (k : ℕ) (f g : ℕ → Bool) → any k (λ m. f m || g m) ≡ (any k f || any k g)
+any-or zero f g = rw (any-zero f, any-zero g, any-zero (λ m. f m || g m))
+any-or (suc k) f g =
+    rw (any-suc k f, any-suc k g, any-suc k (λ m. f m || g m), any-or k f g) (four (any k f) (any k g) (f k) (g k))
+  where
+    four : (a b c d : Bool) → ((a || b) || (c || d)) ≡ ((a || c) || (b || d))
+    four true b c d = refl
+    four false true true d = refl
+    four false true false d = refl
+    four false false c d = refl
 
--- The path from p, where the bits are those of variable i and of the ones after it, meets a node that passes a test.
-unfoldable pub seen : List ℕ → (ℕ → Bool) → ℕ → ℕ → List Bool → Bool
-seen w m i p [] = m p
-seen w m i p (b ∷ bs) = m p || seen w m (suc i) (pass w i p b) bs
+step-ends : (w : List ℕ) (bs : List Bool) (p : ℕ) → p < 2 → step w bs p ≡ p
+unfolding step
+step-ends w bs p h = simp (lt-ltb p 2 h)
 
-pub seen-nil : (w : List ℕ) (m : ℕ → Bool) (i p : ℕ) → seen w m i p [] ≡ m p
-unfolding seen
-seen-nil w m i p = refl
+step-goes : (w : List ℕ) (bs : List Bool) (p : ℕ) → 2 ≤ p → step w bs p ≡ cond (getD bs (varOf w p) false) (highOf w p) (lowOf w p)
+unfolding step
+step-goes w bs p h = simp (le-ltb p 2 h)
 
-pub seen-cons : (w : List ℕ) (m : ℕ → Bool) (i p : ℕ) (b : Bool) (bs : List Bool)
-    → seen w m i p (b ∷ bs) ≡ (m p || seen w m (suc i) (pass w i p b) bs)
-unfolding seen
-seen-cons w m i p b bs = refl
+pub walk-zero : (w : List ℕ) (bs : List Bool) (p : ℕ) → walk w bs zero p ≡ p
+unfolding walk
+walk-zero w bs p = refl
 
--- The start counts.
-pub seen-start : (w : List ℕ) (m : ℕ → Bool) (i p : ℕ) (bs : List Bool) → seen w m i p bs ≡ (m p || seen w m i p bs)
-seen-start w m i p [] = rw (seen-nil w m i p) (sym (or-itself (m p)))
-seen-start w m i p (b ∷ bs) = rw (seen-cons w m i p b bs) (sym (or-twice (m p) (seen w m (suc i) (pass w i p b) bs)))
+walk-suc : (w : List ℕ) (bs : List Bool) (k p : ℕ) → walk w bs (suc k) p ≡ walk w bs k (step w bs p)
+unfolding walk
+walk-suc w bs k p = refl
 
-pub seen-here : (w : List ℕ) (m : ℕ → Bool) (i p : ℕ) (bs : List Bool) → m p ≡ true → seen w m i p bs ≡ true
-seen-here w m i p bs e = seen-start w m i p bs ∙ or-left (m p) (seen w m i p bs) e
+pub walk-ends : (w : List ℕ) (bs : List Bool) (k p : ℕ) → p < 2 → walk w bs k p ≡ p
+walk-ends w bs zero p h = walk-zero w bs p
+walk-ends w bs (suc k) p h = walk-suc w bs k p ∙ ap (walk w bs k) (step-ends w bs p h) ∙ walk-ends w bs k p h
 
--- A variable that p doesn't test.
-seen-skips : (w : List ℕ) (m : ℕ → Bool) (i p : ℕ) (b : Bool) (bs : List Bool) → i < varOf w p
-    → seen w m i p (b ∷ bs) ≡ seen w m (suc i) p bs
-seen-skips w m i p b bs h = rw (seen-cons w m i p b bs, pass-skips w i p b h) (sym (seen-start w m (suc i) p bs))
+pub walk-on : (w : List ℕ) (bs : List Bool) (j k p : ℕ) → walk w bs (j + k) p ≡ walk w bs k (walk w bs j p)
+walk-on w bs zero k p =
+    let e : zero + k ≡ k = omega arith in
+    rw (e, walk-zero w bs p)
+walk-on w bs (suc j) k p =
+    let e : suc j + k ≡ suc (j + k) = omega arith in
+    rw (e, walk-suc w bs (j + k) p, walk-suc w bs j p) (walk-on w bs j k (step w bs p))
 
-module _ (w : List ℕ) (v n : ℕ) (g : Layered w v n) (m : ℕ → Bool) where
-  from-end : (bs : List Bool) (k p : ℕ) → p < 2 → any (suc k) (λ a. m (walk w bs a p)) ≡ m p
-  from-end bs k p h = any-same (suc k) (λ a. m (walk w bs a p)) (λ a. m p) (λ a. ap m (walk-ends w bs a p h)) ∙ any-constant k (m p)
+-- the path from p, of at most k links, meets
+abbrev along : List ℕ → (ℕ → Bool) → List Bool → ℕ → ℕ → Bool
+along w t bs k p = any (suc k) (λ m. t (walk w bs m p))
 
-  from-node : (bs : List Bool) (k p : ℕ) → 2 ≤ p
-      → any (suc (suc k)) (λ a. m (walk w bs a p)) ≡ (m p || any (suc k) (λ a. m (walk w bs a (cond (getD bs (varOf w p) false) (highOf w p) (lowOf w p)))))
-  unfolding walk
-  from-node bs k p two = any-front k (λ a. m (walk w bs a p)) ∙ rw (step-goes w bs p two) refl
+along-ends : (w : List ℕ) (t : ℕ → Bool) (bs : List Bool) (k p : ℕ) → p < 2 → along w t bs k p ≡ t p
+along-ends w t bs zero p h =
+    any-suc zero (λ m. t (walk w bs m p)) ∙ rw (any-zero (λ m. t (walk w bs m p)), walk-zero w bs p)
+along-ends w t bs (suc k) p h =
+    any-suc (suc k) (λ m. t (walk w bs m p)) ∙ rw (along-ends w t bs k p h, walk-ends w bs (suc k) p h) (or-same (t p))
+  where
+    or-same : (b : Bool) → (b || b) ≡ b
+    or-same true = refl
+    or-same false = refl
 
-  -- Fuel k is enough at p, and j levels are left from i on.
-  walk-seen : (bs : List Bool) → length bs ≡ v → (j k i p : ℕ) → i + j ≡ v → p < n → i ≤ varOf w p → v ≤ varOf w p + k
-      → any (suc k) (λ a. m (walk w bs a p)) ≡ seen w m i p (drop i bs)
-  walk-seen bs l zero k i p left h below fuel =
+along-goes : (w : List ℕ) (t : ℕ → Bool) (bs : List Bool) (k p : ℕ) → along w t bs (suc k) p ≡ (t p || along w t bs k (step w bs p))
+along-goes w t bs k p =
+    any-front (suc k) (λ m. t (walk w bs m p))
+    ∙ rw (walk-zero w bs p)
+    (ap (λ (b : Bool). t p || b) (any-same (suc k) (λ m. t (walk w bs (suc m) p)) (λ m. t (walk w bs m (step w bs p))) (λ m. ap t (walk-suc w bs m p))))
+
+meet-drop : (w : List ℕ) (t : ℕ → Bool) (bs : List Bool) (i p : ℕ) → i < length bs
+    → meet w t i p (drop i bs) ≡ (t p || meet w t (suc i) (pass w i p (getD bs i false)) (drop (suc i) bs))
+meet-drop w t bs i p h = rw (drop-cons bs i false h) (meet-cons w t i p (getD bs i false) (drop (suc i) bs))
+
+module _ (w : List ℕ) (v n : ℕ) (g : Layered w v n) (t : ℕ → Bool) where
+  -- a variable that the node skips
+  pub meet-skips : (i p : ℕ) (b : Bool) (bs : List Bool) → i < varOf w p → meet w t i p (b ∷ bs) ≡ meet w t (suc i) p bs
+  meet-skips i p b bs h =
+      meet-cons w t i p b bs ∙ rw (pass-skips w i p b h) (meet-again w t (suc i) p bs)
+
+  -- fuel k is enough at p, and j levels are left from i on
+  along-meet : (bs : List Bool) → length bs ≡ v → (j k i p : ℕ) → i + j ≡ v → p < n → i ≤ varOf w p → v ≤ varOf w p + k
+      → along w t bs k p ≡ meet w t i p (drop i bs)
+  along-meet bs l zero k i p left h below fuel =
       let none : drop i bs ≡ [] = drop-of-length-le bs {i = i} (omega arith) in
-      rw (none, from-end bs k p (at-end w v n g p h (omega arith)), seen-nil w m i p) refl
-  walk-seen bs l (suc j) zero i p left h below fuel =
-      rw (drop-cons bs i false (omega arith)) (⊎-elim
-      (λ t. absurd (omega arith))
-      (λ s. rw (seen-skips w m i p (getD bs i false) (drop (suc i) bs) s) (walk-seen bs l j zero (suc i) p (omega arith) h s fuel))
+      rw (none, meet-nil w t i p) (along-ends w t bs k p (at-end w v n g p h (omega arith)))
+  along-meet bs l (suc j) zero i p left h below fuel =
+      rw (meet-drop w t bs i p (omega arith)) (⊎-elim
+      (λ x. absurd (omega arith))
+      (λ s. rw (pass-skips w i p (getD bs i false) s) (along-meet bs l j zero (suc i) p (omega arith) h s fuel ∙ sym (meet-again w t (suc i) p (drop (suc i) bs))))
       (at-level w v n g i p h below (omega arith)))
-  walk-seen bs l (suc j) (suc k) i p left h below fuel =
-      rw (drop-cons bs i false (omega arith)) (⊎-elim
-      (λ t.
-      let a = g .node p (t .0) h in
+  along-meet bs l (suc j) (suc k) i p left h below fuel =
+      rw (meet-drop w t bs i p (omega arith)) (⊎-elim
+      (λ x.
+      let a = g .node p (x .0) h in
       let b : Bool = getD bs i false in
       let up = child-above w v n p a b in
-      let same : getD bs (varOf w p) false ≡ b = ap (λ (x : ℕ). getD bs x false) (t .1) in
-      rw (from-node bs k p (t .0), seen-cons w m i p b (drop (suc i) bs), pass-tests w i p b (t .0) (t .1), same)
-      (ap (λ (x : Bool). m p || x)
-      (walk-seen bs l j k (suc i) (cond b (highOf w p) (lowOf w p)) (omega arith) (child-in w v n p a b) (omega arith) (omega arith))))
-      (λ s. rw (seen-skips w m i p (getD bs i false) (drop (suc i) bs) s) (walk-seen bs l j (suc k) (suc i) p (omega arith) h s fuel))
+      let same : getD bs (varOf w p) false ≡ b = ap (λ (y : ℕ). getD bs y false) (x .1) in
+      along-goes w t bs k p
+      ∙ rw (pass-tests w i p b (x .0) (x .1), step-goes w bs p (x .0), same)
+      (ap (λ (y : Bool). t p || y) (along-meet bs l j k (suc i) (cond b (highOf w p) (lowOf w p)) (omega arith) (child-in w v n p a b) (omega arith) (omega arith))))
+      (λ s. rw (pass-skips w i p (getD bs i false) s) (along-meet bs l j (suc k) (suc i) p (omega arith) h s fuel ∙ sym (meet-again w t (suc i) p (drop (suc i) bs))))
       (at-level w v n g i p h below (omega arith)))
 
-pub meets-is-seen : (w : List ℕ) → Ordered w → (m : ℕ → Bool) (bs : List Bool) → length bs ≡ vars w → meets w bs m ≡ seen w m 0 (root w) bs
+-- the nodes that a valuation's path meets, level by level
+pub meets-is-meet : (w : List ℕ) → Ordered w → (t : ℕ → Bool) (bs : List Bool) → length bs ≡ vars w → meets w bs t ≡ meet w t 0 (root w) bs
 unfolding meets
-meets-is-seen w o m bs l =
-    walk-seen w (vars w) (size w) (layered w o) m bs l (vars w) (vars w) 0 (root w) (omega arith) (root-in w o) (omega arith) (omega arith)
+meets-is-meet w o t bs l =
+    along-meet w (vars w) (size w) (layered w o) t bs l (vars w) (vars w) 0 (root w) (omega arith) (root-in w o) (omega arith) (omega arith)
 
--- A root that passes is met by every path.
-pub meets-root : (w : List ℕ) → Ordered w → (m : ℕ → Bool) (bs : List Bool) → length bs ≡ vars w → m (root w) ≡ true → meets w bs m ≡ true
-meets-root w o m bs l e = meets-is-seen w o m bs l ∙ seen-here w m 0 (root w) bs e
+-- a node that stands at no smaller variable is not met from another one
+pub meet-none : (w : List ℕ) (v n : ℕ) → Layered w v n → (t i p : ℕ) (bs : List Bool) → p < n → p ≢ t → varOf w t ≤ varOf w p
+    → meet w (eqb t) i p bs ≡ false
+meet-none w v n g t i p [] h ne up = meet-nil w (eqb t) i p ∙ ne-eqb t p (λ e. ne (sym e))
+meet-none w v n g t i p (b ∷ bs) h ne up =
+    meet-cons w (eqb t) i p b bs
+    ∙ rw (ne-eqb t p (λ e. ne (sym e)))
+    (by-pass (λ q. (q < n → q ≢ t → varOf w t ≤ varOf w q → meet w (eqb t) (suc i) q bs ≡ false) → meet w (eqb t) (suc i) q bs ≡ false) w i p b
+    (λ two e f.
+    let a = g .node p two h in
+    let above = child-above w v n p a b in
+    f (child-in w v n p a b) (λ x. let same = ap (λ (y : ℕ). varOf w y) x in omega arith) (omega arith))
+    (λ f. f h ne up)
+    (λ k x y. meet-none w v n g t (suc i) (pass w i p b) bs k x y))

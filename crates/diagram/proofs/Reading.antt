@@ -85,15 +85,15 @@ eval-drop : (w : List ℕ) (bs : List Bool) (i p : ℕ) → i < length bs
     → eval w i p (drop i bs) ≡ eval w (suc i) (pass w i p (getD bs i false)) (drop (suc i) bs)
 eval-drop w bs i p h = rw (drop-cons bs i false h) (eval-cons w i p (getD bs i false) (drop (suc i) bs))
 
-pub step-ends : (w : List ℕ) (bs : List Bool) (p : ℕ) → p < 2 → step w bs p ≡ p
+step-ends : (w : List ℕ) (bs : List Bool) (p : ℕ) → p < 2 → step w bs p ≡ p
 unfolding step
 step-ends w bs p h = simp (lt-ltb p 2 h)
 
-pub step-goes : (w : List ℕ) (bs : List Bool) (p : ℕ) → 2 ≤ p → step w bs p ≡ cond (getD bs (varOf w p) false) (highOf w p) (lowOf w p)
+step-goes : (w : List ℕ) (bs : List Bool) (p : ℕ) → 2 ≤ p → step w bs p ≡ cond (getD bs (varOf w p) false) (highOf w p) (lowOf w p)
 unfolding step
 step-goes w bs p h = simp (le-ltb p 2 h)
 
-pub walk-ends : (w : List ℕ) (bs : List Bool) (k p : ℕ) → p < 2 → walk w bs k p ≡ p
+walk-ends : (w : List ℕ) (bs : List Bool) (k p : ℕ) → p < 2 → walk w bs k p ≡ p
 unfolding walk
 walk-ends w bs zero p h = refl
 walk-ends w bs (suc k) p h = ap (walk w bs k) (step-ends w bs p h) ∙ walk-ends w bs k p h
