@@ -21,10 +21,10 @@ use Rattle.reduction.proofs.Canon.{Same}
 use Rattle.reduction.proofs.Count.{count, count-nodes}
 use Rattle.reduction.proofs.Fewest.{Closed}
 use Rattle.reduction.proofs.Canonical.{reduced-vars, reduced-accepted, reduced-holds, reduced-never, reduced-always, reduce-size, reduce-size-live}
-use Rattle.approximation.specs.Negation.{falseOf, trueOf, relinked}
+use Rattle.approximation.specs.Links.{relinked}
+use Rattle.approximation.specs.Negation.{falseOf, trueOf}
 use Rattle.approximation.specs.Cut.{cutHolds, cut, send, Under, Over}
-use Rattle.approximation.proofs.Relink.{relinked-size, relinked-root, relinked-low, relinked-high}
-use Rattle.approximation.proofs.Send.{reduced-same, sentTo, sent-marked, sent-other, send-ordered, send-is-cut}
+use Rattle.approximation.proofs.Send.{reduced-same, sentTo, sent-marked, sent-other, send-size, send-root, send-low, send-high, send-ordered, send-is-cut}
 
 -- ---- counting the marked nodes
 
@@ -77,24 +77,20 @@ module _ (w : List ℕ) (o : Ordered w) (m : ℕ → Bool) (t : ℕ) (terminal :
 
   -- A walk stays among the nodes that are not marked.
   sent-closed : Closed (send m t w) (size w) (misses m)
-  sent-closed =
-      let whole = o .formed .whole in
-      record {
-        low = λ p h l two.
-            let node = leb-true 2 p (and-both (leb 2 p) (not (m p)) l .0) in
-            let e = relinked-low (sentTo m t) w p node (omega arith) in
-            rw e (sent-misses (lowOf w p) (omega arith));
-        high = λ p h l two.
-            let node = leb-true 2 p (and-both (leb 2 p) (not (m p)) l .0) in
-            let e = relinked-high (sentTo m t) w p node (omega arith) in
-            rw e (sent-misses (highOf w p) (omega arith));
-      }
+  sent-closed = record {
+    low = λ p h l two.
+        let e = send-low m t w (o .formed) p (leb-true 2 p (and-both (leb 2 p) (not (m p)) l .0)) h in
+        rw e (sent-misses (lowOf w p) (omega arith));
+    high = λ p h l two.
+        let e = send-high m t w (o .formed) p (leb-true 2 p (and-both (leb 2 p) (not (m p)) l .0)) h in
+        rw e (sent-misses (highOf w p) (omega arith));
+  }
 
   -- Each marked non-terminal is a node less.
   pub cut-size : m (root w) ≡ false → size (cut w m t) + count (size w) (hits m) ≤ size w
   cut-size free =
-      let n = relinked-size (sentTo m t) w in
-      let r = relinked-root (sentTo m t) w in
+      let n = send-size m t w in
+      let r = send-root m t w in
       let ordered = send-ordered w o m t terminal in
       let is = ap (λ (x : List ℕ). size x) (send-is-cut w o m t terminal free) in
       let most = reduce-size (send m t w) ordered in

@@ -20,7 +20,8 @@ use Rattle.diagram.proofs.Meeting.{walk-ends}
 use Rattle.diagram.proofs.Tally.{tally-same, tally-not}
 use Rattle.reduction.specs.Reduce.{words, reduced}
 use Rattle.reduction.proofs.Canonical.{reduced-accepted, reduced-never, reduced-always}
-use Rattle.approximation.specs.Negation.{falseOf, trueOf, relinked, other, negated}
+use Rattle.approximation.specs.Links.{relinked}
+use Rattle.approximation.specs.Negation.{falseOf, trueOf, other, negated}
 use Rattle.approximation.proofs.Relink.{relinked-size, relinked-root, relinked-var, relinked-low, relinked-high, relinked-ordered, relinked-twice}
 
 -- ---- 0 and 1 exchange

@@ -6,7 +6,8 @@ use Rattle.diagram.specs.Diagram.{step, walk, holds}
 use Rattle.diagram.specs.Verdict.{row, any}
 use Rattle.diagram.specs.Valuations.{tally, meets}
 use Rattle.reduction.specs.Reduce.{words, same, find, join, canon, reduced}
-use Rattle.approximation.specs.Negation.{table, relinked, other, negated}
+use Rattle.approximation.specs.Links.{table, relinked}
+use Rattle.approximation.specs.Negation.{other, negated}
 use Rattle.approximation.specs.Cut.{cutHolds, cut, listed, between, overCountOf}
 use Rattle.approximation.specs.Search.{goesFirst, insert, sort, order, cutFirst, sizeSearch, underToSize, back, overToSize, covering, countSearch, underToCount, overToCount}
 

@@ -12,7 +12,7 @@ use borrow.Author.Tests.{lt-ltb, le-ltb, eq-eqb, ne-eqb}
 use Rattle.diagram.specs.Diagram.{varOf, lowOf, highOf, size, vars, root, Terminal, Formed, Ordered}
 use Rattle.diagram.proofs.Tests.{by-test, cond-true, cond-false, or-right}
 use Rattle.diagram.proofs.Reading.{by-two}
-use Rattle.approximation.specs.Negation.{table, relinked}
+use Rattle.approximation.specs.Links.{table, relinked}
 
 pub table-length : (f : ℕ → ℕ) (a k : ℕ) → length (table f a k) ≡ k
 unfolding table

@@ -9,7 +9,7 @@ use lib.ListN.{length}
 use lib.Dec.{leb, eqb}
 use borrow.Author.Tests.{le-leb, leb-true, ne-eqb}
 use Rattle.diagram.specs.Limits.{maxNodes, maxVariables}
-use Rattle.diagram.specs.Diagram.{varOf, lowOf, highOf, size, vars, root, holds, Ordered, Accepted}
+use Rattle.diagram.specs.Diagram.{varOf, lowOf, highOf, size, vars, root, holds, Formed, Ordered}
 use Rattle.diagram.specs.Reading.{tests, pass, eval}
 use Rattle.diagram.specs.Valuations.{meets}
 use Rattle.diagram.proofs.Tests.{by-test, by-eq, not-both, and-both, both-and}
@@ -20,7 +20,8 @@ use Rattle.reduction.proofs.Canon.{Same, canon-cong}
 use Rattle.reduction.proofs.Count.{count, count-nodes}
 use Rattle.reduction.proofs.Fewest.{Closed}
 use Rattle.reduction.proofs.Canonical.{reduced-vars, reduced-accepted, reduced-holds, reduced-never, reduced-always, reduce-size, reduce-size-live, reduce-vars}
-use Rattle.approximation.specs.Negation.{falseOf, trueOf, relinked}
+use Rattle.approximation.specs.Links.{relinked}
+use Rattle.approximation.specs.Negation.{falseOf, trueOf}
 use Rattle.approximation.specs.Cut.{cutHolds, cut, send}
 use Rattle.approximation.proofs.Relink.{relinked-size, relinked-length, relinked-root, relinked-var, relinked-low, relinked-high, relinked-ordered}
 
@@ -43,6 +44,27 @@ sent-marked m t q e = rw e refl
 pub sent-other : (m : ℕ → Bool) (t q : ℕ) → m q ≡ false → sentTo m t q ≡ q
 sent-other m t q e = rw e refl
 
+-- ---- the array with sent links: the same nodes, whose links are read through the marks
+
+module _ (m : ℕ → Bool) (t : ℕ) (w : List ℕ) where
+  pub send-length : length (send m t w) ≡ length w
+  send-length = relinked-length (sentTo m t) w
+
+  pub send-size : size (send m t w) ≡ size w
+  send-size = relinked-size (sentTo m t) w
+
+  pub send-root : root (send m t w) ≡ root w
+  send-root = relinked-root (sentTo m t) w
+
+  pub send-var : (p : ℕ) → varOf (send m t w) p ≡ varOf w p
+  send-var = relinked-var (sentTo m t) w
+
+  pub send-low : Formed w → (p : ℕ) → 2 ≤ p → p < size w → lowOf (send m t w) p ≡ cond (m (lowOf w p)) t (lowOf w p)
+  send-low f p two h = let whole = f .whole in relinked-low (sentTo m t) w p two (omega arith)
+
+  pub send-high : Formed w → (p : ℕ) → 2 ≤ p → p < size w → highOf (send m t w) p ≡ cond (m (highOf w p)) t (highOf w p)
+  send-high f p two h = let whole = f .whole in relinked-high (sentTo m t) w p two (omega arith)
+
 -- ---- cutting as sending links
 
 module _ (w : List ℕ) (o : Ordered w) (m : ℕ → Bool) (t : ℕ) (terminal : t < 2) where
@@ -61,12 +83,8 @@ module _ (w : List ℕ) (o : Ordered w) (m : ℕ → Bool) (t : ℕ) (terminal :
   -- A variable that p tests, in the array with sent links.
   pass-sent : (i p : ℕ) (b : Bool) → p < size w → 2 ≤ p → varOf w p ≡ i
       → pass (send m t w) i p b ≡ sentTo m t (cond b (highOf w p) (lowOf w p))
-  pass-sent i p true h two e =
-      let whole = o .formed .whole in
-      pass-tests (send m t w) i p true two (relinked-var (sentTo m t) w p ∙ e) ∙ relinked-high (sentTo m t) w p two (omega arith)
-  pass-sent i p false h two e =
-      let whole = o .formed .whole in
-      pass-tests (send m t w) i p false two (relinked-var (sentTo m t) w p ∙ e) ∙ relinked-low (sentTo m t) w p two (omega arith)
+  pass-sent i p true h two e = pass-tests (send m t w) i p true two (send-var m t w p ∙ e) ∙ send-high m t w (o .formed) p two h
+  pass-sent i p false h two e = pass-tests (send m t w) i p false two (send-var m t w p ∙ e) ∙ send-low m t w (o .formed) p two h
 
   -- Read level by level: where the path meets a marked node the terminal, else what the diagram says.
   abbrev Cuts : ℕ → ℕ → List Bool → Type 0
@@ -90,20 +108,20 @@ module _ (w : List ℕ) (o : Ordered w) (m : ℕ → Bool) (t : ℕ) (terminal :
       let inside = child-in w (vars w) (size w) p (layered w o .node p two h) b in
       rw (pass-sent i p b h two here, pass-tests w i p b two here) (sent-child bs (suc i) c (eval-sent bs (suc i) c inside)))
       (λ there.
-      rw (pass-stays (send m t w) i p b (λ x. there (sym (relinked-var (sentTo m t) w p) ∙ x)), pass-stays w i p b there)
+      rw (pass-stays (send m t w) i p b (λ x. there (sym (send-var m t w p) ∙ x)), pass-stays w i p b there)
       (eval-sent bs (suc i) p h e))))
 
   module _ (free : m (root w) ≡ false) where
     send-holds : Same (vars w) (holds (send m t w)) (cutHolds w m t)
     unfolding cutHolds
     send-holds bs l =
-        holds-is-eval (send m t w) send-ordered bs (l ∙ sym (relinked-var (sentTo m t) w 0))
-        ∙ ap (λ (r : ℕ). eval (send m t w) 0 r bs) (relinked-root (sentTo m t) w)
+        holds-is-eval (send m t w) send-ordered bs (l ∙ sym (send-var m t w 0))
+        ∙ ap (λ (r : ℕ). eval (send m t w) 0 r bs) (send-root m t w)
         ∙ eval-sent bs 0 (root w) (root-in w o) free
         ∙ rw (meets-is-meet w o m bs l, holds-is-eval w o bs l) refl
 
     pub send-is-cut : reduce (send m t w) ≡ cut w m t
     unfolding reduce cut
     send-is-cut =
-        ap (λ (v : ℕ). reduced v (holds (send m t w))) (relinked-var (sentTo m t) w 0)
+        ap (λ (v : ℕ). reduced v (holds (send m t w))) (send-var m t w 0)
         ∙ reduced-same (vars w) (holds (send m t w)) (cutHolds w m t) send-holds

@@ -11,7 +11,7 @@ use Rattle.diagram.specs.Diagram.{size, vars, root, holds, Accepted}
 use Rattle.diagram.specs.Valuations.{meets}
 use Rattle.diagram.specs.Verdict.{Outcome, accepted, row, first}
 use Rattle.reduction.specs.Reduce.{reduced}
-use Rattle.approximation.specs.Negation.{relinked}
+use Rattle.approximation.specs.Links.{relinked}
 
 -- What is left of a diagram where links to marked nodes go to terminal t: as a function, and as a diagram.
 unfoldable pub cutHolds : List ℕ → (ℕ → Bool) → ℕ → List Bool → Bool

@@ -1,11 +1,14 @@
 -- What a reader must believe of cuts.
---     Negation   a diagram with links 0 and 1 exchanged
---     Cut        cutting by a list, and what refuses a list
+--     Links      a diagram with its links sent elsewhere
+--     Negation   links 0 and 1 exchanged
+--     Cut        cutting by a list, and what refuses a list or a target
 --     Search     priorities, and cutting to a size or to a count
 --     Rules      the rules of these searches, with no fuel
+--     Demand2    what is promised of cuts
 --     Nights     the examples of document 01
 -- and, for the code inside, which no promise to a caller names:
 --     Merge      merging sorted lists
+pub mod Links
 pub mod Negation
 pub mod Cut
 pub mod Search

@@ -6,7 +6,8 @@ use lib.Dec.{eqb, ltb}
 use Rattle.diagram.specs.Diagram.{size, vars, lowOf, highOf, root}
 use Rattle.diagram.specs.Valuations.{countOf, weightOf}
 use Rattle.diagram.specs.Verdict.{Outcome, accepted, refused}
-use Rattle.approximation.specs.Negation.{falseOf, trueOf, table}
+use Rattle.approximation.specs.Links.{table}
+use Rattle.approximation.specs.Negation.{falseOf, trueOf}
 use Rattle.approximation.specs.Cut.{underBy, overBy, overCountOf}
 use Rattle.approximation.specs.Search.{Answer, underToSize, overToSize, underToCount, overToCount}
 
