@@ -5,6 +5,7 @@
 --     Cut        what is promised of a cut
 --     Sort       sorting by halves
 --     Members    the priorities are each non-terminal once, in order
+--     Listing    what refuses a list or a count target, and what an acceptance tells
 --     Search     the searches obey their rules, and meet their targets
 --     Nights     the examples of document 01
 pub mod Relink
@@ -13,5 +14,6 @@ pub mod Send
 pub mod Cut
 pub mod Sort
 pub mod Members
+pub mod Listing
 pub mod Search
 pub mod Nights
