@@ -11,7 +11,7 @@ use lib.Dec.{leb, ltb, eqb}
 use borrow.Author.Tests.{lt-ltb, le-ltb, le-leb, lt-leb, eq-eqb, ne-eqb, ltb-true, ltb-false, leb-true, leb-false}
 use Rattle.diagram.specs.Diagram.{size, vars, root}
 use Rattle.diagram.specs.Verdict.{Outcome, accepted, refused, row, first}
-use Rattle.diagram.proofs.Tests.{by-test, not-both}
+use Rattle.diagram.proofs.Tests.{by-test, by-eq, not-both}
 use Rattle.diagram.proofs.Count.{first-is, first-from, first-least, first-passes}
 use Rattle.approximation.specs.Cut.{listed, listOf, between, underCountOf, overCountOf}
 
@@ -125,6 +125,12 @@ module _ (w : List ℕ) (k : ℕ) where
   unfolding between
   between-high h = rw (le-ltb k (2 ^ vars w) h, and-false (ltb 0 k)) refl
 
+  outside : (0 < k → k < 2 ^ vars w → ⊥) → between w k ≡ false
+  outside none = by-eq k 0 between-low (λ ne. between-high (elim (decLt k (2 ^ vars w)) [
+    | yes h ↦ absurd (none (omega arith) h)
+    | no h ↦ omega arith
+  ]))
+
   pub under-refused-19 : size w ≡ 2 → 0 < k → k < 2 ^ vars w → underCountOf w k ≡ refused 19 0
   unfolding underCountOf row
   under-refused-19 n a b = rw (between-yes a b, eq-eqb (size w) 2 n) refl
@@ -136,6 +142,18 @@ module _ (w : List ℕ) (k : ℕ) where
   pub over-refused-19 : size w ≡ 1 → 0 < k → k < 2 ^ vars w → overCountOf w k ≡ refused 19 0
   unfolding overCountOf row
   over-refused-19 n a b = rw (le-ltb (2 ^ vars w) k (omega arith), between-yes a b, eq-eqb (size w) 1 n) refl
+
+  pub under-open-accepted : (size w ≡ 2 → 0 < k → k < 2 ^ vars w → ⊥) → underCountOf w k ≡ accepted (size w) (vars w)
+  unfolding underCountOf row
+  under-open-accepted open-target = by-eq (size w) 2
+      (λ n. rw (outside (open-target n)) refl)
+      (λ n. rw (ne-eqb (size w) 2 n, and-false (between w k)) refl)
+
+  pub over-open-accepted : k ≤ 2 ^ vars w → (size w ≡ 1 → 0 < k → k < 2 ^ vars w → ⊥) → overCountOf w k ≡ accepted (size w) (vars w)
+  unfolding overCountOf row
+  over-open-accepted most open-target = rw (le-ltb (2 ^ vars w) k most) (by-eq (size w) 1
+      (λ n. rw (outside (open-target n)) refl)
+      (λ n. rw (ne-eqb (size w) 1 n, and-false (between w k)) refl))
 
   -- An acceptance tells that the target is not strictly between 0 and 2^v where the array has two nodes (under), or one
   -- (over), and that it is not above 2^v (over).

@@ -5,7 +5,8 @@ use mathlib.Core.Bool.{Bool, true, false, cond, not, _&&_}
 use mathlib.Core.List.{List, [], _∷_}
 use native.Mathlib.Omega.{arith}
 use native.Mathlib.Decide.{decLt}
-use lib.ListN.{length, take, drop, length-drop}
+use lib.ListN.{length, getD, take, drop, length-drop, drop-of-length-le}
+use lib.Seq.{drop-cons}
 use lib.Dec.{leb, ltb, eqb}
 use borrow.Author.Tests.{lt-ltb, le-ltb, le-leb, lt-leb, eq-eqb, ne-eqb, not-true}
 use Rattle.diagram.specs.Diagram.{size, vars, root, holds, Ordered, Accepted}
@@ -277,7 +278,23 @@ one-count w e = tally-none (vars w) (holds w) (λ bs l. one-holds w bs e)
 
 -- ---- the count search obeys its rules
 
--- The inner walk takes a node if there is one.
+-- The inner walk, a node at a time: it stands at place j of the priorities.
+module _ (weight : ℕ → ℕ) (s : List ℕ) where
+  pub walk-out : (j rest : ℕ) → length s ≤ j → j + covering weight rest (drop j s) ≡ j
+  unfolding covering
+  walk-out j rest h = rw (drop-of-length-le s {i = j} h) (omega arith)
+
+  -- the node whose weight reaches the rest ends it
+  pub walk-covers : (j rest : ℕ) → j < length s → rest ≤ weight (getD s j 0) → j + covering weight rest (drop j s) ≡ suc j
+  unfolding covering
+  walk-covers j rest h c = rw (drop-cons s j 0 h, le-leb rest (weight (getD s j 0)) c) (omega arith)
+
+  pub walk-on : (j rest : ℕ) → j < length s → weight (getD s j 0) < rest
+      → j + covering weight rest (drop j s) ≡ suc j + covering weight (rest - weight (getD s j 0)) (drop (suc j) s)
+  unfolding covering
+  walk-on j rest h c = rw (drop-cons s j 0 h, lt-leb rest (weight (getD s j 0)) c) (omega arith)
+
+-- It takes a node if there is one.
 covering-some : (weight : ℕ → ℕ) (rest : ℕ) (s : List ℕ) → 0 < length s → 0 < covering weight rest s
 unfolding covering
 covering-some weight rest [] h = absurd (omega arith)
