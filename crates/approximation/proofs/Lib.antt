@@ -7,6 +7,7 @@
 --     Members    the priorities are each non-terminal once, in order
 --     Listing    what refuses a list or a count target, and what an acceptance tells
 --     Search     the searches obey their rules, and meet their targets
+--     Demand2    what is promised of cuts
 --     Nights     the examples of document 01
 pub mod Relink
 pub mod Negation
@@ -16,4 +17,5 @@ pub mod Sort
 pub mod Members
 pub mod Listing
 pub mod Search
+pub mod Demand2
 pub mod Nights

@@ -388,7 +388,7 @@ Open w k = size w ≡ 2 → 0 < k → k < 2 ^ vars w → ⊥
 
 module _ (w : List ℕ) (k : ℕ) (a : Accepted w) (open-target : Open w k) where
   -- Where the search runs there is a node to take.
-  search-many : 0 < k → k < countOf w → 2 < size w
+  pub search-many : 0 < k → k < countOf w → 2 < size w
   search-many h c =
       let some = a .formed .some in
       let most = tally-most (vars w) (holds w) in
