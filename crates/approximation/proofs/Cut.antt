@@ -22,7 +22,7 @@ use Rattle.reduction.proofs.Count.{count, count-nodes}
 use Rattle.reduction.proofs.Fewest.{Closed}
 use Rattle.reduction.proofs.Canonical.{reduced-vars, reduced-accepted, reduced-holds, reduced-never, reduced-always, reduce-size, reduce-size-live}
 use Rattle.approximation.specs.Links.{relinked}
-use Rattle.approximation.specs.Negation.{falseOf, trueOf}
+use Rattle.approximation.specs.Constants.{falseOf, trueOf}
 use Rattle.approximation.specs.Cut.{cutHolds, cut, send, Under, Over}
 use Rattle.approximation.proofs.Send.{reduced-same, sentTo, sent-marked, sent-other, send-size, send-root, send-low, send-high, send-ordered, send-is-cut}
 

@@ -1,4 +1,5 @@
 -- Laws of cuts.
+--     Constants  the constants hold always or never
 --     Relink     links sent elsewhere
 --     Negation   the negation holds exactly where the diagram does not
 --     Send       cutting is sending links to a terminal and reducing
@@ -9,6 +10,7 @@
 --     Search     the searches obey their rules, and meet their targets
 --     Demand2    what is promised of cuts
 --     Nights     the examples of document 01
+pub mod Constants
 pub mod Relink
 pub mod Negation
 pub mod Send

@@ -21,7 +21,9 @@ use Rattle.diagram.proofs.Tally.{tally-same, tally-not}
 use Rattle.reduction.specs.Reduce.{words, reduced}
 use Rattle.reduction.proofs.Canonical.{reduced-accepted, reduced-never, reduced-always}
 use Rattle.approximation.specs.Links.{relinked}
-use Rattle.approximation.specs.Negation.{falseOf, trueOf, other, negated}
+use Rattle.approximation.specs.Constants.{falseOf, trueOf}
+use Rattle.approximation.specs.Negation.{other, negated}
+use Rattle.approximation.proofs.Constants.{true-holds, false-holds, one-holds, two-holds, false-accepted, true-accepted}
 use Rattle.approximation.proofs.Relink.{relinked-size, relinked-root, relinked-var, relinked-low, relinked-high, relinked-ordered, relinked-twice}
 
 -- ---- 0 and 1 exchange
@@ -50,40 +52,6 @@ end-twice (suc (suc p)) h = absurd (omega arith)
 
 other-twice : (p : ℕ) → other (other p) ≡ p
 other-twice p = by-two p (end-twice p) (λ two. ap other (other-node p two) ∙ other-node p two)
-
--- ---- the constants
-
-pub true-holds : (v : ℕ) (bs : List Bool) → holds (trueOf v) bs ≡ true
-unfolding holds
-true-holds v bs = rw (walk-ends (trueOf v) bs v 1 (omega arith)) refl
-
-pub false-holds : (v : ℕ) (bs : List Bool) → holds (falseOf v) bs ≡ false
-unfolding holds
-false-holds v bs = rw (walk-ends (falseOf v) bs v 0 (omega arith)) refl
-
-pub one-holds : (w : List ℕ) (bs : List Bool) → size w ≡ 1 → holds w bs ≡ false
-unfolding holds
-one-holds w bs e =
-    let r : root w ≡ 0 = omega arith in
-    rw (r, walk-ends w bs (vars w) 0 (omega arith)) refl
-
-pub two-holds : (w : List ℕ) (bs : List Bool) → size w ≡ 2 → holds w bs ≡ true
-unfolding holds
-two-holds w bs e =
-    let r : root w ≡ 1 = omega arith in
-    rw (r, walk-ends w bs (vars w) 1 (omega arith)) refl
-
-pub false-accepted : (v : ℕ) → v ≤ maxVariables → Accepted (falseOf v)
-unfolding words
-false-accepted v h =
-    let e = reduced-never v (λ bs. false) (λ bs l. refl) in
-    subst Accepted e (reduced-accepted v (λ bs. false) h (rw e (omega arith)))
-
-pub true-accepted : (v : ℕ) → v ≤ maxVariables → Accepted (trueOf v)
-unfolding words
-true-accepted v h =
-    let e = reduced-always v (λ bs. true) (λ bs l. refl) in
-    subst Accepted e (reduced-accepted v (λ bs. true) h (rw e (omega arith)))
 
 -- ---- negation, by the number of nodes
 

@@ -15,11 +15,13 @@ use Rattle.diagram.specs.Verdict.{Outcome, accepted, refused, row}
 use Rattle.diagram.proofs.Tests.{by-test, by-eq, not-both, both-and}
 use Rattle.diagram.proofs.Reading.{accepted-ordered}
 use Rattle.diagram.proofs.Tally.{tally-zero, tally-suc, tally-none, tally-most}
-use Rattle.approximation.specs.Negation.{falseOf, trueOf, other, negated}
+use Rattle.approximation.specs.Constants.{falseOf, trueOf}
+use Rattle.approximation.specs.Negation.{other, negated}
 use Rattle.approximation.specs.Cut.{listed, between, underCountOf, overCountOf, Under, Over}
 use Rattle.approximation.specs.Search.{Answer, answer, order, cutFirst, middle, sizeSearch, underToSize, back, overToSize, covering, reached, countSearch, underToCount, overToCount}
 use Rattle.approximation.specs.Rules.{SizeRules, last, exact, fewer, more, CountRules, enough, on}
-use Rattle.approximation.proofs.Negation.{false-holds, true-holds, one-holds, two-holds, false-accepted, true-accepted, negated-vars, negated-size, negated-is-two, negated-ordered, negated-holds, negated-count, negated-accepted, by-negated}
+use Rattle.approximation.proofs.Constants.{false-holds, true-holds, one-holds, two-holds, false-accepted, true-accepted}
+use Rattle.approximation.proofs.Negation.{negated-vars, negated-size, negated-is-two, negated-ordered, negated-holds, negated-count, negated-accepted, by-negated}
 use Rattle.approximation.proofs.Relink.{relinked-size}
 use Rattle.approximation.proofs.Cut.{cut-root-under, cut-size, cut-under}
 use Rattle.approximation.proofs.Members.{order-length, first-hits, root-taken}

@@ -21,7 +21,7 @@ use Rattle.reduction.proofs.Count.{count, count-nodes}
 use Rattle.reduction.proofs.Fewest.{Closed}
 use Rattle.reduction.proofs.Canonical.{reduced-vars, reduced-accepted, reduced-holds, reduced-never, reduced-always, reduce-size, reduce-size-live, reduce-vars}
 use Rattle.approximation.specs.Links.{relinked}
-use Rattle.approximation.specs.Negation.{falseOf, trueOf}
+use Rattle.approximation.specs.Constants.{falseOf, trueOf}
 use Rattle.approximation.specs.Cut.{cutHolds, cut, send}
 use Rattle.approximation.proofs.Relink.{relinked-size, relinked-length, relinked-root, relinked-var, relinked-low, relinked-high, relinked-ordered}
 

@@ -10,7 +10,7 @@ use Rattle.diagram.specs.Diagram.{size, vars, root, holds, Accepted}
 use Rattle.diagram.specs.Valuations.{meets, countOf, weightOf}
 use Rattle.diagram.specs.Verdict.{accepted}
 use Rattle.reduction.specs.Reduce.{reduce}
-use Rattle.approximation.specs.Negation.{falseOf, trueOf}
+use Rattle.approximation.specs.Constants.{falseOf, trueOf}
 use Rattle.approximation.specs.Cut.{listed, underBy, overBy, underCountOf, overCountOf, Under, Over, send}
 use Rattle.approximation.specs.Search.{goesFirst, order, underToSize, overToSize, underToCount, overToCount}
 use Rattle.approximation.specs.Sorted.{Distinct, Sorted}

@@ -1,4 +1,5 @@
 -- What a reader must believe of cuts.
+--     Constants  false and true as diagrams
 --     Links      a diagram with its links sent elsewhere
 --     Negation   links 0 and 1 exchanged
 --     Cut        cutting by a list, and what refuses a list or a target
@@ -9,6 +10,7 @@
 --     Nights     the examples of document 01
 -- and, for the code inside, which no promise to a caller names:
 --     Merge      merging sorted lists
+pub mod Constants
 pub mod Links
 pub mod Negation
 pub mod Cut

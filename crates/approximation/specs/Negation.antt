@@ -2,17 +2,11 @@
 -- negation holds exactly where the diagram does not is `negated-holds` of proofs/Negation.antt.
 use Prim.Native.Nat.{ℕ, _-_}
 use mathlib.Core.Bool.{cond}
-use mathlib.Core.List.{List, [], _∷_}
+use mathlib.Core.List.{List}
 use lib.Dec.{ltb, eqb}
 use Rattle.diagram.specs.Diagram.{size, vars}
+use Rattle.approximation.specs.Constants.{falseOf, trueOf}
 use Rattle.approximation.specs.Links.{relinked}
-
--- The constants: one node alone is false, two are true.
-abbrev pub falseOf : ℕ → List ℕ
-falseOf v = v ∷ 0 ∷ 0 ∷ []
-
-abbrev pub trueOf : ℕ → List ℕ
-trueOf v = v ∷ 0 ∷ 0 ∷ v ∷ 1 ∷ 1 ∷ []
 
 -- 0 and 1 exchange.
 unfoldable pub other : ℕ → ℕ

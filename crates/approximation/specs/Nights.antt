@@ -7,7 +7,7 @@ use Rattle.diagram.specs.Diagram.{size, vars, lowOf, highOf, root}
 use Rattle.diagram.specs.Valuations.{countOf, weightOf}
 use Rattle.diagram.specs.Verdict.{Outcome, accepted, refused}
 use Rattle.approximation.specs.Links.{table}
-use Rattle.approximation.specs.Negation.{falseOf, trueOf}
+use Rattle.approximation.specs.Constants.{falseOf, trueOf}
 use Rattle.approximation.specs.Cut.{underBy, overBy, overCountOf}
 use Rattle.approximation.specs.Search.{Answer, underToSize, overToSize, underToCount, overToCount}
 
