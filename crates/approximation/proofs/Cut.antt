@@ -7,21 +7,20 @@ use native.Mathlib.Omega.{arith}
 use native.Mathlib.Decide.{decLt}
 use lib.ListN.{length}
 use lib.Dec.{leb, eqb}
-use borrow.Author.Tests.{le-leb, leb-true, not-true}
-use Rattle.diagram.specs.Limits.{maxNodes, maxVariables}
-use Rattle.diagram.specs.Diagram.{varOf, lowOf, highOf, size, vars, root, walk, holds, Ordered, Accepted}
+use borrow.Author.Tests.{le-leb, leb-true}
+use Rattle.diagram.specs.Limits.{maxNodes}
+use Rattle.diagram.specs.Diagram.{lowOf, highOf, size, vars, root, holds, Ordered, Accepted}
 use Rattle.diagram.specs.Reading.{pass}
 use Rattle.diagram.specs.Valuations.{meets}
 use Rattle.diagram.specs.Verdict.{any}
 use Rattle.diagram.proofs.Tests.{by-test, not-both, and-both, both-and, cond-true, cond-false}
 use Rattle.diagram.proofs.Reading.{layered, root-in, pass-in}
 use Rattle.diagram.proofs.Meeting.{meet, meet-nil, meet-cons, meet-here, meets-is-meet}
-use Rattle.reduction.specs.Reduce.{node, words, terminals, reduced, reduce}
+use Rattle.reduction.specs.Reduce.{words, reduced, reduce}
 use Rattle.reduction.proofs.Canon.{Same}
 use Rattle.reduction.proofs.Count.{count, count-nodes}
 use Rattle.reduction.proofs.Fewest.{Closed}
 use Rattle.reduction.proofs.Canonical.{reduced-vars, reduced-accepted, reduced-holds, reduced-never, reduced-always, reduce-size, reduce-size-live}
-use Rattle.approximation.specs.Links.{relinked}
 use Rattle.approximation.specs.Constants.{falseOf, trueOf}
 use Rattle.approximation.specs.Cut.{cutHolds, cut, send, Under, Over}
 use Rattle.approximation.proofs.Send.{reduced-same, sentTo, sent-marked, sent-other, send-size, send-root, send-low, send-high, send-ordered, send-is-cut}
@@ -95,8 +94,8 @@ module _ (w : List ℕ) (o : Ordered w) (m : ℕ → Bool) (t : ℕ) (terminal :
       let is = ap (λ (x : List ℕ). size x) (send-is-cut w o m t terminal free) in
       let most = reduce-size (send m t w) ordered in
       let live = reduce-size-live (send m t w) ordered (misses m)
-          (subst (λ (k : ℕ). Closed (send m t w) k (misses m)) (sym n) sent-closed)
-          (λ two. rw r (both-and (leb 2 (root w)) (not (m (root w))) (le-leb 2 (root w) (omega arith)) (rw free refl))) in
+      (subst (λ (k : ℕ). Closed (send m t w) k (misses m)) (sym n) sent-closed)
+      (λ two. rw r (both-and (leb 2 (root w)) (not (m (root w))) (le-leb 2 (root w) (omega arith)) (rw free refl))) in
       let lives = ap (λ (k : ℕ). count k (misses m)) n in
       let split = count-split (size w) m in
       let nodes = count-nodes (size w) in

@@ -1,7 +1,7 @@
 -- What is promised of cuts, proved.
 use Prim.Native.Nat.{ℕ, _+_, _-_, _^_, _≤_, _<_}
-use mathlib.Core.Path.{_≡_, refl, sym, ap, _∙_}
-use mathlib.Core.Bool.{Bool, true, false, cond, _&&_}
+use mathlib.Core.Path.{_≡_, sym, _∙_}
+use mathlib.Core.Bool.{Bool, true, false, cond}
 use mathlib.Core.List.{List, []}
 use native.Mathlib.Omega.{arith}
 use lib.ListN.{length}
@@ -12,15 +12,15 @@ use Rattle.diagram.specs.Valuations.{meets, countOf}
 use Rattle.diagram.proofs.Tests.{by-test, both-and, cond-true, cond-false}
 use Rattle.diagram.proofs.Reading.{accepted-ordered}
 use Rattle.reduction.specs.Reduce.{reduce}
-use Rattle.reduction.proofs.Count.{count, count-mono}
-use Rattle.approximation.specs.Cut.{listed, cut, underCountOf}
-use Rattle.approximation.specs.Search.{order, underToSize, underToCount}
+use Rattle.reduction.proofs.Count.{count-mono}
+use Rattle.approximation.specs.Cut.{listed, cut}
+use Rattle.approximation.specs.Search.{underToSize, underToCount}
 use Rattle.approximation.specs.Sorted.{Distinct}
 use Rattle.approximation.specs.Rules.{SizeRules, CountRules}
-use Rattle.approximation.specs.Demand2.{ByList, Priorities, Demand2}
+use Rattle.approximation.specs.Demand2.{ByList, Demand2}
 use Rattle.approximation.proofs.Send.{send-is-cut}
 use Rattle.approximation.proofs.Cut.{hits, cut-root-under, cut-root-over, cut-size, cut-holds, cut-reduced, cut-under, cut-over, cut-same, cut-none}
-use Rattle.approximation.proofs.Members.{listed-nil, count-listed, order-sorted, order-distinct, order-listed, order-unique}
+use Rattle.approximation.proofs.Members.{count-listed, order-sorted, order-distinct, order-listed, order-unique}
 use Rattle.approximation.proofs.Listing.{under-accepted-open, over-accepted-open, over-accepted-most}
 use Rattle.approximation.proofs.Search.{size-by-rules, to-size-search, to-size-under, to-size-fits, over-to-size-over, over-to-size-fits, count-by-rules, to-count-search, search-many, to-count-under, to-count-fits, over-to-count-over, over-to-count-fits}
 
@@ -46,7 +46,7 @@ module _ (w list : List ℕ) (o : Ordered w) where
       let less = cut-size w o (listed list) t h free in
       let found = count-listed (size w) d (λ p e. let i = nodes p e in omega arith) in
       let all = count-mono (size w) (listed list) (hits (listed list))
-          (λ p in-w e. both-and (leb 2 p) (listed list p) (le-leb 2 p (nodes p e .0)) e) in
+      (λ p in-w e. both-and (leb 2 p) (listed list p) (le-leb 2 p (nodes p e .0)) e) in
       omega arith
 
 pub by-list : (w list : List ℕ) → Accepted w → ByList w list
@@ -90,8 +90,9 @@ demand2 = record {
   size-rules = size-rules;
   count-under = λ w k a e.
       (to-count-under w k a (under-accepted-open w k e), to-count-fits w k a (under-accepted-open w k e));
-  count-over = λ w k a e.
-      (over-to-count-over w k a (over-accepted-most w k e) (over-accepted-open w k e),
-      over-to-count-fits w k a (over-accepted-most w k e) (over-accepted-open w k e));
+  count-over = λ w k a e. (
+    over-to-count-over w k a (over-accepted-most w k e) (over-accepted-open w k e),
+    over-to-count-fits w k a (over-accepted-most w k e) (over-accepted-open w k e),
+  );
   count-rules = λ w k a e. count-rules w k a (under-accepted-open w k e);
 }

@@ -1,18 +1,17 @@
 -- What the checks of a list and of a count target say: 13 and 14 at the first place, 16 and 19.
-use Prim.Native.Nat.{ℕ, zero, suc, _+_, _^_, _≤_, _<_}
-use mathlib.Core.Path.{_≡_, refl, sym, ap, _∙_}
-use mathlib.Core.Logic.{_↔_}
-use mathlib.Core.Bool.{Bool, true, false, cond, not, _&&_, and-false}
+use Prim.Native.Nat.{ℕ, _^_, _≤_, _<_}
+use mathlib.Core.Path.{_≡_, refl}
+use mathlib.Core.Bool.{true, false, and-false}
 use mathlib.Core.List.{List}
 use native.Mathlib.Omega.{arith}
 use native.Mathlib.Decide.{decLt}
 use lib.ListN.{length, getD}
-use lib.Dec.{leb, ltb, eqb}
+use lib.Dec.{leb, ltb}
 use borrow.Author.Tests.{lt-ltb, le-ltb, le-leb, lt-leb, eq-eqb, ne-eqb, ltb-true, ltb-false, leb-true, leb-false}
 use Rattle.diagram.specs.Diagram.{size, vars, root}
-use Rattle.diagram.specs.Verdict.{Outcome, accepted, refused, row, first}
+use Rattle.diagram.specs.Verdict.{accepted, refused, row, first}
 use Rattle.diagram.proofs.Tests.{by-test, by-eq, not-both}
-use Rattle.diagram.proofs.Count.{first-is, first-from, first-least, first-passes}
+use Rattle.diagram.proofs.Count.{first-is, first-least, first-passes}
 use Rattle.approximation.specs.Cut.{listed, listOf, between, underCountOf, overCountOf}
 
 -- ---- a list
@@ -51,7 +50,7 @@ module _ (w list : List ℕ) where
   outside-refused i o =
       let place = o .place in
       let at : out ≡ i = first-is (λ i. leb (size w) (getD list i 0)) 0 (length list) i (omega arith) (omega arith)
-          (λ j l h. lt-leb (size w) (getD list j 0) (o .before j h)) (λ h. le-leb (size w) (getD list i 0) (o .here)) in
+      (λ j l h. lt-leb (size w) (getD list j 0) (o .before j h)) (λ h. le-leb (size w) (getD list i 0) (o .here)) in
       rw (at, lt-ltb i (length list) place) refl
 
   pub ending-refused : (i : ℕ) → Ending w list i → listOf w list ≡ refused 14 i
@@ -59,7 +58,7 @@ module _ (w list : List ℕ) where
   ending-refused i e =
       let place = e .place in
       let at : end ≡ i = first-is (λ i. ltb (getD list i 0) 2) 0 (length list) i (omega arith) (omega arith)
-          (λ j l h. le-ltb (getD list j 0) 2 (e .before j h)) (λ h. lt-ltb (getD list i 0) 2 (e .here)) in
+      (λ j l h. le-ltb (getD list j 0) 2 (e .before j h)) (λ h. lt-ltb (getD list i 0) 2 (e .here)) in
       rw (out-none (e .inside), at, le-ltb (length list) (length list) (omega arith), e .rootless, lt-ltb i (length list) place) refl
 
   pub listable-accepted : Listable w list → listOf w list ≡ accepted (size w) (vars w)
@@ -70,17 +69,17 @@ module _ (w list : List ℕ) where
       (λ e. rw e refl)
       (λ e.
       let at : end ≡ length list = first-is (λ i. ltb (getD list i 0) 2) 0 (length list) (length list) (omega arith) (omega arith)
-          (λ j l h. le-ltb (getD list j 0) 2 (a .nodes e j h)) (λ h. absurd (omega arith)) in
+      (λ j l h. le-ltb (getD list j 0) 2 (a .nodes e j h)) (λ h. absurd (omega arith)) in
       rw (e, at, le-ltb (length list) (length list) (omega arith)) refl))
 
   -- One of the three holds.
   pub by-list : {C : Type 0} → ((i : ℕ) → Outside w list i → C) → ((i : ℕ) → Ending w list i → C) → (Listable w list → C) → C
   by-list {C} thirteen fourteen fine = elim (decLt out (length list)) [
     | yes h ↦ thirteen out (record {
-        place = h;
-        here = leb-true (size w) (getD list out 0) (first-passes (λ i. leb (size w) (getD list i 0)) 0 (length list) (omega arith));
-        before = λ j l. leb-false (size w) (getD list j 0) (first-least (λ i. leb (size w) (getD list i 0)) 0 (length list) j (omega arith) l);
-      })
+      place = h;
+      here = leb-true (size w) (getD list out 0) (first-passes (λ i. leb (size w) (getD list i 0)) 0 (length list) (omega arith));
+      before = λ j l. leb-false (size w) (getD list j 0) (first-least (λ i. leb (size w) (getD list i 0)) 0 (length list) j (omega arith) l);
+    })
     | no h ↦ rest (λ j l. leb-false (size w) (getD list j 0)
         (first-least (λ i. leb (size w) (getD list i 0)) 0 (length list) j (omega arith) (omega arith)))
   ]
@@ -90,17 +89,17 @@ module _ (w list : List ℕ) where
           (λ e. fine (record { inside = inside; nodes = λ d. absurd (not-both (listed list (root w)) e d) }))
           (λ e. elim (decLt end (length list)) [
             | yes h ↦ fourteen end (record {
-                inside = inside;
-                rootless = e;
-                place = h;
-                here = ltb-true (getD list end 0) 2 (first-passes (λ i. ltb (getD list i 0) 2) 0 (length list) (omega arith));
-                before = λ j l. ltb-false (getD list j 0) 2 (first-least (λ i. ltb (getD list i 0) 2) 0 (length list) j (omega arith) l);
-              })
+              inside = inside;
+              rootless = e;
+              place = h;
+              here = ltb-true (getD list end 0) 2 (first-passes (λ i. ltb (getD list i 0) 2) 0 (length list) (omega arith));
+              before = λ j l. ltb-false (getD list j 0) 2 (first-least (λ i. ltb (getD list i 0) 2) 0 (length list) j (omega arith) l);
+            })
             | no h ↦ fine (record {
-                inside = inside;
-                nodes = λ d j l. ltb-false (getD list j 0) 2
-                    (first-least (λ i. ltb (getD list i 0) 2) 0 (length list) j (omega arith) (omega arith));
-              })
+              inside = inside;
+              nodes = λ d j l. ltb-false (getD list j 0) 2
+                  (first-least (λ i. ltb (getD list i 0) 2) 0 (length list) j (omega arith) (omega arith));
+            })
           ])
 
   -- So each outcome is given exactly then.

@@ -8,18 +8,14 @@ use mathlib.Core.List.{List, [], _∷_}
 use native.Mathlib.Omega.{arith}
 use lib.ListN.{length, getD}
 use lib.Seq.{ext-getD}
-use lib.Dec.{ltb, eqb}
-use borrow.Author.Tests.{lt-ltb, le-ltb, eq-eqb, ne-eqb}
-use Rattle.diagram.specs.Limits.{maxVariables, maxNodes}
-use Rattle.diagram.specs.Diagram.{varOf, lowOf, highOf, size, vars, root, walk, holds, Reach, start, by-low, by-high, Formed, Ordered, Accepted}
+use lib.Dec.{eqb}
+use borrow.Author.Tests.{le-ltb, eq-eqb, ne-eqb}
+use Rattle.diagram.specs.Diagram.{varOf, lowOf, highOf, size, vars, root, holds, Reach, start, by-low, by-high, Formed, Ordered, Accepted}
 use Rattle.diagram.specs.Reading.{eval}
 use Rattle.diagram.specs.Valuations.{tally, countOf}
 use Rattle.diagram.proofs.Tests.{by-eq}
 use Rattle.diagram.proofs.Reading.{layered, root-in, by-two, pass-tests, pass-skips, eval-cons, eval-ends, child-in, child-above, at-end, at-level, holds-is-eval, accepted-ordered}
-use Rattle.diagram.proofs.Meeting.{walk-ends}
 use Rattle.diagram.proofs.Tally.{tally-same, tally-not}
-use Rattle.reduction.specs.Reduce.{words, reduced}
-use Rattle.reduction.proofs.Canonical.{reduced-accepted, reduced-never, reduced-always}
 use Rattle.approximation.specs.Links.{relinked}
 use Rattle.approximation.specs.Constants.{falseOf, trueOf}
 use Rattle.approximation.specs.Negation.{other, negated}
@@ -170,14 +166,16 @@ module _ (w : List ℕ) (o : Ordered w) where
   reach-other start = (root-in w o, λ two. start)
   reach-other (by-low {p} r two) =
       let i = reach-other r in
-      let whole = o .formed .whole in
-      (o .formed .ranges p two (i .0) .low,
-      λ up. subst (Reach (relinked other w) (root w)) (relinked-low other w p two (let h = i .0 in omega arith) ∙ other-node (lowOf w p) up) (by-low (i .1 two) two))
+      let whole = o .formed .whole in (
+        o .formed .ranges p two (i .0) .low,
+        λ up. subst (Reach (relinked other w) (root w)) (relinked-low other w p two (let h = i .0 in omega arith) ∙ other-node (lowOf w p) up) (by-low (i .1 two) two),
+      )
   reach-other (by-high {p} r two) =
       let i = reach-other r in
-      let whole = o .formed .whole in
-      (o .formed .ranges p two (i .0) .high,
-      λ up. subst (Reach (relinked other w) (root w)) (relinked-high other w p two (let h = i .0 in omega arith) ∙ other-node (highOf w p) up) (by-high (i .1 two) two))
+      let whole = o .formed .whole in (
+        o .formed .ranges p two (i .0) .high,
+        λ up. subst (Reach (relinked other w) (root w)) (relinked-high other w p two (let h = i .0 in omega arith) ∙ other-node (highOf w p) up) (by-high (i .1 two) two),
+      )
 
 pub negated-accepted : (w : List ℕ) → Accepted w → Accepted (negated w)
 negated-accepted w a =

@@ -1,17 +1,16 @@
 -- The words of a diagram with its links sent elsewhere: variables and terminals stay, and links are what f makes of them.
 use Prim.Native.Nat.{ℕ, zero, suc, _+_, _*_, _%_, _≤_, _<_}
 use mathlib.Core.Path.{_≡_, refl, sym, ap, _∙_}
-use mathlib.Core.Bool.{Bool, true, false, cond, _||_}
-use mathlib.Core.List.{List, [], _∷_}
+use mathlib.Core.Bool.{true, cond, _||_}
+use mathlib.Core.List.{List}
 use native.Mathlib.Omega.{arith}
 use native.Mathlib.Decide.{decLt}
 use lib.ListN.{length, getD, List·getD-eq-default}
 use lib.Seq.{ext-getD}
 use lib.Dec.{ltb, eqb}
 use borrow.Author.Tests.{lt-ltb, le-ltb, eq-eqb, ne-eqb}
-use Rattle.diagram.specs.Diagram.{varOf, lowOf, highOf, size, vars, root, Terminal, Formed, Ordered}
+use Rattle.diagram.specs.Diagram.{varOf, lowOf, highOf, size, root, Terminal, Formed, Ordered}
 use Rattle.diagram.proofs.Tests.{by-test, cond-true, cond-false, or-right}
-use Rattle.diagram.proofs.Reading.{by-two}
 use Rattle.approximation.specs.Links.{table, relinked}
 
 pub table-length : (f : ℕ → ℕ) (a k : ℕ) → length (table f a k) ≡ k

@@ -1,27 +1,26 @@
 -- The searches obey their rules, and meet their targets.
 use Prim.Native.Nat.{ℕ, zero, suc, _+_, _-_, _^_, _≤_, _<_, max}
-use mathlib.Core.Path.{_≡_, refl, sym, ap, _∙_, subst}
-use mathlib.Core.Bool.{Bool, true, false, cond, not, _&&_}
+use mathlib.Core.Path.{_≡_, refl, sym, ap, _∙_}
+use mathlib.Core.Bool.{Bool, true, false, cond, not}
 use mathlib.Core.List.{List, [], _∷_}
 use native.Mathlib.Omega.{arith}
 use native.Mathlib.Decide.{decLt}
 use lib.ListN.{length, getD, take, drop, length-drop, drop-of-length-le}
 use lib.Seq.{drop-cons}
-use lib.Dec.{leb, ltb, eqb}
+use lib.Dec.{leb}
 use borrow.Author.Tests.{lt-ltb, le-ltb, le-leb, lt-leb, eq-eqb, ne-eqb, not-true}
 use Rattle.diagram.specs.Diagram.{size, vars, root, holds, Ordered, Accepted}
 use Rattle.diagram.specs.Valuations.{tally, countOf, weightOf}
-use Rattle.diagram.specs.Verdict.{Outcome, accepted, refused, row}
-use Rattle.diagram.proofs.Tests.{by-test, by-eq, not-both, both-and}
+use Rattle.diagram.proofs.Tests.{by-test, by-eq, not-both}
 use Rattle.diagram.proofs.Reading.{accepted-ordered}
 use Rattle.diagram.proofs.Tally.{tally-zero, tally-suc, tally-none, tally-most}
 use Rattle.approximation.specs.Constants.{falseOf, trueOf}
 use Rattle.approximation.specs.Negation.{other, negated}
-use Rattle.approximation.specs.Cut.{listed, between, underCountOf, overCountOf, Under, Over}
+use Rattle.approximation.specs.Cut.{listed, Under, Over}
 use Rattle.approximation.specs.Search.{Answer, answer, order, cutFirst, middle, sizeSearch, underToSize, back, overToSize, covering, reached, countSearch, underToCount, overToCount}
 use Rattle.approximation.specs.Rules.{SizeRules, last, exact, fewer, more, CountRules, enough, on}
-use Rattle.approximation.proofs.Constants.{false-holds, true-holds, one-holds, two-holds, false-accepted, true-accepted}
-use Rattle.approximation.proofs.Negation.{negated-vars, negated-size, negated-is-two, negated-ordered, negated-holds, negated-count, negated-accepted, by-negated}
+use Rattle.approximation.proofs.Constants.{false-holds, one-holds, two-holds, false-accepted, true-accepted}
+use Rattle.approximation.proofs.Negation.{negated-vars, negated-is-two, negated-holds, negated-count, negated-accepted, by-negated}
 use Rattle.approximation.proofs.Relink.{relinked-size}
 use Rattle.approximation.proofs.Cut.{cut-root-under, cut-size, cut-under}
 use Rattle.approximation.proofs.Members.{order-length, first-hits, root-taken}

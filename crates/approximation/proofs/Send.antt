@@ -1,27 +1,19 @@
 -- Cutting is sending the links to marked nodes to a terminal, and reducing (`send-is-cut`); what is promised of a cut.
-use Prim.Native.Nat.{ℕ, zero, suc, _+_, _*_, _≤_, _<_, max}
-use mathlib.Core.Path.{_≡_, refl, sym, ap, _∙_, subst}
-use mathlib.Core.Bool.{Bool, true, false, cond, not, _&&_, _||_, and-false}
+use Prim.Native.Nat.{ℕ, suc, _≤_, _<_}
+use mathlib.Core.Path.{_≡_, refl, sym, ap, _∙_}
+use mathlib.Core.Bool.{Bool, true, false, cond, and-false}
 use mathlib.Core.List.{List, [], _∷_}
 use native.Mathlib.Omega.{arith}
-use native.Mathlib.Decide.{decLt}
 use lib.ListN.{length}
-use lib.Dec.{leb, eqb}
-use borrow.Author.Tests.{le-leb, leb-true, ne-eqb}
-use Rattle.diagram.specs.Limits.{maxNodes, maxVariables}
+use lib.Dec.{eqb}
+use borrow.Author.Tests.{ne-eqb}
 use Rattle.diagram.specs.Diagram.{varOf, lowOf, highOf, size, vars, root, holds, Formed, Ordered}
 use Rattle.diagram.specs.Reading.{tests, pass, eval}
-use Rattle.diagram.specs.Valuations.{meets}
-use Rattle.diagram.proofs.Tests.{by-test, by-eq, not-both, and-both, both-and}
-use Rattle.diagram.proofs.Reading.{Layered, layered, by-two, root-in, pass-tests, pass-skips, pass-ends, child-in, eval-nil, eval-cons, eval-ends, var-most, holds-is-eval}
+use Rattle.diagram.proofs.Tests.{by-test, by-eq}
+use Rattle.diagram.proofs.Reading.{layered, by-two, root-in, pass-tests, pass-ends, child-in, eval-nil, eval-cons, eval-ends, var-most, holds-is-eval}
 use Rattle.diagram.proofs.Meeting.{meet, meet-nil, meet-cons, meet-here, meets-is-meet}
-use Rattle.reduction.specs.Reduce.{Node, node, words, terminals, reduced, reduce, canon, Built}
+use Rattle.reduction.specs.Reduce.{node, terminals, reduced, reduce}
 use Rattle.reduction.proofs.Canon.{Same, canon-cong}
-use Rattle.reduction.proofs.Count.{count, count-nodes}
-use Rattle.reduction.proofs.Fewest.{Closed}
-use Rattle.reduction.proofs.Canonical.{reduced-vars, reduced-accepted, reduced-holds, reduced-never, reduced-always, reduce-size, reduce-size-live, reduce-vars}
-use Rattle.approximation.specs.Links.{relinked}
-use Rattle.approximation.specs.Constants.{falseOf, trueOf}
 use Rattle.approximation.specs.Cut.{cutHolds, cut, send}
 use Rattle.approximation.proofs.Relink.{relinked-size, relinked-length, relinked-root, relinked-var, relinked-low, relinked-high, relinked-ordered}
 

@@ -1,7 +1,7 @@
 -- Cutting by a list (document 01, port 8). It is defined from the function, like reduction: where a valuation's path meets a
 -- listed node, the root included, the answer is the terminal that the links to it are sent to; else what the diagram says.
 -- That sending the links and reducing gives the same words is `send-is-cut` of proofs/Send.antt.
-use Prim.Native.Nat.{ℕ, _<_, _^_}
+use Prim.Native.Nat.{ℕ, _^_}
 use mathlib.Core.Path.{_≡_}
 use mathlib.Core.Bool.{Bool, true, false, cond, not, _&&_, _||_}
 use mathlib.Core.List.{List, [], _∷_}
