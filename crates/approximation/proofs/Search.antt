@@ -106,6 +106,19 @@ module _ (w : List ℕ) (t : ℕ) where
         ])
   ]
 
+  -- They lead to no other answer.
+  pub size-rules-only : {start stop trials : ℕ} {a : Answer} → SizeRules w t start stop trials a → (fuel : ℕ) → stop - start ≤ fuel
+      → a ≡ sizeSearch w t fuel start stop trials
+  size-rules-only (last {start = start} {stop = stop} {trials = trials} h) fuel f = sym (search-last fuel start stop trials h)
+  size-rules-only (exact h e) zero f = absurd (omega arith)
+  size-rules-only (exact {start = start} {stop = stop} {trials = trials} h e) (suc fuel) f = sym (search-exact fuel start stop trials h e)
+  size-rules-only (fewer h l rest) zero f = absurd (omega arith)
+  size-rules-only (fewer {start = start} {stop = stop} {trials = trials} h l rest) (suc fuel) f =
+      size-rules-only rest fuel (omega arith) ∙ sym (search-fewer fuel start stop trials h l)
+  size-rules-only (more h l rest) zero f = absurd (omega arith)
+  size-rules-only (more {start = start} {stop = stop} {trials = trials} h l rest) (suc fuel) f =
+      size-rules-only rest fuel (omega arith) ∙ sym (search-more fuel start stop trials h l)
+
   -- Whatever is true of each cut with t nodes or fewer is true of the answer.
   pub by-size-rules : (P : List ℕ → Type 0) → ((c : ℕ) → size (cutFirst w c) ≤ t → P (cutFirst w c))
       → {start stop trials : ℕ} {a : Answer} → SizeRules w t start stop trials a → size (cutFirst w stop) ≤ t → P (a .words)
@@ -329,7 +342,14 @@ module _ (w : List ℕ) (k : ℕ) where
         let zeros = false-count (vars w) in
         omega arith
 
-    -- The fuel lasts: each round takes a node, and when all are taken nothing is left.
+    -- Each round takes a node, unless all are taken.
+    round-more : (taken rest fuel : ℕ) → size w - 2 ≤ taken + suc fuel → size w - 2 ≤ reached w taken rest + fuel
+    round-more taken rest fuel f = elim (decLt taken (size w - 2)) [
+      | yes less ↦ let m = reached-more w taken rest less in omega arith
+      | no done ↦ omega arith
+    ]
+
+    -- The fuel lasts: when all are taken nothing is left.
     pub count-by-rules : (fuel taken rest trials : ℕ) → size w - 2 ≤ taken + fuel
         → CountRules w k taken rest trials (countSearch w k fuel taken rest trials)
     count-by-rules zero taken rest trials f =
@@ -340,12 +360,18 @@ module _ (w : List ℕ) (k : ℕ) where
           let h : countOf (cutFirst w (reached w taken rest)) ≤ k = omega arith in
           rw (count-enough (suc fuel) taken rest trials h) (enough h)
       | yes h ↦ rw (count-on fuel taken rest trials h) (on h
-          (count-by-rules fuel (reached w taken rest) (countOf (cutFirst w (reached w taken rest)) - k) (suc trials)
-          (elim (decLt taken (size w - 2)) [
-            | yes less ↦ let m = reached-more w taken rest less in omega arith
-            | no done ↦ omega arith
-          ])))
+          (count-by-rules fuel (reached w taken rest) (countOf (cutFirst w (reached w taken rest)) - k) (suc trials) (round-more taken rest fuel f)))
     ]
+
+    -- They lead to no other answer.
+    pub count-rules-only : {taken rest trials : ℕ} {a : Answer} → CountRules w k taken rest trials a → (fuel : ℕ) → size w - 2 ≤ taken + fuel
+        → a ≡ countSearch w k fuel taken rest trials
+    count-rules-only (enough {taken = taken} {rest = rest} {trials = trials} h) fuel f = sym (count-enough fuel taken rest trials h)
+    count-rules-only (on {taken = taken} {rest = rest} h next) zero f =
+        let none = all-count (reached w taken rest) (omega arith) in
+        absurd (omega arith)
+    count-rules-only (on {taken = taken} {rest = rest} {trials = trials} h next) (suc fuel) f =
+        count-rules-only next fuel (round-more taken rest fuel f) ∙ sym (count-on fuel taken rest trials h)
 
   pub by-count-rules : (P : List ℕ → Type 0) → ((c : ℕ) → countOf (cutFirst w c) ≤ k → P (cutFirst w c))
       → {taken rest trials : ℕ} {a : Answer} → CountRules w k taken rest trials a → P (a .words)

@@ -1,6 +1,7 @@
 -- Cutting by a list (document 01, port 8). It is defined from the function, like reduction: where a valuation's path meets a
 -- listed node, the root included, the answer is the terminal that the links to it are sent to; else what the diagram says.
--- That sending the links and reducing gives the same words is `send-is-cut` of proofs/Send.antt.
+-- That sending the links and reducing gives the same words, where the root isn't listed, is `send-is-cut` of
+-- proofs/Send.antt.
 use Prim.Native.Nat.{ℕ, _^_}
 use mathlib.Core.Path.{_≡_}
 use mathlib.Core.Bool.{Bool, true, false, cond, not, _&&_, _||_}
@@ -19,6 +20,10 @@ cutHolds w marked t bs = cond (meets w bs marked) (eqb t 1) (holds w bs)
 
 unfoldable pub cut : List ℕ → (ℕ → Bool) → ℕ → List ℕ
 cut w marked t = reduced (vars w) (cutHolds w marked t)
+
+-- The words in which links to marked nodes are sent to t.
+abbrev pub send : (ℕ → Bool) → ℕ → List ℕ → List ℕ
+send marked t w = relinked (λ q. cond (marked q) t q) w
 
 -- A pointer is in a list.
 unfoldable pub listed : List ℕ → ℕ → Bool
@@ -67,7 +72,3 @@ pub record Over (w answer : List ℕ) : Type 0 where
   pub accepted : Accepted answer
   pub variables : vars answer ≡ vars w
   pub implied : (bs : List Bool) → length bs ≡ vars w → holds w bs ≡ true → holds answer bs ≡ true
-
--- For the code inside, which no promise to a caller names: links to marked nodes sent to t.
-abbrev pub send : (ℕ → Bool) → ℕ → List ℕ → List ℕ
-send marked t w = relinked (λ q. cond (marked q) t q) w

@@ -2,6 +2,7 @@
 -- answer only for valuations whose path meets a listed node; under makes all of these fail, over makes all of them hold.
 use Prim.Native.Nat.{ℕ, _+_, _-_, _≤_, _<_}
 use mathlib.Core.Path.{_≡_}
+use mathlib.Core.Logic.{_↔_}
 use mathlib.Core.Bool.{Bool, true, false, _&&_}
 use mathlib.Core.List.{List, []}
 use lib.ListN.{length}
@@ -12,7 +13,7 @@ use Rattle.diagram.specs.Verdict.{accepted}
 use Rattle.reduction.specs.Reduce.{reduce}
 use Rattle.approximation.specs.Constants.{falseOf, trueOf}
 use Rattle.approximation.specs.Cut.{listed, underBy, overBy, underCountOf, overCountOf, Under, Over, send}
-use Rattle.approximation.specs.Search.{goesFirst, order, underToSize, overToSize, underToCount, overToCount}
+use Rattle.approximation.specs.Search.{Answer, goesFirst, order, underToSize, overToSize, underToCount, overToCount}
 use Rattle.approximation.specs.Sorted.{Distinct, Sorted}
 use Rattle.approximation.specs.Rules.{SizeRules, CountRules}
 
@@ -49,15 +50,16 @@ pub record Demand2 : Type 0 where
   pub empty : (w : List ℕ) → (underBy w [] ≡ reduce w) × (overBy w [] ≡ reduce w)
   pub priorities : (w : List ℕ) → Priorities w (order w)
   pub no-others : (w list : List ℕ) → Priorities w list → list ≡ order w
-  -- to a size: at most t nodes for t ≥ 2; where the search runs, its rules lead to the answer and its trials
+  -- to a size: at most t nodes for t ≥ 2; where the search runs, its rules lead to this answer and its trials, and no other
   pub size-under : (w : List ℕ) (t : ℕ) → Accepted w → Under w (underToSize w t .words)
   pub size-over : (w : List ℕ) (t : ℕ) → Accepted w → Over w (overToSize w t .words)
   pub size-fits : (w : List ℕ) (t : ℕ) → Accepted w → 2 ≤ t → (size (underToSize w t .words) ≤ t) × (size (overToSize w t .words) ≤ t)
-  pub size-rules : (w : List ℕ) (t : ℕ) → 2 < t → t < size w → SizeRules w t 0 (size w - t) 0 (underToSize w t)
-  -- to a count that is not refused
+  pub size-rules : (w : List ℕ) (t : ℕ) → 2 < t → t < size w
+      → (a : Answer) → SizeRules w t 0 (size w - t) 0 a ↔ (a ≡ underToSize w t)
+  -- to a count that is not refused, likewise
   pub count-under : (w : List ℕ) (k : ℕ) → Accepted w → underCountOf w k ≡ accepted (size w) (vars w)
       → Under w (underToCount w k .words) × (countOf (underToCount w k .words) ≤ k)
   pub count-over : (w : List ℕ) (k : ℕ) → Accepted w → overCountOf w k ≡ accepted (size w) (vars w)
       → Over w (overToCount w k .words) × (k ≤ countOf (overToCount w k .words))
   pub count-rules : (w : List ℕ) (k : ℕ) → Accepted w → underCountOf w k ≡ accepted (size w) (vars w) → 0 < k → k < countOf w
-      → CountRules w k 0 (countOf w - k) 0 (underToCount w k)
+      → (a : Answer) → CountRules w k 0 (countOf w - k) 0 a ↔ (a ≡ underToCount w k)
