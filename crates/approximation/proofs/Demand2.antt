@@ -23,7 +23,8 @@ use Rattle.approximation.proofs.Send.{send-is-cut}
 use Rattle.approximation.proofs.Cut.{hits, cut-root-under, cut-root-over, cut-size, cut-holds, cut-reduced, cut-under, cut-over, cut-same, cut-none}
 use Rattle.approximation.proofs.Members.{count-listed, order-sorted, order-distinct, order-listed, order-unique}
 use Rattle.approximation.proofs.Listing.{under-accepted-open, over-accepted-open, over-accepted-most}
-use Rattle.approximation.proofs.Search.{size-by-rules, size-rules-only, to-size-search, to-size-under, to-size-fits, over-to-size-over, over-to-size-fits, count-by-rules, count-rules-only, to-count-search, search-many, to-count-under, to-count-fits, over-to-count-over, over-to-count-fits}
+use Rattle.approximation.proofs.Search.{size-by-rules, size-rules-only, count-by-rules, count-rules-only}
+use Rattle.approximation.proofs.Targets.{to-size-search, to-size-under, to-size-fits, over-to-size-over, over-to-size-fits, to-count-search, search-many, to-count-under, to-count-fits, over-to-count-over, over-to-count-fits}
 
 module _ (w list : List ℕ) (o : Ordered w) where
   list-holds : (t : ℕ) → t < 2 → (bs : List Bool) → length bs ≡ vars w

@@ -7,7 +7,8 @@
 --     Sort       sorting by halves
 --     Members    the priorities are each non-terminal once, in order
 --     Listing    what refuses a list or a count target, and what an acceptance tells
---     Search     the searches obey their rules, and meet their targets
+--     Search     the searches obey their rules
+--     Targets    answers to a target: inclusion, and the target met
 --     Demand2    what is promised of cuts
 --     Nights     the examples of document 01
 pub mod Constants
@@ -19,5 +20,6 @@ pub mod Sort
 pub mod Members
 pub mod Listing
 pub mod Search
+pub mod Targets
 pub mod Demand2
 pub mod Nights
