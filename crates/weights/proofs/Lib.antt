@@ -1,0 +1,4 @@
+pub mod Dots
+pub mod Levels
+pub mod Tables
+pub mod Chains
