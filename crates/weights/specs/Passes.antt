@@ -128,3 +128,9 @@ pub record Giving (w out : List ℕ) (p q x : ℕ) : Type 0 where
   pub inside : In 0 out q
   pub above : varOf w p < varOf w q
   pub fits : num 0 out q + scaled w p q x < limit
+
+-- A child's count can be read and scaled.
+pub record Parting (w room : List ℕ) (n p q : ℕ) : Type 0 where
+  pub inside : In n room q
+  pub above : varOf w p < varOf w q
+  pub fits : scaled w p q (num n room q) < limit
