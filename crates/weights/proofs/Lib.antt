@@ -1,6 +1,13 @@
+-- Laws that belong to no one function.
+--     Dots       sums of products, and amounts that move
+--     Levels     counting from a node's own variable on
+--     Entries    tables of counts in lent words
+--     Chaining   the chains of each variable's nodes
+--     Descent    the first pass
+--     Ascent     the second pass
 pub mod Dots
 pub mod Levels
-pub mod Tables
-pub mod Chains
-pub mod Down
-pub mod Up
+pub mod Entries
+pub mod Chaining
+pub mod Descent
+pub mod Ascent

@@ -134,3 +134,11 @@ pub record Parting (w room : List ℕ) (n p q : ℕ) : Type 0 where
   pub inside : In n room q
   pub above : varOf w p < varOf w q
   pub fits : scaled w p q (num n room q) < limit
+
+-- What the second pass begins with.
+pub record Rising (w heads room out : List ℕ) (n v : ℕ) : Type 0 where
+  pub given : Given w n
+  pub variables : v ≡ vars w
+  pub head : (c : ℕ) → c < vars w → Last w c (size w) (getD heads c 0)
+  pub sated : Sated w room 0 0
+  pub long : wordCount * n ≤ length out

@@ -16,7 +16,7 @@ use Rattle.diagram.proofs.Reading.{Layer, layered, at-end}
 use Rattle.weights.specs.Chains.{Last, Linked, Given, Node}
 use Rattle.weights.specs.Passes.{entry, num, In, Noted, satOf, skip, scaled, Known, Sated, Joining, Descending, AtDown, Parting}
 use Rattle.weights.proofs.Levels.{sat-node, sat-end, sat-most, under-limit}
-use Rattle.weights.proofs.Chains.{known-from, known-begins, known-ends}
+use Rattle.weights.proofs.Chaining.{known-from, known-begins, known-ends}
 
 pub sated-as : {w room : List ℕ} {c b : ℕ} → Sated w room c b → (d e : ℕ) → ((q : ℕ) → q < size w → Known w d e q → Known w c b q) → Sated w room d e
 sated-as s d e f = record { long = s .long; next = s .next; right = λ q h k. s .right q h (f q h k) }
