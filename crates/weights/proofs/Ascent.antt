@@ -354,3 +354,25 @@ ends-weighed {w} {before} {out} {n} given s same {after} z =
         (λ ne. rw (z .other q ne) (by-two q
         (λ t. holds-as (sym (one q ne t h)) (s .passing .todo q h (todo q t h)))
         (λ two. s .passing .done q h (λ u. let r = layered w (given .ordered) .node q two h in absurd (omega (arith, u .level, r .var))) .1)))
+
+-- ---- what the functions of the pass give
+
+pub give-done : {w out : List ℕ} {p q x : ℕ} → Giving w out p q x → {u : List ℕ} → Holds (num 0 out q) u → {z : List ℕ} → Holds (scaled w p q x) z
+    → {f : Fit} → Fitted (value u + value z) f → {after : List ℕ} → ((y : ℕ) → Holds y (f .natural .words) → Noted 0 out q y after)
+    → Noted 0 out q (num 0 out q + scaled w p q x) after
+give-done {w} {out} {p} {q} {x} k {u} hu {z} hz {f} a note =
+    let e : value u + value z ≡ num 0 out q + scaled w p q x = omega (arith, hu .worth, hz .worth) in
+    note (num 0 out q + scaled w p q x) (fitted-below (rw e at a) (k .fits) .1)
+
+module _ {w : List ℕ} {n : ℕ} (given : Given w n) (out zeros : List ℕ) (long : wordCount * n ≤ length out)
+    (cleared : zeros ≡ replicate (min (wordCount * n) (length out)) 0 ++ drop (wordCount * n) out) where
+  pub begin-in : In 0 zeros (n - 1)
+  begin-in = start-in w n given out zeros long cleared
+
+  pub begin-done : (above : ℕ) → above ≡ varOf w (n - 1) → {f : Fit} → Fitted (2 ^ above) f → {after : List ℕ}
+      → ((y : ℕ) → Holds y (f .natural .words) → Noted 0 zeros (n - 1) y after) → Passed w out after 0 (size w)
+  begin-done above e {f} a note =
+      let root-is : n - 1 ≡ root w = ap (λ (m : ℕ). m - 1) (given .nodes) in
+      let power : 2 ^ above ≡ 2 ^ varOf w (n - 1) = ap (λ (k : ℕ). 2 ^ k) e in
+      let fits : 2 ^ varOf w (n - 1) < limit = rw root-is (root-fits w (given .ordered)) in
+      start-passing w n given out zeros long cleared (note (2 ^ varOf w (n - 1)) (fitted-below (rw power at a) fits .1))

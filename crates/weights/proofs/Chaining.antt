@@ -3,6 +3,7 @@ use Prim.Native.Nat.{ℕ, zero, suc, _+_, _≤_, _<_}
 use mathlib.Core.Path.{_≡_, refl, sym, ap, _∙_}
 use mathlib.Core.Logic.{_≢_}
 use mathlib.Core.List.{List}
+use native.Mathlib.Numerals.{add-one}
 use native.Mathlib.Omega.{arith}
 use native.Mathlib.Decide.{decLe, decLt}
 use lib.ListN.{length, getD, set, replicate, getD-replicate}
@@ -10,7 +11,7 @@ use lib.Seq.{getD-set-same, getD-set-other}
 use Rattle.diagram.specs.Diagram.{varOf, size, vars, Ordered}
 use Rattle.diagram.proofs.Tests.{by-eq}
 use Rattle.diagram.proofs.Reading.{Layered, layered, by-two}
-use Rattle.weights.specs.Chains.{Last, Linked}
+use Rattle.weights.specs.Chains.{Last, Linked, Given}
 use Rattle.weights.specs.Passes.{Known, Todo}
 
 -- ---- how they are made
@@ -109,3 +110,23 @@ by-todo w c b q f g = elim (decLe c (varOf w q)) [
       (λ ne. f (record { level = l; turn = λ e. absurd (ne e) }))
   | no l ↦ g (λ t. l (t .level))
 ]
+
+-- ---- the loop that makes them
+
+pub link-begins : (w heads nexts : List ℕ) (n : ℕ) → Given w n → heads ≡ replicate 256 0 → Linked w heads nexts 2
+link-begins w heads nexts n given z =
+    linked-start w heads nexts
+    (λ c h.
+    let few = given .ordered .formed .variables in
+    ap (λ (s : List ℕ). getD s c 0) z ∙ getD-replicate {A = ℕ} 256 c 0 0 (omega arith))
+
+pub link-on : {w heads nexts : List ℕ} {n p : ℕ} → Given w n → 2 ≤ p → p < n → length heads ≡ 256 → n ≤ length nexts → Linked w heads nexts p
+    → (v h : ℕ) → v ≡ varOf w p → h ≡ getD heads v 0 → {heads′ nexts′ : List ℕ} → nexts′ ≡ set nexts p h → heads′ ≡ set heads v p
+    → Linked w heads′ nexts′ (p + 1)
+link-on {w} {heads} {nexts} {n} {p} given two below long room l v h ev eh {heads′} {nexts′} en eheads =
+    let few = given .ordered .formed .variables in
+    let r = given .ordered .formed .ranges p two (omega (arith, given .nodes)) in
+    let h-is : h ≡ getD heads (varOf w p) 0 = eh ∙ ap (λ (x : ℕ). getD heads x 0) ev in
+    let nexts-is : nexts′ ≡ set nexts p (getD heads (varOf w p) 0) = en ∙ ap (λ (x : ℕ). set nexts p x) h-is in
+    let heads-is : heads′ ≡ set heads (varOf w p) p = eheads ∙ ap (λ (x : ℕ). set heads x p) ev in
+    rw (add-one, heads-is, nexts-is) (linked-on w heads nexts p two (r .var) (omega arith) (omega arith) l)

@@ -148,3 +148,13 @@ down-begins {w} {heads} {room} {n} {c} d p e =
       sated = sated-as (d .sated) c (suc p)
           (λ q h k. known-begins w (d .given .ordered) c (d .level) q h (known-from w (d .given .ordered) c (d .level) last q h k));
     }
+
+-- ---- a child's part
+
+pub part-asks : {w room : List ℕ} {n p q : ℕ} → Parting w room n p q → {x : List ℕ} → Holds (num n room q) x
+    → (varOf w p < varOf w q) × (scaled w p q (value x) < limit)
+part-asks k h = (k .above, rw (h .worth) (k .fits))
+
+pub part-done : (w room : List ℕ) (n p q : ℕ) {x : List ℕ} → Holds (num n room q) x → {y : List ℕ} → Holds (scaled w p q (value x)) y
+    → Holds (scaled w p q (num n room q)) y
+part-done w room n p q h g = holds-as (ap (λ (z : ℕ). scaled w p q z) (h .worth)) g

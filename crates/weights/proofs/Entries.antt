@@ -1,5 +1,5 @@
 -- Tables of counts in lent words.
-use Prim.Native.Nat.{ℕ, _+_, _-_, _*_, _≤_, _<_, min}
+use Prim.Native.Nat.{ℕ, _+_, _-_, _*_, _^_, _≤_, _<_, min}
 use mathlib.Core.Path.{_≡_, refl, sym, ap, _∙_}
 use mathlib.Core.Logic.{_≢_, _⊎_, inl, inr}
 use mathlib.Core.Bool.{Bool}
@@ -8,10 +8,13 @@ use native.Mathlib.Omega.{arith}
 use native.Mathlib.Decide.{decLt}
 use lib.ListN.{length, getD, take, drop, replicate, length-append, length-drop, length-replicate, replicate-append-replicate}
 use lib.Seq.{ext-getD, getD-drop, take-append-le, drop-at, take-at}
-use Rattle.naturals.specs.Natural.{wordCount, Holds, Stores}
-use Rattle.naturals.proofs.Answer.{holds-zero}
-use Rattle.naturals.proofs.Place.{stored-after, stored-before, stores-length, stores-holds, stores-apart}
-use Rattle.weights.specs.Passes.{entry, In, Noted}
+use lib.Dec.{leb}
+use Rattle.naturals.specs.Natural.{value, limit, wordCount, Holds, Answers, Fitted, Stores}
+use Rattle.naturals.specs.declared.Fit.{Fit}
+use Rattle.naturals.proofs.Answer.{holds-zero, fitted-below}
+use Rattle.naturals.proofs.Place.{stored-after, stored-before, stores-length, stores-holds, stores-apart, loads-inside}
+use Rattle.diagram.specs.Diagram.{varOf}
+use Rattle.weights.specs.Passes.{entry, num, In, Noted, scaled}
 
 -- two entries stand apart
 apart : (base r q : ℕ) → r ≢ q → (base + wordCount * r + wordCount ≤ base + wordCount * q) ⊎ (base + wordCount * q + wordCount ≤ base + wordCount * r)
@@ -58,3 +61,19 @@ zero-rest n s after l e =
       rw (e, m) (drop-at (replicate (wordCount * n) 0) (drop (wordCount * n) s) (wordCount * n) (length-replicate {A = ℕ} (wordCount * n) 0)),
       ap length e ∙ rw (m, length-append (replicate (wordCount * n) 0) (drop (wordCount * n) s), length-replicate {A = ℕ} (wordCount * n) 0, length-drop (wordCount * n) s) (omega arith),
     )
+
+-- ---- what the functions on tables give
+
+pub count-read : (base : ℕ) (s : List ℕ) (q i : ℕ) → i ≡ q → In base s q → {f : Fit}
+    → Answers (leb (base + wordCount * i + wordCount) (length s)) (value (take wordCount (drop (base + wordCount * i) s))) f → Holds (num base s q) (f .natural .words)
+count-read base s q i e inside a = let b = rw e at a in loads-inside s (base + wordCount * q) b inside .1
+
+pub note-done : (base : ℕ) (s : List ℕ) (q i : ℕ) → i ≡ q → In base s q → {words after : List ℕ} {done : Bool}
+    → Stores wordCount s (base + wordCount * i) words done after → (x : ℕ) → Holds x words → Noted base s q x after
+note-done base s q i e inside r = noted base s q inside (rw e at r)
+
+pub scaled-done : (w : List ℕ) (p q n here there : ℕ) → here ≡ varOf w p → there ≡ varOf w q → {f : Fit} → Fitted (n * 2 ^ (there - here - 1)) f
+    → scaled w p q n < limit → Holds (scaled w p q n) (f .natural .words)
+scaled-done w p q n here there eh et {f} a l =
+    let e : n * 2 ^ (there - here - 1) ≡ scaled w p q n = rw (eh, et) in
+    fitted-below (rw e at a) l .1

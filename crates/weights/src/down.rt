@@ -41,11 +41,11 @@ fn join(words: &[u32], room: &mut [u32], nodes: usize, node: BddPointer)
 }
 
 // The nodes of one variable.
-fn level(words: &[u32], heads: &[u32], room: &mut [u32], nodes: usize, variable: BddVariable)
-    requires { ⌜ Descending (now words) (now heads) (now room) nodes (variable .0) ⌝ }
-    ensures { λ _. ⌜ Sated (now (words .entry)) (now (room .exit)) (variable .0) 0 ⌝ }
+fn level(words: &[u32], heads: &[u32], room: &mut [u32], nodes: usize, variable: u32)
+    requires { ⌜ Descending (now words) (now heads) (now room) nodes variable ⌝ }
+    ensures { λ _. ⌜ Sated (now (words .entry)) (now (room .exit)) variable 0 ⌝ }
 {
-    let mut node = head_of(heads, variable);
+    let mut node = head_of(heads, BddVariable(variable));
     while node.0 != 0 {
         join(words, room, nodes, node);
         node = next_of(room, node);
@@ -70,6 +70,6 @@ pub(crate) fn count_all(words: &[u32], heads: &[u32], room: &mut [u32], nodes: u
     let mut c = vars;
     while 0 < c {
         c -= 1;
-        level(words, heads, room, nodes, BddVariable(c));
+        level(words, heads, room, nodes, c);
     }
 }

@@ -48,11 +48,11 @@ fn pass_on(words: &[u32], room: &[u32], output: &mut [u32], nodes: usize, node: 
 }
 
 // The nodes of one variable.
-fn level(words: &[u32], heads: &[u32], room: &[u32], output: &mut [u32], nodes: usize, variable: BddVariable)
-    requires { ⌜ Ascending (now words) (now heads) (now room) (now output) nodes (variable .0) ⌝ }
-    ensures { λ _. ⌜ Passed (now (words .entry)) (now (output .entry)) (now (output .exit)) (suc (variable .0)) (size (now (words .entry))) ⌝ }
+fn level(words: &[u32], heads: &[u32], room: &[u32], output: &mut [u32], nodes: usize, variable: u32)
+    requires { ⌜ Ascending (now words) (now heads) (now room) (now output) nodes variable ⌝ }
+    ensures { λ _. ⌜ Passed (now (words .entry)) (now (output .entry)) (now (output .exit)) (suc variable) (size (now (words .entry))) ⌝ }
 {
-    let mut node = head_of(heads, variable);
+    let mut node = head_of(heads, BddVariable(variable));
     while node.0 != 0 {
         pass_on(words, room, output, nodes, node);
         node = next_of(room, node);
@@ -79,7 +79,7 @@ pub(crate) fn pass_all(words: &[u32], heads: &[u32], room: &[u32], output: &mut 
     begin(words, output, nodes);
     let mut c = 0;
     while c < vars {
-        level(words, heads, room, output, nodes, BddVariable(c));
+        level(words, heads, room, output, nodes, c);
         c += 1;
     }
 }

@@ -1,3 +1,7 @@
+use denote.Ref.{now}
+use mathlib.Core.Path.{refl, sym, _∙_, ap}
+use Prim.Native.Nat.{ℕ}
+use lib.ListN.{getD}
 use native.Mathlib.Omega.{arith}
 use borrow.Author.Needs.{needs}
 use Rattle.weights.proofs.chains.next_of.Statement.{statement}
@@ -17,7 +21,7 @@ word-requires c κs = search needs
 
 -- src/chains.rt:24:1
 returns : tie.Need-returns
-returns c = ?
+returns c = c .word .ensures ∙ ap (λ (i : ℕ). getD (now (c .before .before .before .args .room)) i 0) (c .before .to-index .ensures)
 
 pub next-of-spec : {M : Type 1} → statement M
 next-of-spec = tie.close (tie.spec to-index-requires word-requires returns)

@@ -1,3 +1,6 @@
+use denote.Ref.{now}
+use mathlib.Core.Path.{refl, sym, _∙_, ap}
+use Rattle.weights.proofs.Descent.{join-low, join-high, join-in, join-done}
 use native.Mathlib.Omega.{arith}
 use borrow.Author.Needs.{needs}
 use Rattle.weights.proofs.down.join.Statement.{statement}
@@ -16,7 +19,7 @@ low-link-of-requires c κs = search needs
 
 -- src/down.rt:37:9
 part-requires : tie.Need-part-requires
-part-requires c κs = search needs
+part-requires c κs = join-low (c .before .before .before .before .pre) (c .low-link-of .result .0) (c .low-link-of .ensures)
 
 -- src/down.rt:38:48
 high-link-of-requires : tie.Need-high-link-of-requires
@@ -24,7 +27,7 @@ high-link-of-requires c κs = search needs
 
 -- src/down.rt:38:9
 part-requires-2 : tie.Need-part-requires-2
-part-requires-2 c κs = search needs
+part-requires-2 c κs = join-high (c .before .before .before .before .before .before .before .pre) (c .high-link-of .result .0) (c .high-link-of .ensures)
 
 -- src/down.rt:39:9
 add-requires : tie.Need-add-requires
@@ -32,7 +35,7 @@ add-requires c κs = search needs
 
 -- src/down.rt:40:5
 note-requires : tie.Need-note-requires
-note-requires c κs = search needs
+note-requires c κs = join-in (c .before .before .before .before .before .before .before .before .before .before .pre)
 
 -- src/down.rt:33:1
 same-length : tie.Need-same-length
@@ -40,7 +43,7 @@ same-length c = search needs
 
 -- src/down.rt:33:1
 returns : tie.Need-returns
-returns c = ?
+returns c = join-done (c .before .before .before .before .before .before .before .before .before .before .before .before .before .pre) (c .before .before .before .before .before .before .before .before .before .low-link-of .result .0) (c .before .before .before .before .before .before .before .before .before .low-link-of .ensures) (c .before .before .before .before .before .before .before .before .part .ensures) (c .before .before .before .before .before .before .high-link-of .result .0) (c .before .before .before .before .before .before .high-link-of .ensures) (c .before .before .before .before .before .part2 .ensures) (c .before .before .before .before .add .ensures) (c .before .before .note .ensures)
 
 pub join-spec : {M : Type 1} → statement M
 join-spec =

@@ -9,10 +9,10 @@ use Rattle.weights.proofs.chains.next_of.Reads as next-of-reads
 use Rattle.weights.proofs.down.join.Reads as join-reads
 
 abbrev Inv-loop : tie.InvT-loop
-Inv-loop words heads room₀ nodes node₀ room node = ?
+Inv-loop words heads room₀ nodes variable node₀ room node = ?
 
 abbrev μ-loop : tie.MeasureT-loop
-μ-loop words heads room₀ nodes node₀ room node = ?
+μ-loop words heads room₀ nodes variable node₀ room node = ?
 
 -- src/down.rt:48:9
 head-of-requires : tie.Need-head-of-requires Inv-loop μ-loop

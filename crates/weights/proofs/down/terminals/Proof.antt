@@ -1,3 +1,6 @@
+use denote.Ref.{now}
+use mathlib.Core.Path.{refl, sym, _∙_, ap}
+use Rattle.weights.proofs.Descent.{sated-start}
 use native.Mathlib.Omega.{arith}
 use borrow.Author.Needs.{needs}
 use Rattle.weights.proofs.down.terminals.Statement.{statement}
@@ -14,7 +17,7 @@ zero-requires c κs = search needs
 
 -- src/down.rt:60:5
 note-requires : tie.Need-note-requires
-note-requires c κs = search needs
+note-requires c κs = omega (arith, c .before .before .before .before .before .pre .2, c .before .before .before .before .before .pre .0 .two)
 
 -- src/down.rt:61:38
 from-word-requires : tie.Need-from-word-requires
@@ -22,7 +25,7 @@ from-word-requires c κs = search needs
 
 -- src/down.rt:61:5
 note-requires-2 : tie.Need-note-requires-2
-note-requires-2 c κs = search needs
+note-requires-2 c κs = omega (arith, c .before .before .before .before .before .before .before .before .before .before .pre .2, c .before .before .before .before .before .before .before .before .before .before .pre .0 .two, c .before .before .before .before .note .kept .0)
 
 -- src/down.rt:56:1
 same-length : tie.Need-same-length
@@ -30,7 +33,7 @@ same-length c = search needs
 
 -- src/down.rt:56:1
 returns : tie.Need-returns
-returns c = ?
+returns c = sated-start (now (c .before .before .before .before .before .before .before .before .before .before .before .before .before .args .words)) (now (c .before .before .before .before .before .before .before .before .before .before .before .before .before .args .heads)) (c .before .before .before .before .before .before .before .before .before .before .before .before .before .args .nodes) (c .before .before .before .before .before .before .before .before .before .before .before .before .before .pre .0) (c .before .before .before .before .before .before .before .before .before .before .before .before .before .pre .1) (c .before .before .before .before .before .before .before .before .before .before .before .before .before .pre .2) (c .before .before .before .before .before .before .before .note .ensures 0 (c .before .before .before .before .before .before .before .before .zero .ensures)) (c .before .before .note2 .ensures 1 (c .before .before .before .from-word .ensures))
 
 pub terminals-spec : {M : Type 1} → statement M
 terminals-spec =

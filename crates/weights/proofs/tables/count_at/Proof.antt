@@ -1,3 +1,6 @@
+use denote.Ref.{now}
+use mathlib.Core.Path.{refl, sym, _∙_, ap}
+use Rattle.weights.proofs.Entries.{count-read}
 use native.Mathlib.Omega.{arith}
 use borrow.Author.Needs.{needs}
 use Rattle.weights.proofs.tables.count_at.Statement.{statement}
@@ -25,7 +28,7 @@ load-requires c κs = search needs
 
 -- src/tables.rt:16:1
 returns : tie.Need-returns
-returns c = ?
+returns c = count-read (c .before .before .before .before .args .base) (now (c .before .before .before .before .args .table)) (c .before .before .before .before .args .node .0) (c .before .before .to-index .result) (c .before .before .to-index .ensures) (c .before .before .before .before .pre) (c .before .load .ensures)
 
 pub count-at-spec : {M : Type 1} → statement M
 count-at-spec = tie.close (tie.spec to-index-requires mul-load add-load load-requires returns)

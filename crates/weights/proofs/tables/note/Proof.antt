@@ -1,3 +1,6 @@
+use denote.Ref.{now}
+use mathlib.Core.Path.{refl, sym, _∙_, ap}
+use Rattle.weights.proofs.Entries.{note-done}
 use native.Mathlib.Omega.{arith}
 use borrow.Author.Needs.{needs}
 use Rattle.weights.proofs.tables.note.Statement.{statement}
@@ -29,7 +32,7 @@ same-length c = search needs
 
 -- src/tables.rt:25:1
 returns : tie.Need-returns
-returns c = ?
+returns c = note-done (c .before .before .before .before .before .before .args .base) (now (c .before .before .before .before .before .before .args .table)) (c .before .before .before .before .before .before .args .node .0) (c .before .before .before .to-index .result) (c .before .before .before .to-index .ensures) (c .before .before .before .before .before .before .pre) (c .before .before .store .ensures)
 
 pub note-spec : {M : Type 1} → statement M
 note-spec =

@@ -1,3 +1,6 @@
+use denote.Ref.{now}
+use mathlib.Core.Path.{refl, sym, _∙_, ap}
+use Rattle.weights.proofs.Entries.{scaled-done}
 use native.Mathlib.Omega.{arith}
 use borrow.Author.Needs.{needs}
 use Rattle.weights.proofs.tables.scaled.Statement.{statement}
@@ -29,7 +32,7 @@ shift-left-requires c κs = search needs
 
 -- src/tables.rt:33:1
 returns : tie.Need-returns
-returns c = ?
+returns c = scaled-done (now (c .before .before .before .before .before .before .before .args .words)) (c .before .before .before .before .before .before .before .args .node .0) (c .before .before .before .before .before .before .before .args .child .0) _ (c .before .before .before .before .before .var-of .result .0) (c .before .before .before .before .var-of2 .result .0) (c .before .before .before .before .before .var-of .ensures) (c .before .before .before .before .var-of2 .ensures) (c .before .shift-left .ensures) (c .before .before .before .before .before .before .before .pre .1)
 
 pub scaled-spec : {M : Type 1} → statement M
 scaled-spec =

@@ -1,3 +1,6 @@
+use denote.Ref.{now}
+use mathlib.Core.Path.{refl, sym, _∙_, ap}
+use Rattle.weights.proofs.Ascent.{begin-in, begin-done}
 use native.Mathlib.Omega.{arith}
 use borrow.Author.Needs.{needs}
 use Rattle.weights.proofs.up.begin.Statement.{statement}
@@ -19,7 +22,7 @@ clear-requires c κs = search needs
 
 -- src/up.rt:68:28
 sub-t10 : tie.Need-sub-t10
-sub-t10 c = search needs
+sub-t10 c = omega (arith, c .before .before .before .before .before .before .pre .0 .two)
 
 -- src/up.rt:68:27
 cast-t11 : tie.Need-cast-t11
@@ -35,7 +38,7 @@ power-of-two-requires c κs = search needs
 
 -- src/up.rt:71:5
 note-requires : tie.Need-note-requires
-note-requires c κs = search needs
+note-requires c κs = begin-in (c .before .before .before .before .before .before .before .before .before .pre .0) (now (c .before .before .before .before .before .before .before .before .before .args .output)) _ (c .before .before .before .before .before .before .before .before .before .pre .1) (c .before .before .before .before .before .clear .ensures)
 
 -- src/up.rt:63:1
 same-length : tie.Need-same-length
@@ -43,7 +46,7 @@ same-length c = search needs
 
 -- src/up.rt:63:1
 returns : tie.Need-returns
-returns c = ?
+returns c = begin-done (c .before .before .before .before .before .before .before .before .before .before .before .before .pre .0) (now (c .before .before .before .before .before .before .before .before .before .before .before .before .args .output)) _ (c .before .before .before .before .before .before .before .before .before .before .before .before .pre .1) (c .before .before .before .before .before .before .before .before .clear .ensures) (c .before .before .before .before .before .var-of .result .0) (c .before .before .before .before .before .var-of .ensures) (c .before .before .before .before .power-of-two .ensures) (c .before .before .note .ensures)
 
 pub begin-spec : {M : Type 1} → statement M
 begin-spec =

@@ -1,3 +1,6 @@
+use denote.Ref.{now}
+use mathlib.Core.Path.{refl, sym, _∙_, ap}
+use Rattle.weights.proofs.Ascent.{give-done}
 use native.Mathlib.Omega.{arith}
 use borrow.Author.Needs.{needs}
 use Rattle.weights.proofs.up.give.Statement.{statement}
@@ -11,11 +14,11 @@ use Rattle.weights.proofs.tables.scaled.Reads as scaled-reads
 
 -- src/up.rt:32:9
 scaled-requires : tie.Need-scaled-requires
-scaled-requires c κs = search needs
+scaled-requires c κs = (c .before .before .pre .above, omega (arith, c .before .before .pre .fits))
 
 -- src/up.rt:33:9
 count-at-requires : tie.Need-count-at-requires
-count-at-requires c κs = search needs
+count-at-requires c κs = c .before .before .before .before .pre .inside
 
 -- src/up.rt:34:9
 add-requires : tie.Need-add-requires
@@ -23,7 +26,7 @@ add-requires c κs = search needs
 
 -- src/up.rt:35:5
 note-requires : tie.Need-note-requires
-note-requires c κs = search needs
+note-requires c κs = c .before .before .before .before .before .before .before .pre .inside
 
 -- src/up.rt:28:1
 same-length : tie.Need-same-length
@@ -31,7 +34,7 @@ same-length c = search needs
 
 -- src/up.rt:28:1
 returns : tie.Need-returns
-returns c = ?
+returns c = give-done (c .before .before .before .before .before .before .before .before .before .before .pre) (c .before .before .before .before .before .count-at .ensures) (c .before .before .before .before .before .before .before .scaled .ensures) (c .before .before .before .before .add .ensures) (c .before .before .note .ensures)
 
 pub give-spec : {M : Type 1} → statement M
 give-spec =

@@ -9,10 +9,10 @@ use Rattle.weights.proofs.chains.next_of.Reads as next-of-reads
 use Rattle.weights.proofs.up.pass_on.Reads as pass-on-reads
 
 abbrev Inv-loop : tie.InvT-loop
-Inv-loop words heads room output₀ nodes node₀ output node = ?
+Inv-loop words heads room output₀ nodes variable node₀ output node = ?
 
 abbrev μ-loop : tie.MeasureT-loop
-μ-loop words heads room output₀ nodes node₀ output node = ?
+μ-loop words heads room output₀ nodes variable node₀ output node = ?
 
 -- src/up.rt:55:9
 head-of-requires : tie.Need-head-of-requires Inv-loop μ-loop

@@ -1,3 +1,6 @@
+use denote.Ref.{now}
+use mathlib.Core.Path.{refl, sym, _∙_, ap}
+use Rattle.weights.proofs.Ascent.{turn-in, turn-weight, turn-low, turn-high, turn-done}
 use native.Mathlib.Omega.{arith}
 use borrow.Author.Needs.{needs}
 use Rattle.weights.proofs.up.pass_on.Statement.{statement}
@@ -13,11 +16,11 @@ use Rattle.weights.proofs.up.give.Reads as give-reads
 
 -- src/up.rt:43:9
 count-at-requires : tie.Need-count-at-requires
-count-at-requires c κs = search needs
+count-at-requires c κs = turn-in (c .before .before .before .before .pre) .0
 
 -- src/up.rt:44:37
 count-at-requires-2 : tie.Need-count-at-requires-2
-count-at-requires-2 c κs = search needs
+count-at-requires-2 c κs = turn-in (c .before .before .before .before .before .pre) .1
 
 -- src/up.rt:44:9
 multiply-requires : tie.Need-multiply-requires
@@ -25,7 +28,7 @@ multiply-requires c κs = search needs
 
 -- src/up.rt:45:5
 note-requires : tie.Need-note-requires
-note-requires c κs = search needs
+note-requires c κs = turn-in (c .before .before .before .before .before .before .before .before .pre) .0
 
 -- src/up.rt:46:31
 low-link-of-requires : tie.Need-low-link-of-requires
@@ -33,7 +36,7 @@ low-link-of-requires c κs = search needs
 
 -- src/up.rt:46:5
 give-requires : tie.Need-give-requires
-give-requires c κs = search needs
+give-requires c κs = turn-low (c .before .before .before .before .before .before .before .before .before .before .before .before .before .pre) (c .before .before .before .before .note .ensures _ (turn-weight (c .before .before .before .before .before .before .before .before .before .before .before .before .before .pre) (c .before .before .before .before .before .before .before .before .count-at .ensures) (c .before .before .before .before .before .before .before .count-at2 .ensures) (c .before .before .before .before .before .before .multiply .ensures))) (c .before .before .before .before .before .before .before .before .count-at .ensures) (c .low-link-of .result .0) (c .low-link-of .ensures)
 
 -- src/up.rt:47:31
 high-link-of-requires : tie.Need-high-link-of-requires
@@ -41,7 +44,7 @@ high-link-of-requires c κs = search needs
 
 -- src/up.rt:47:5
 give-requires-2 : tie.Need-give-requires-2
-give-requires-2 c κs = search needs
+give-requires-2 c κs = turn-high (c .before .before .before .before .before .before .before .before .before .before .before .before .before .before .before .before .before .before .pre) (c .before .before .before .before .before .before .before .before .before .note .ensures _ (turn-weight (c .before .before .before .before .before .before .before .before .before .before .before .before .before .before .before .before .before .before .pre) (c .before .before .before .before .before .before .before .before .before .before .before .before .before .count-at .ensures) (c .before .before .before .before .before .before .before .before .before .before .before .before .count-at2 .ensures) (c .before .before .before .before .before .before .before .before .before .before .before .multiply .ensures))) (c .before .before .before .before .before .before .before .before .before .before .before .before .before .count-at .ensures) (c .before .before .before .before .before .low-link-of .result .0) (c .before .before .before .before .before .low-link-of .ensures) (c .before .before .before .before .give .ensures) (c .high-link-of .result .0) (c .high-link-of .ensures)
 
 -- src/up.rt:39:1
 same-length : tie.Need-same-length
@@ -49,7 +52,7 @@ same-length c = search needs
 
 -- src/up.rt:39:1
 returns : tie.Need-returns
-returns c = ?
+returns c = turn-done (c .before .before .before .before .before .before .before .before .before .before .before .before .before .before .before .before .before .before .before .before .before .pre) (c .before .before .before .before .before .before .before .before .before .before .before .before .note .ensures _ (turn-weight (c .before .before .before .before .before .before .before .before .before .before .before .before .before .before .before .before .before .before .before .before .before .pre) (c .before .before .before .before .before .before .before .before .before .before .before .before .before .before .before .before .count-at .ensures) (c .before .before .before .before .before .before .before .before .before .before .before .before .before .before .before .count-at2 .ensures) (c .before .before .before .before .before .before .before .before .before .before .before .before .before .before .multiply .ensures))) (c .before .before .before .before .before .before .before .before .before .before .before .before .before .before .before .before .count-at .ensures) (c .before .before .before .before .before .before .before .before .low-link-of .result .0) (c .before .before .before .before .before .before .before .before .low-link-of .ensures) (c .before .before .before .before .before .before .before .give .ensures) (c .before .before .before .high-link-of .result .0) (c .before .before .before .high-link-of .ensures) (c .before .before .give2 .ensures)
 
 pub pass-on-spec : {M : Type 1} → statement M
 pass-on-spec =
