@@ -16,7 +16,7 @@ use Rattle.diagram.proofs.Tests.{by-eq}
 use Rattle.diagram.proofs.Reading.{Layer, layered, root-in, var-most, by-two}
 use Rattle.weights.specs.Weighed.{Weighed}
 use Rattle.weights.specs.Chains.{Last, Given, Node}
-use Rattle.weights.specs.Passes.{entry, num, In, Noted, satOf, skip, scaled, Sated, throughOf, dot, Todo, Passing, Passed, Turning, Ascending, AtUp, Giving}
+use Rattle.weights.specs.Passes.{entry, num, In, Noted, satOf, skip, scaled, Sated, throughOf, dot, Todo, Passing, Passed, Turning, Ascending, AtUp, Giving, Rising}
 use Rattle.weights.proofs.Dots.{bump, bump-here, bump-other, bump-least, without, without-here, without-other, dot-least, dot-only, dot-moved}
 use Rattle.weights.proofs.Levels.{Shared, sat-end, through-node, through-self, through-none, weight-through, all-node, all-root, weight-most, under-limit}
 use Rattle.weights.proofs.Entries.{zero-entry, zero-rest}
@@ -376,3 +376,16 @@ module _ {w : List ℕ} {n : ℕ} (given : Given w n) (out zeros : List ℕ) (lo
       let power : 2 ^ above ≡ 2 ^ varOf w (n - 1) = ap (λ (k : ℕ). 2 ^ k) e in
       let fits : 2 ^ varOf w (n - 1) < limit = rw root-is (root-fits w (given .ordered)) in
       start-passing w n given out zeros long cleared (note (2 ^ varOf w (n - 1)) (fitted-below (rw power at a) fits .1))
+
+-- ---- all variables
+
+pub passed-self : {w before out : List ℕ} {c b : ℕ} → Passed w before out c b → Passed w out out c b
+passed-self s = record { passing = s .passing; rest = refl }
+
+pub passed-join : {w before out after : List ℕ} {c b d e : ℕ} → Passed w before out c b → Passed w out after d e → Passed w before after d e
+passed-join s t = record { passing = t .passing; rest = t .rest ∙ s .rest }
+
+pub all-up : {w heads room out before now : List ℕ} {n v c : ℕ} → Rising w heads room out n v → c < v → Passed w before now c (size w)
+    → Ascending w heads room now n c
+all-up r l s =
+    record { given = r .given; level = omega (arith, r .variables); head = r .head; sated = r .sated; passing = s .passing }

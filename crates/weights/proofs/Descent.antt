@@ -158,3 +158,14 @@ part-asks k h = (k .above, rw (h .worth) (k .fits))
 pub part-done : (w room : List ℕ) (n p q : ℕ) {x : List ℕ} → Holds (num n room q) x → {y : List ℕ} → Holds (scaled w p q (value x)) y
     → Holds (scaled w p q (num n room q)) y
 part-done w room n p q h g = holds-as (ap (λ (z : ℕ). scaled w p q z) (h .worth)) g
+
+-- ---- all variables
+
+pub heads-all : {w heads nexts : List ℕ} {n : ℕ} → Given w n → Linked w heads nexts n → (c : ℕ) → c < vars w → Last w c (size w) (getD heads c 0)
+heads-all given l c h = rw (given .nodes) at (l .head c h)
+
+pub all-down : {w heads nexts room : List ℕ} {n v c : ℕ} → Given w n → Linked w heads nexts n → v ≡ vars w → c ≤ v → 0 < c → Sated w room c 0
+    → Descending w heads room n (c - 1)
+all-down {c = c} given l e below some s =
+    let back : c ≡ suc (c - 1) = omega arith in
+    record { given = given; level = omega arith; head = heads-all given l; sated = rw back at s }
