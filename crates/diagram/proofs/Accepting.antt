@@ -1,20 +1,20 @@
 -- What an acceptance by each check tells, and how a refusal is passed on.
-use Prim.Native.Nat.{ℕ, _+_, _-_, _*_, _/_, _%_, _≤_, _<_, max}
+use Prim.Native.Nat.{ℕ, _-_, _*_, _%_, _≤_, _<_, max}
 use mathlib.Core.Path.{_≡_, refl, sym, _∙_, ap}
 use mathlib.Core.Bool.{Bool, true, false, not, _&&_}
 use mathlib.Core.List.{List, _++_}
 use native.Mathlib.Omega.{arith}
-use borrow.Author.Tests.{ltb-true, ltb-false, leb-false, eqb-true, eqb-false, not-false, lt-ltb}
+use borrow.Author.Tests.{ltb-false, leb-false, eqb-true, eqb-false, not-false, lt-ltb}
 use lib.ListN.{length, drop, replicate}
 use lib.Dec.{leb, ltb, eqb}
 use Rattle.diagram.specs.Limits.{maxNodes, maxVariables}
-use Rattle.diagram.specs.Diagram.{varOf, lowOf, highOf, size, vars, root, Terminal, InRange, Formed}
-use Rattle.diagram.specs.Verdict.{Outcome, said, Checked, accepted, refused, row, andThen, most, roomOf, short, lengthsOf, isTerminal, terminalsOf, first, firstNode, faultOf, rangesOf, graphOf, contentsOf, verdictOf, ifAccepted, cleared, roomAfter}
+use Rattle.diagram.specs.Diagram.{varOf, lowOf, highOf, size, vars, Terminal, InRange, Formed}
+use Rattle.diagram.specs.Verdict.{Outcome, said, Checked, accepted, refused, row, roomOf, short, lengthsOf, isTerminal, terminalsOf, firstNode, faultOf, rangesOf, graphOf, contentsOf, verdictOf}
 use Rattle.diagram.specs.Marking.{Sized}
 use Rattle.diagram.specs.declared.verdict.Output.{Output}
 use Rattle.diagram.specs.declared.verdict.Verdict.{Verdict}
 use Rattle.diagram.specs.declared.verdict.Verdict.the-variants.{Accepted, Refused}
-use Rattle.diagram.proofs.Tests.{by-test, not-both, and-both, cond-true, cond-false}
+use Rattle.diagram.proofs.Tests.{by-test, and-both, cond-true, cond-false}
 use Rattle.diagram.proofs.Count.{first-least}
 
 never : (n v k p : ℕ) → refused k p ≡ accepted n v → ⊥

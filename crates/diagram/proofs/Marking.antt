@@ -1,20 +1,20 @@
 -- The search for reachable nodes: what a push, a pop and a visit keep, and what the marks say in the end.
-use Prim.Native.Nat.{ℕ, zero, suc, _+_, _-_, _*_, _≤_, _<_, min}
-use mathlib.Core.Path.{_≡_, refl, sym, _∙_, ap, subst}
-use mathlib.Core.Bool.{Bool, true, false, cond, not}
+use Prim.Native.Nat.{ℕ, suc, _+_, _-_, _*_, _≤_, _<_, min}
+use mathlib.Core.Path.{_≡_, sym, _∙_, ap}
+use mathlib.Core.Bool.{false, not}
 use mathlib.Core.List.{List, _++_}
 use mathlib.Core.Logic.{_⊎_, _≢_, inl, inr, ⊎-elim}
 use native.Mathlib.Omega.{arith}
 use native.Mathlib.Numerals.{add-one}
-use borrow.Author.Tests.{eq-eqb, ne-eqb, eqb-true, eqb-false}
+use borrow.Author.Tests.{eq-eqb, ne-eqb}
 use lib.ListN.{length, getD, set, drop, replicate, length-set, length-append, length-replicate, length-drop, getD-replicate, List·getD-append}
 use lib.Seq.{getD-set-same, getD-set-other}
 use lib.Dec.{eqb}
 use Rattle.diagram.specs.Diagram.{lowOf, highOf, size, root, Reach, start, by-low, by-high, Formed}
 use Rattle.diagram.specs.Verdict.{reaches}
 use Rattle.diagram.specs.Marking.{zeros, Marked, OnStack, pushed, pushedTop, Working, Onward, Marks}
-use Rattle.diagram.proofs.Tests.{by-test, by-eq, not-both, cond-true, cond-false}
-use Rattle.diagram.proofs.Count.{count-most, count-same, count-less}
+use Rattle.diagram.proofs.Tests.{by-test, by-eq, cond-true, cond-false}
+use Rattle.diagram.proofs.Count.{count-most, count-less}
 use Rattle.diagram.proofs.Reaching.{reaches-sound, reaches-complete}
 
 -- what a push gives: the search goes on, and the node has its mark

@@ -1,17 +1,16 @@
 -- What the verdict means in document 01's words: accepted exactly where the words are a diagram that it accepts, and
 -- 11 and 12 at the smallest node, in terms of `Reach`.
-use Prim.Native.Nat.{ℕ, _+_, _-_, _*_, _%_, _≤_, _<_}
+use Prim.Native.Nat.{ℕ, _-_, _%_, _≤_, _<_}
 use mathlib.Core.Path.{_≡_, refl, sym, _∙_, ap}
-use mathlib.Core.Bool.{Bool, true, false, not, _&&_, _||_}
+use mathlib.Core.Bool.{Bool, true, false, not, _&&_}
 use mathlib.Core.List.{List}
 use mathlib.Core.Logic.{_↔_}
 use native.Mathlib.Omega.{arith}
-use borrow.Author.Tests.{ltb-true, ltb-false, lt-ltb, le-ltb, lt-leb, eq-eqb, ne-eqb, not-true, not-false}
+use borrow.Author.Tests.{ltb-true, ltb-false, lt-ltb, le-ltb, eq-eqb, ne-eqb, not-true, not-false}
 use lib.ListN.{length}
-use lib.Dec.{leb, ltb, eqb}
-use Rattle.diagram.specs.Limits.{maxNodes, maxVariables}
+use lib.Dec.{ltb, eqb}
 use Rattle.diagram.specs.Diagram.{varOf, lowOf, highOf, size, vars, root, Reach, Terminal, Above, Formed, Accepted}
-use Rattle.diagram.specs.Verdict.{Outcome, accepted, refused, row, andThen, roomOf, short, lengthsOf, isTerminal, terminalsOf, first, firstNode, faultOf, rangesOf, reaches, isAbove, isBroken, graphOf, contentsOf, verdictOf}
+use Rattle.diagram.specs.Verdict.{Outcome, accepted, refused, row, andThen, roomOf, short, lengthsOf, isTerminal, terminalsOf, firstNode, faultOf, rangesOf, reaches, isAbove, isBroken, graphOf, contentsOf, verdictOf}
 use Rattle.diagram.specs.declared.verdict.Output.{Output}
 use Rattle.diagram.proofs.Tests.{by-test, not-both, and-both, both-and}
 use Rattle.diagram.proofs.Count.{first-from, first-least, first-passes, first-is}
@@ -20,7 +19,7 @@ use Rattle.diagram.proofs.Reaching.{reaches-sound, reaches-complete}
 use Rattle.diagram.proofs.Accepting.{lengths-accepted, lent-accepted, terminals-accepted, ranges-accepted}
 
 -- `isAbove` says `Above`
-above-told : (w : List ℕ) (p : ℕ) → isAbove w p ≡ true → Above w p
+pub above-told : (w : List ℕ) (p : ℕ) → isAbove w p ≡ true → Above w p
 unfolding isAbove
 above-told w p e =
     let b = and-both (ltb (varOf w p) (varOf w (lowOf w p))) (ltb (varOf w p) (varOf w (highOf w p))) e in
@@ -183,7 +182,7 @@ module _ (w : List ℕ) (formed : Formed w) where
         reached = λ p two m. reaches-sound w p (reached p two m);
       })
 
-  accepted-graph : Accepted w → graphOf w ≡ accepted (size w) (vars w)
+  pub accepted-graph : Accepted w → graphOf w ≡ accepted (size w) (vars w)
   unfolding broken-at lost-at
   accepted-graph a =
       graph-ok

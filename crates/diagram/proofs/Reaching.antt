@@ -1,8 +1,8 @@
 -- The test `reaches` of the verdict says `Reach`: as many links as there are nodes reach all that can be reached, since
 -- each further link that reaches anything new reaches one node more.
-use Prim.Native.Nat.{ℕ, zero, suc, _+_, _-_, _*_, _≤_, _<_}
-use mathlib.Core.Path.{_≡_, refl, sym, _∙_, ap, subst}
-use mathlib.Core.Bool.{Bool, true, false, not, _&&_, _||_}
+use Prim.Native.Nat.{ℕ, zero, suc, _+_, _-_, _≤_, _<_}
+use mathlib.Core.Path.{_≡_, refl, sym, subst}
+use mathlib.Core.Bool.{true, _&&_, _||_}
 use mathlib.Core.List.{List}
 use mathlib.Core.Logic.{_⊎_, inl, inr, ⊎-elim}
 use native.Mathlib.Omega.{arith}
@@ -11,7 +11,7 @@ use lib.Dec.{leb, eqb}
 use Rattle.diagram.specs.Diagram.{lowOf, highOf, size, root, Reach, start, by-low, by-high, Formed}
 use Rattle.diagram.specs.Verdict.{any, isChild, reachedIn, reaches}
 use Rattle.diagram.specs.Marking.{count}
-use Rattle.diagram.proofs.Tests.{by-test, or-left, or-right, or-cases, and-both, both-and}
+use Rattle.diagram.proofs.Tests.{or-left, or-right, or-cases, and-both, both-and}
 use Rattle.diagram.proofs.Count.{count-most, count-some, count-grows, any-intro, any-elim}
 
 module _ (w : List ℕ) where

@@ -1,17 +1,17 @@
 -- Each return of the checks is its row of the verdict, by the tests that led there.
 use Prim.Native.Nat.{ℕ, _+_, _-_, _*_, _/_, _%_, _≤_, _<_, max}
-use mathlib.Core.Path.{_≡_, refl, sym, _∙_, ap}
-use mathlib.Core.Bool.{Bool, true, false, cond, not, _&&_}
+use mathlib.Core.Path.{_≡_, sym, _∙_, ap}
+use mathlib.Core.Bool.{Bool, true, false, not, _&&_}
 use mathlib.Core.List.{List}
 use native.Mathlib.Omega.{arith}
 use native.Mathlib.Nat.{add-comm}
-use borrow.Author.Tests.{lt-ltb, le-ltb, le-leb, lt-leb, eq-eqb, ne-eqb, leb-false}
+use borrow.Author.Tests.{lt-ltb, le-ltb, le-leb, lt-leb, eq-eqb, ne-eqb}
 use lib.ListN.{length, getD, take, drop, length-take, length-drop}
 use lib.Seq.{getD-take, getD-drop}
-use lib.Dec.{leb, ltb, eqb}
+use lib.Dec.{ltb, eqb}
 use Rattle.diagram.specs.Limits.{maxNodes}
 use Rattle.diagram.specs.Diagram.{varOf, lowOf, highOf, size, vars}
-use Rattle.diagram.specs.Verdict.{Outcome, accepted, refused, row, short, lengthsOf, isTerminal, terminalsOf, first, firstNode, faultOf, rangesOf, reaches, isBroken, graphOf}
+use Rattle.diagram.specs.Verdict.{accepted, refused, row, short, lengthsOf, isTerminal, terminalsOf, first, firstNode, faultOf, rangesOf, reaches, isBroken, graphOf}
 use Rattle.diagram.specs.Marking.{Marks}
 use Rattle.diagram.specs.declared.verdict.Output.{Output}
 use Rattle.diagram.specs.declared.verdict.Output.the-variants.{Nothing, Diagram, Weights, PerVariable}

@@ -1,7 +1,7 @@
 -- The verdict on any words (document 01, "Numbers of refusal"): the checks in their order, each with its number and place.
-use Prim.Native.Nat.{ℕ, zero, suc, _+_, _-_, _*_, _%_, max}
+use Prim.Native.Nat.{ℕ, zero, suc, _-_, _*_, _%_, max}
 use mathlib.Core.Path.{_≡_}
-use mathlib.Core.Bool.{Bool, true, false, cond, not, _&&_, _||_}
+use mathlib.Core.Bool.{Bool, false, cond, not, _&&_, _||_}
 use mathlib.Core.List.{List, _++_}
 use lib.ListN.{length, drop, replicate}
 use lib.Dec.{leb, ltb, eqb}

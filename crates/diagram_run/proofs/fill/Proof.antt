@@ -1,12 +1,11 @@
-use Prim.Native.Nat.{_≤_, _<_, _-_}
+-- `diagram_run::fill` meets its contract.
+use Prim.Native.Nat.{_-_}
 use lib.ListN.{length, length-set}
 use mathlib.Core.Path.{_≡_, refl, _∙_}
 use borrow.Author.Needs.{needs}
 use native.Mathlib.Omega.{arith}
 use Rattle.diagram_run.proofs.fill.Statement.{statement}
 use Rattle.diagram_run.proofs.fill.Tie as tie
-use Rattle.diagram_run.proofs.fill.Reads as reads
-use Rattle.diagram_run.proofs.fill.Lts as lts
 
 abbrev Inv-loop : tie.InvT-loop
 Inv-loop room₀ word i₀ room i = length room ≡ length room₀
@@ -14,35 +13,27 @@ Inv-loop room₀ word i₀ room i = length room ≡ length room₀
 abbrev μ-loop : tie.MeasureT-loop
 μ-loop room₀ word i₀ room i = length room₀ - i
 
--- src/main.rt:100:5
 loop-holds : tie.Need-loop-holds Inv-loop μ-loop
 loop-holds c = refl
 
--- src/main.rt:101:9
 mul-room : tie.Need-mul-room Inv-loop μ-loop
 mul-room c = search needs
 
--- src/main.rt:101:9
 slice-write-room : tie.Need-slice-write-room Inv-loop μ-loop
 slice-write-room c = search needs
 
--- src/main.rt:102:9
 add-i : tie.Need-add-i Inv-loop μ-loop
 add-i c = search needs
 
--- src/main.rt:100:5
 loop-less : tie.Need-loop-less Inv-loop μ-loop
 loop-less c = omega (arith, c .before .loop .inv)
 
--- src/main.rt:100:5
 loop-again : tie.Need-loop-again Inv-loop μ-loop
 loop-again c = length-set (c .before .loop .room) (c .before .loop .i) (c .before .before .args .word) ∙ c .before .loop .inv
 
--- src/main.rt:98:1
 same-length : tie.Need-same-length Inv-loop μ-loop
 same-length c = c .before .loop .inv
 
--- src/main.rt:98:1
 returns : tie.Need-returns Inv-loop μ-loop
 returns c = search needs
 

@@ -1,13 +1,10 @@
+-- `diagram_run::number` meets its contract.
 use Prim.Native.Nat.{_≤_, _<_, _-_}
 use lib.ListN.{length}
 use borrow.Author.Needs.{needs}
 use native.Mathlib.Omega.{arith}
 use Rattle.diagram_run.proofs.number.Statement.{statement}
 use Rattle.diagram_run.proofs.number.Tie as tie
-use Rattle.diagram_run.proofs.number.Reads as reads
-use Rattle.diagram_run.proofs.number.Lts as lts
-use Rattle.diagram_run.proofs.is_digit.Reads as is-digit-reads
-use Rattle.diagram_run.proofs.with_digit.Reads as with-digit-reads
 
 abbrev Inv-loop : tie.InvT-loop
 Inv-loop text from value₀ at₀ value at = (from ≤ at) × (at ≤ length text) × (value < 4294967296) × (from < length text)
@@ -15,51 +12,39 @@ Inv-loop text from value₀ at₀ value at = (from ≤ at) × (at ≤ length tex
 abbrev μ-loop : tie.MeasureT-loop
 μ-loop text from value₀ at₀ value at = length text - at
 
--- src/main.rt:48:5
 loop-holds : tie.Need-loop-holds Inv-loop μ-loop
 loop-holds c = omega (arith, c .before .pre)
 
--- src/main.rt:49:20
 shared-slice-read-byte : tie.Need-shared-slice-read-byte Inv-loop μ-loop
 shared-slice-read-byte c = search needs
 
--- src/main.rt:50:13
 is-digit-requires : tie.Need-is-digit-requires Inv-loop μ-loop
 is-digit-requires c κs = search needs
 
--- src/main.rt:52:24
 cast-t11 : tie.Need-cast-t11 Inv-loop μ-loop
 cast-t11 c = omega arith
 
--- src/main.rt:53:23
 add-t12 : tie.Need-add-t12 Inv-loop μ-loop
 add-t12 c = search needs
 
--- src/main.rt:51:13
 returns : tie.Need-returns Inv-loop μ-loop
 returns c = omega arith
 
--- src/main.rt:56:9
 with-digit-requires : tie.Need-with-digit-requires Inv-loop μ-loop
 with-digit-requires c κs = omega arith
 
--- src/main.rt:57:9
 add-at : tie.Need-add-at Inv-loop μ-loop
 add-at c = search needs
 
--- src/main.rt:48:5
 loop-less : tie.Need-loop-less Inv-loop μ-loop
 loop-less c = omega arith
 
--- src/main.rt:48:5
 loop-again : tie.Need-loop-again Inv-loop μ-loop
 loop-again c = omega (arith, c .with-digit .ensures)
 
--- src/main.rt:60:16
 cast-t13 : tie.Need-cast-t13 Inv-loop μ-loop
 cast-t13 c = omega arith
 
--- src/main.rt:42:1
 returns-2 : tie.Need-returns-2 Inv-loop μ-loop
 returns-2 c = omega arith
 

@@ -1,114 +1,84 @@
+-- `diagram_run::one_line` meets its contract.
 use denote.Ref.{now}
 use Prim.Native.Nat.{_≤_}
 use mathlib.Core.Path.{sym}
 use lib.ListN.{length}
 use lib.Seq.{length-take-le}
-use native.Mathlib.Omega.{arith}
 use borrow.Author.Needs.{needs}
 use Rattle.diagram_run.proofs.one_line.Statement.{statement}
 use Rattle.diagram_run.proofs.one_line.Tie as tie
-use Rattle.diagram_run.proofs.one_line.Reads as reads
-use Rattle.diagram_run.proofs.one_line.Lts as lts
-use Rattle.diagram_run.proofs.least.Reads as least-reads
-use Rattle.diagram_run.proofs.line_ends.Reads as line-ends-reads
-use Rattle.diagram_run.proofs.number.Reads as number-reads
-use Rattle.diagram_run.proofs.run_case.Reads as run-case-reads
-use Rattle.diagram_run.proofs.words_of.Reads as words-of-reads
 
--- src/main.rt:160:9
 number-requires : tie.Need-number-requires
 number-requires c κs = search needs
 
--- src/main.rt:163:9
 returns : tie.Need-returns
 returns c = search needs
 
--- src/main.rt:165:9
 number-requires-2 : tie.Need-number-requires-2
 number-requires-2 c κs = search needs
 
--- src/main.rt:167:22
 cast-least : tie.Need-cast-least
 cast-least c = search needs
 
--- src/main.rt:167:9
 least-requires : tie.Need-least-requires
 least-requires c κs = search needs
 
--- src/main.rt:168:8
 line-ends-requires : tie.Need-line-ends-requires
 line-ends-requires c κs = search needs
 
--- src/main.rt:169:18
 slice-reshare-prefix-run-case : tie.Need-slice-reshare-prefix-run-case
 slice-reshare-prefix-run-case c = search needs
 
--- src/main.rt:169:18
 slice-aggregate-run-case : tie.Need-slice-aggregate-run-case
 slice-aggregate-run-case c = search needs
 
--- src/main.rt:169:31
 slice-relend-prefix-run-case : tie.Need-slice-relend-prefix-run-case
 slice-relend-prefix-run-case c = search needs
 
--- src/main.rt:169:31
 slice-aggregate-run-case-2 : tie.Need-slice-aggregate-run-case-2
 slice-aggregate-run-case-2 c =
     let l : c .before .before .before .before .least .result ≤ length (now (c .before .before .before .before .before .before .before .before .before .before .before .before .args .room)) = c .before .before .before .before .least .ensures .1 in
     sym (length-take-le (c .before .before .before .before .least .result) (now (c .before .before .before .before .before .before .before .before .before .before .before .before .args .room)) l)
 
--- src/main.rt:169:9
 run-case-requires : tie.Need-run-case-requires
 run-case-requires c κs = search needs
 
--- src/main.rt:170:9
 same-length : tie.Need-same-length
 same-length c = search needs
 
--- src/main.rt:170:9
 same-length-2 : tie.Need-same-length-2
 same-length-2 c = search needs
 
--- src/main.rt:170:9
 returns-2 : tie.Need-returns-2
 returns-2 c = search needs
 
--- src/main.rt:172:9
 words-of-requires : tie.Need-words-of-requires
 words-of-requires c κs = search needs
 
--- src/main.rt:174:14
 slice-reshare-prefix-run-case-2 : tie.Need-slice-reshare-prefix-run-case-2
 slice-reshare-prefix-run-case-2 c = search needs
 
--- src/main.rt:174:14
 slice-aggregate-run-case-3 : tie.Need-slice-aggregate-run-case-3
 slice-aggregate-run-case-3 c =
     sym (length-take-le (c .before .before .before .words-of .result .count) (c .before .before .before .words-of .last .1 .1 .0) (c .before .before .before .words-of .ensures .0))
 
--- src/main.rt:174:31
 slice-relend-prefix-run-case-2 : tie.Need-slice-relend-prefix-run-case-2
 slice-relend-prefix-run-case-2 c = search needs
 
--- src/main.rt:174:31
 slice-aggregate-run-case-4 : tie.Need-slice-aggregate-run-case-4
 slice-aggregate-run-case-4 c =
     let l : c .before .before .before .before .before .before .before .before .least .result ≤ length (now (c .before .before .before .before .before .before .before .before .before .before .before .before .before .before .before .before .args .room)) = c .before .before .before .before .before .before .before .before .least .ensures .1 in
     sym (length-take-le (c .before .before .before .before .before .before .before .before .least .result) (now (c .before .before .before .before .before .before .before .before .before .before .before .before .before .before .before .before .args .room)) l)
 
--- src/main.rt:174:5
 run-case-requires-2 : tie.Need-run-case-requires-2
 run-case-requires-2 c κs = search needs
 
--- src/main.rt:156:1
 same-length-3 : tie.Need-same-length-3
 same-length-3 c = search needs
 
--- src/main.rt:156:1
 same-length-4 : tie.Need-same-length-4
 same-length-4 c = search needs
 
--- src/main.rt:156:1
 returns-3 : tie.Need-returns-3
 returns-3 c = search needs
 

@@ -1,14 +1,11 @@
-use Prim.Native.Nat.{_≤_, _<_, _-_}
+-- `diagram_run::words_of` meets its contract.
+use Prim.Native.Nat.{_≤_, _-_}
 use lib.ListN.{length, length-set}
 use mathlib.Core.Path.{_≡_, refl, _∙_}
 use borrow.Author.Needs.{needs}
 use native.Mathlib.Omega.{arith}
 use Rattle.diagram_run.proofs.words_of.Statement.{statement}
 use Rattle.diagram_run.proofs.words_of.Tie as tie
-use Rattle.diagram_run.proofs.words_of.Reads as reads
-use Rattle.diagram_run.proofs.words_of.Lts as lts
-use Rattle.diagram_run.proofs.line_ends.Reads as line-ends-reads
-use Rattle.diagram_run.proofs.number.Reads as number-reads
 
 abbrev Inv-loop : tie.InvT-loop
 Inv-loop text from words₀ count₀ at₀ words count at = (from ≤ at) × (at ≤ length text) × (count ≤ length words) × (length words ≡ length words₀)
@@ -16,60 +13,46 @@ Inv-loop text from words₀ count₀ at₀ words count at = (from ≤ at) × (at
 abbrev μ-loop : tie.MeasureT-loop
 μ-loop text from words₀ count₀ at₀ words count at = length text - at
 
--- src/main.rt:83:5
 loop-holds : tie.Need-loop-holds Inv-loop μ-loop
 loop-holds c = (omega arith, c .before .before .pre, omega arith, refl)
 
--- src/main.rt:85:13
 same-length : tie.Need-same-length Inv-loop μ-loop
 same-length c = c .before .before .loop .inv .3
 
--- src/main.rt:85:13
 returns : tie.Need-returns Inv-loop μ-loop
 returns c = omega arith
 
--- src/main.rt:87:13
 number-requires : tie.Need-number-requires Inv-loop μ-loop
 number-requires c κs = search needs
 
--- src/main.rt:88:9
 mul-words : tie.Need-mul-words Inv-loop μ-loop
 mul-words c = omega (arith, c .before .before .before .loop .inv .3, c .before .before .before .before .before .before .good)
 
--- src/main.rt:88:9
 slice-write-words : tie.Need-slice-write-words Inv-loop μ-loop
 slice-write-words c = search needs
 
--- src/main.rt:89:9
 add-count : tie.Need-add-count Inv-loop μ-loop
 add-count c = omega (arith, c .before .before .before .loop .inv .3, c .before .before .before .before .before .before .good)
 
--- src/main.rt:91:12
 line-ends-requires : tie.Need-line-ends-requires Inv-loop μ-loop
 line-ends-requires c κs = search needs
 
--- src/main.rt:92:13
 same-length-2 : tie.Need-same-length-2 Inv-loop μ-loop
 same-length-2 c = length-set (c .before .before .before .before .before .loop .words) (c .before .before .before .before .before .loop .count) (c .before .before .number .result .value) ∙ c .before .before .before .before .before .loop .inv .3
 
--- src/main.rt:92:13
 returns-2 : tie.Need-returns-2 Inv-loop μ-loop
 returns-2 c = simp length-set (omega (arith, c .before .before .number .ensures))
 
--- src/main.rt:83:5
 loop-less : tie.Need-loop-less Inv-loop μ-loop
 loop-less c = omega (arith, c .before .before .number .ensures)
 
--- src/main.rt:83:5
 loop-again : tie.Need-loop-again Inv-loop μ-loop
 loop-again c =
     (omega (arith, c .before .before .number .ensures), c .before .before .number .ensures .1, simp length-set (omega (arith, c .before .before .before .if1 .left)), length-set (c .before .before .before .before .before .loop .words) (c .before .before .before .before .before .loop .count) (c .before .before .number .result .value) ∙ c .before .before .before .before .before .loop .inv .3)
 
--- src/main.rt:77:1
 same-length-3 : tie.Need-same-length-3 Inv-loop μ-loop
 same-length-3 c = c .before .loop .inv .3
 
--- src/main.rt:77:1
 returns-3 : tie.Need-returns-3 Inv-loop μ-loop
 returns-3 c = omega arith
 

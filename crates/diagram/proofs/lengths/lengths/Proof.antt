@@ -1,59 +1,44 @@
+-- `diagram::lengths::lengths` meets its contract.
 use denote.Ref.{now}
 use Rattle.diagram.proofs.Rows.{refuse-1, refuse-2, refuse-3, refuse-4, refuse-5, pass-5}
-use native.Mathlib.Omega.{arith}
 use borrow.Author.Needs.{needs}
 use Rattle.diagram.proofs.lengths.lengths.Statement.{statement}
 use Rattle.diagram.proofs.lengths.lengths.Tie as tie
-use Rattle.diagram.proofs.lengths.lengths.Reads as reads
-use Rattle.diagram.proofs.lengths.lengths.Lts as lts
-use Rattle.diagram.proofs.lengths.is_short.Reads as is-short-reads
-use Rattle.diagram.proofs.lengths.most.Reads as most-reads
-use Rattle.diagram.proofs.node.word.Reads as word-reads
 
--- src/lengths.rt:45:9
 returns : tie.Need-returns
 returns c =
     refuse-1 (now (c .before .before .args .words)) (c .before .before .args .output) (c .before .before .args .room) (c .if1 .taken)
 
--- src/lengths.rt:51:9
 returns-2 : tie.Need-returns-2
 returns-2 c =
     refuse-2 (now (c .before .before .before .args .words)) (c .before .before .before .args .output) (c .before .before .before .args .room) (c .before .if1 .left) (c .if2 .taken)
 
--- src/lengths.rt:58:9
 returns-3 : tie.Need-returns-3
 returns-3 c =
     refuse-3 (now (c .before .before .before .before .args .words)) (c .before .before .before .before .args .output) (c .before .before .before .before .args .room) (c .before .before .if1 .left) (c .before .if2 .left) (c .if3 .taken)
 
--- src/lengths.rt:63:8
 is-short-requires : tie.Need-is-short-requires
 is-short-requires c κs = search needs
 
--- src/lengths.rt:64:9
 returns-4 : tie.Need-returns-4
 returns-4 c =
     refuse-4 (now (c .before .before .before .before .before .before .args .words)) (c .before .before .before .before .before .before .args .output) (c .before .before .before .before .before .before .args .room) (c .before .before .before .before .if1 .left) (c .before .before .before .if2 .left) (c .before .before .if3 .left)
     (c .before .is-short .result) (c .before .is-short .ensures) (c .if4 .taken)
 
--- src/lengths.rt:69:31
 most-requires : tie.Need-most-requires
 most-requires c κs = search needs
 
--- src/lengths.rt:69:15
 mul-if5 : tie.Need-mul-if5
 mul-if5 c = search needs
 
--- src/lengths.rt:70:9
 returns-5 : tie.Need-returns-5
 returns-5 c =
     refuse-5 (now (c .before .before .before .before .before .before .before .before .args .words)) (c .before .before .before .before .before .before .before .before .args .output) (c .before .before .before .before .before .before .before .before .args .room) (c .before .before .before .before .before .before .if1 .left) (c .before .before .before .before .before .if2 .left) (c .before .before .before .before .if3 .left)
     (c .before .before .before .is-short .result) (c .before .before .before .is-short .ensures) (c .before .before .if4 .left) (c .before .most .result) (c .before .most .ensures) (c .if5 .taken)
 
--- src/lengths.rt:77:15
 word-requires : tie.Need-word-requires
 word-requires c κs = search needs
 
--- src/lengths.rt:41:1
 returns-6 : tie.Need-returns-6
 returns-6 c =
     pass-5 (now (c .before .before .before .before .before .before .before .before .before .args .words)) (c .before .before .before .before .before .before .before .before .before .args .output) (c .before .before .before .before .before .before .before .before .before .args .room) (c .before .before .before .before .before .before .before .if1 .left) (c .before .before .before .before .before .before .if2 .left) (c .before .before .before .before .before .if3 .left)

@@ -1,53 +1,39 @@
+-- `diagram::ranges::fault_of` meets its contract.
 use denote.Ref.{now}
 use Rattle.diagram.proofs.Rows.{fault-var, fault-low, fault-high, fault-none}
-use native.Mathlib.Omega.{arith}
 use borrow.Author.Needs.{needs}
 use Rattle.diagram.proofs.ranges.fault_of.Statement.{statement}
 use Rattle.diagram.proofs.ranges.fault_of.Tie as tie
-use Rattle.diagram.proofs.ranges.fault_of.Reads as reads
-use Rattle.diagram.proofs.ranges.fault_of.Lts as lts
-use Rattle.diagram.proofs.node.high_link_of.Reads as high-link-of-reads
-use Rattle.diagram.proofs.node.low_link_of.Reads as low-link-of-reads
-use Rattle.diagram.proofs.node.var_of.Reads as var-of-reads
 
--- src/ranges.rt:24:9
 var-of-requires : tie.Need-var-of-requires
 var-of-requires c κs = search needs
 
--- src/ranges.rt:26:9
 returns : tie.Need-returns
 returns c =
     fault-var (c .before .before .before .before .args .nodes) (c .before .before .before .before .args .vars) (now (c .before .before .before .before .args .words)) (c .before .before .before .before .args .node .0) (c .before .before .var-of .result .0) (c .before .before .var-of .ensures) (c .if1 .taken)
 
--- src/ranges.rt:28:9
 low-link-of-requires : tie.Need-low-link-of-requires
 low-link-of-requires c κs = search needs
 
--- src/ranges.rt:29:17
 cast-if2 : tie.Need-cast-if2
 cast-if2 c = search needs
 
--- src/ranges.rt:30:9
 returns-2 : tie.Need-returns-2
 returns-2 c =
     fault-low (c .before .before .before .before .before .before .before .args .nodes) (c .before .before .before .before .before .before .before .args .vars) (now (c .before .before .before .before .before .before .before .args .words)) (c .before .before .before .before .before .before .before .args .node .0) (c .before .before .before .before .before .var-of .result .0) (c .before .before .before .before .before .var-of .ensures)
     (c .before .before .before .if1 .left) (c .before .before .low-link-of .result .0) (c .before .before .low-link-of .ensures) (c .if2 .taken)
 
--- src/ranges.rt:32:9
 high-link-of-requires : tie.Need-high-link-of-requires
 high-link-of-requires c κs = search needs
 
--- src/ranges.rt:33:17
 cast-if3 : tie.Need-cast-if3
 cast-if3 c = search needs
 
--- src/ranges.rt:34:9
 returns-3 : tie.Need-returns-3
 returns-3 c =
     fault-high (c .before .before .before .before .before .before .before .before .before .before .args .nodes) (c .before .before .before .before .before .before .before .before .before .before .args .vars) (now (c .before .before .before .before .before .before .before .before .before .before .args .words)) (c .before .before .before .before .before .before .before .before .before .before .args .node .0) (c .before .before .before .before .before .before .before .before .var-of .result .0) (c .before .before .before .before .before .before .before .before .var-of .ensures)
     (c .before .before .before .before .before .before .if1 .left) (c .before .before .before .before .before .low-link-of .result .0) (c .before .before .before .before .before .low-link-of .ensures) (c .before .before .before .if2 .left) (c .before .before .high-link-of .result .0) (c .before .before .high-link-of .ensures) (c .if3 .taken)
 
--- src/ranges.rt:21:1
 returns-4 : tie.Need-returns-4
 returns-4 c =
     fault-none (c .before .before .before .before .before .before .before .before .before .before .args .nodes) (c .before .before .before .before .before .before .before .before .before .before .args .vars) (now (c .before .before .before .before .before .before .before .before .before .before .args .words)) (c .before .before .before .before .before .before .before .before .before .before .args .node .0) (c .before .before .before .before .before .before .before .before .var-of .result .0) (c .before .before .before .before .before .before .before .before .var-of .ensures)

@@ -1,3 +1,4 @@
+-- `diagram::ranges::first_fault` meets its contract.
 use denote.Ref.{now}
 use Prim.Native.Nat.{_-_, _/_, _≤_}
 use mathlib.Core.Path.{_≡_, refl, sym, _∙_, ap}
@@ -11,9 +12,6 @@ use borrow.Author.Needs.{needs}
 use native.Mathlib.Omega.{arith}
 use Rattle.diagram.proofs.ranges.first_fault.Statement.{statement}
 use Rattle.diagram.proofs.ranges.first_fault.Tie as tie
-use Rattle.diagram.proofs.ranges.first_fault.Reads as reads
-use Rattle.diagram.proofs.ranges.first_fault.Lts as lts
-use Rattle.diagram.proofs.ranges.fault_of.Reads as fault-of-reads
 
 abbrev Inv-loop : tie.InvT-loop
 Inv-loop stretch nodes vars count p₀ p =
@@ -22,34 +20,27 @@ Inv-loop stretch nodes vars count p₀ p =
 abbrev μ-loop : tie.MeasureT-loop
 μ-loop stretch nodes vars count p₀ p = count - p
 
--- src/ranges.rt:46:5
 loop-holds : tie.Need-loop-holds Inv-loop μ-loop
 loop-holds c =
     (scan-start (λ q. not (eqb (faultOf (c .before .args .nodes) (c .before .args .vars) (now (c .before .args .stretch)) q) 0)) 0, omega arith, refl)
 
--- src/ranges.rt:47:41
 cast-t9 : tie.Need-cast-t9 Inv-loop μ-loop
 cast-t9 c = omega (arith, c .before .before .before .pre)
 
--- src/ranges.rt:47:12
 fault-of-requires : tie.Need-fault-of-requires Inv-loop μ-loop
 fault-of-requires c κs = search needs
 
--- src/ranges.rt:48:13
 returns : tie.Need-returns Inv-loop μ-loop
 returns c =
     scan-hit (λ q. not (eqb (faultOf (c .before .before .before .before .before .args .nodes) (c .before .before .before .before .before .args .vars) (now (c .before .before .before .before .before .args .stretch)) q) 0)) 0 (length (now (c .before .before .before .before .before .args .stretch)) / 3) (c .before .before .before .loop .p) (c .before .before .before .loop .inv .0) (omega arith)
     (ap not (ne-eqb _ 0 (λ x. c .if1 .taken (c .before .fault-of .ensures ∙ x))))
 
--- src/ranges.rt:50:9
 add-p : tie.Need-add-p Inv-loop μ-loop
 add-p c = search needs
 
--- src/ranges.rt:46:5
 loop-less : tie.Need-loop-less Inv-loop μ-loop
 loop-less c = omega arith
 
--- src/ranges.rt:46:5
 loop-again : tie.Need-loop-again Inv-loop μ-loop
 loop-again c = (
   scan-on (λ q. not (eqb (faultOf (c .before .before .before .before .before .args .nodes) (c .before .before .before .before .before .args .vars) (now (c .before .before .before .before .before .args .stretch)) q) 0)) 0 (c .before .before .before .loop .p) (c .before .before .before .loop .inv .0)
@@ -58,7 +49,6 @@ loop-again c = (
   c .before .before .before .loop .inv .2,
 )
 
--- src/ranges.rt:40:1
 returns-2 : tie.Need-returns-2 Inv-loop μ-loop
 returns-2 c =
     scan-end (λ q. not (eqb (faultOf (c .before .before .before .args .nodes) (c .before .before .before .args .vars) (now (c .before .before .before .args .stretch)) q) 0)) 0 (length (now (c .before .before .before .args .stretch)) / 3) (c .before .loop .p) (c .before .loop .inv .0) (omega arith)

@@ -1,7 +1,6 @@
-use Prim.Native.Nat.{ℕ, _+_, _-_, _≤_}
-use mathlib.Core.Bool.{Bool}
-use mathlib.Core.List.{List}
-use mathlib.Core.Path.{_≡_, sym, _∙_, ap}
+-- `diagram::reach::first_lost` meets its contract.
+use Prim.Native.Nat.{_+_, _-_, _≤_}
+use mathlib.Core.Path.{sym, _∙_}
 use denote.Ref.{now}
 use Rattle.diagram.proofs.Count.{Scanned, scan-start, scan-on, scan-hit, scan-end}
 use borrow.Author.Tests.{eq-eqb, ne-eqb}
@@ -11,9 +10,6 @@ use borrow.Author.Needs.{needs}
 use native.Mathlib.Omega.{arith}
 use Rattle.diagram.proofs.reach.first_lost.Statement.{statement}
 use Rattle.diagram.proofs.reach.first_lost.Tie as tie
-use Rattle.diagram.proofs.reach.first_lost.Reads as reads
-use Rattle.diagram.proofs.reach.first_lost.Lts as lts
-use Rattle.diagram.proofs.node.word.Reads as word-reads
 
 abbrev Inv-loop : tie.InvT-loop
 Inv-loop room nodes p₀ p = Scanned (λ q. eqb (getD room q 0) 0) 2 p × (p ≤ 2 + (nodes - 2))
@@ -21,29 +17,23 @@ Inv-loop room nodes p₀ p = Scanned (λ q. eqb (getD room q 0) 0) 2 p × (p ≤
 abbrev μ-loop : tie.MeasureT-loop
 μ-loop room nodes p₀ p = nodes - p
 
--- src/reach.rt:101:5
 loop-holds : tie.Need-loop-holds Inv-loop μ-loop
 loop-holds c = (scan-start (λ q. eqb (getD (now (c .before .args .room)) q 0) 0) 2, omega arith)
 
--- src/reach.rt:102:12
 word-requires : tie.Need-word-requires Inv-loop μ-loop
 word-requires c κs = search needs
 
--- src/reach.rt:103:13
 returns : tie.Need-returns Inv-loop μ-loop
 returns c =
     scan-hit (λ q. eqb (getD (now (c .before .before .before .before .before .args .room)) q 0) 0) 2 (c .before .before .before .before .before .args .nodes - 2) (c .before .before .before .loop .p) (c .before .before .before .loop .inv .0)
     (omega (arith, c .before .before .before .loop .inv .0 .from)) (eq-eqb _ 0 (sym (c .before .word .ensures) ∙ c .if1 .taken))
 
--- src/reach.rt:105:9
 add-p : tie.Need-add-p Inv-loop μ-loop
 add-p c = search needs
 
--- src/reach.rt:101:5
 loop-less : tie.Need-loop-less Inv-loop μ-loop
 loop-less c = omega arith
 
--- src/reach.rt:101:5
 loop-again : tie.Need-loop-again Inv-loop μ-loop
 loop-again c = (
   scan-on (λ q. eqb (getD (now (c .before .before .before .before .before .args .room)) q 0) 0) 2 (c .before .before .before .loop .p) (c .before .before .before .loop .inv .0)
@@ -51,7 +41,6 @@ loop-again c = (
   omega arith,
 )
 
--- src/reach.rt:97:1
 returns-2 : tie.Need-returns-2 Inv-loop μ-loop
 returns-2 c =
     scan-end (λ q. eqb (getD (now (c .before .before .before .args .room)) q 0) 0) 2 (c .before .before .before .args .nodes - 2) (c .before .loop .p) (c .before .loop .inv .0)

@@ -1,33 +1,24 @@
+-- `diagram::reach::is_broken` meets its contract.
 use denote.Ref.{now}
 use Rattle.diagram.proofs.Breaks.{broken-unmarked, broken-marked}
-use native.Mathlib.Omega.{arith}
 use borrow.Author.Needs.{needs}
 use Rattle.diagram.proofs.reach.is_broken.Statement.{statement}
 use Rattle.diagram.proofs.reach.is_broken.Tie as tie
-use Rattle.diagram.proofs.reach.is_broken.Reads as reads
-use Rattle.diagram.proofs.reach.is_broken.Lts as lts
-use Rattle.diagram.proofs.node.word.Reads as word-reads
-use Rattle.diagram.proofs.reach.is_above.Reads as is-above-reads
 
--- src/reach.rt:75:8
 word-requires : tie.Need-word-requires
 word-requires c κs = search needs
 
--- src/reach.rt:76:9
 returns : tie.Need-returns
 returns c =
     broken-unmarked (now (c .before .before .before .before .args .words)) (now (c .before .before .before .before .args .room)) (c .before .before .before .before .args .node) (c .before .word .result) (c .before .before .before .before .pre .0) (c .before .before .before .before .pre .2) (c .before .word .ensures)
     (c .if1 .taken)
 
--- src/reach.rt:78:33
 cast-t4 : tie.Need-cast-t4
 cast-t4 c = search needs
 
--- src/reach.rt:78:6
 is-above-requires : tie.Need-is-above-requires
 is-above-requires c κs = search needs
 
--- src/reach.rt:71:1
 returns-2 : tie.Need-returns-2
 returns-2 c =
     broken-marked (now (c .before .before .before .before .before .args .words)) (now (c .before .before .before .before .before .args .room)) (c .before .before .before .before .before .args .node) (c .before .before .word .result) (c .before .before .before .before .before .pre .0) (c .before .before .before .before .before .pre .2) (c .before .before .word .ensures)

@@ -1,3 +1,4 @@
+-- `diagram::reach::mark` meets its contract.
 use Prim.Native.Nat.{_+_}
 use mathlib.Core.Path.{_≡_, refl, _∙_}
 use lib.ListN.{length}
@@ -9,11 +10,6 @@ use borrow.Author.Needs.{needs}
 use native.Mathlib.Omega.{arith}
 use Rattle.diagram.proofs.reach.mark.Statement.{statement}
 use Rattle.diagram.proofs.reach.mark.Tie as tie
-use Rattle.diagram.proofs.reach.mark.Reads as reads
-use Rattle.diagram.proofs.reach.mark.Lts as lts
-use Rattle.diagram.proofs.reach.push.Reads as push-reads
-use Rattle.diagram.proofs.reach.visit.Reads as visit-reads
-use Rattle.diagram.proofs.room.clear.Reads as clear-reads
 
 abbrev Inv-loop : tie.InvT-loop
 Inv-loop words room₀ nodes top₀ room top =
@@ -22,23 +18,18 @@ Inv-loop words room₀ nodes top₀ room top =
 abbrev μ-loop : tie.MeasureT-loop
 μ-loop words room₀ nodes top₀ room top = top + zeros (size words) room
 
--- src/reach.rt:51:5
 clear-requires : tie.Need-clear-requires Inv-loop μ-loop
 clear-requires c κs = search needs
 
--- src/reach.rt:52:52
 sub-t10 : tie.Need-sub-t10 Inv-loop μ-loop
 sub-t10 c = omega (arith, c .before .before .before .before .before .before .before .pre .0, c .before .before .before .before .before .before .before .pre .1 .some)
 
--- src/reach.rt:52:51
 cast-t11 : tie.Need-cast-t11 Inv-loop μ-loop
 cast-t11 c = omega (arith, c .before .before .before .before .before .before .before .pre .0, c .before .before .before .before .before .before .before .pre .1 .few)
 
--- src/reach.rt:52:9
 push-requires : tie.Need-push-requires Inv-loop μ-loop
 push-requires c κs = (omega (arith, c .before .before .before .before .before .before .before .pre .0, c .before .before .before .before .before .before .before .pre .1 .few), omega arith)
 
--- src/reach.rt:53:5
 loop-holds : tie.Need-loop-holds Inv-loop μ-loop
 loop-holds c =
     let a = c .before .before .before .before .before .before .before .before .before .before .args in
@@ -47,21 +38,17 @@ loop-holds c =
     in
     (c .before .before .before .before .before .before .before .before .before .before .pre .0, c .before .before .before .before .before .before .before .before .before .before .pre .1, s .0, s .1, refl)
 
--- src/reach.rt:54:41
 sub-visit : tie.Need-sub-visit Inv-loop μ-loop
 sub-visit c = search needs
 
--- src/reach.rt:54:9
 visit-requires : tie.Need-visit-requires Inv-loop μ-loop
 visit-requires c κs =
     let inv = c .before .before .loop .inv in
     (inv .0, inv .1, search-on (now (c .before .before .before .before .before .before .before .before .before .before .before .before .before .args .words)) (c .before .before .loop .room) (c .before .before .loop .top) (c .before .loop-test .taken) (inv .2))
 
--- src/reach.rt:53:5
 loop-less : tie.Need-loop-less Inv-loop μ-loop
 loop-less c = omega (arith, c .before .before .visit .ensures .1 .left)
 
--- src/reach.rt:53:5
 loop-again : tie.Need-loop-again Inv-loop μ-loop
 loop-again c =
     let inv = c .before .before .before .before .before .loop .inv in
@@ -73,11 +60,9 @@ loop-again c =
       c .before .before .visit .kept .1 .0 ∙ inv .4,
     )
 
--- src/reach.rt:47:1
 same-length : tie.Need-same-length Inv-loop μ-loop
 same-length c = c .before .loop .inv .4 ∙ (c .before .before .before .before .push .kept .0 ∙ c .before .before .before .before .before .before .before .before .clear .kept .0)
 
--- src/reach.rt:47:1
 returns : tie.Need-returns Inv-loop μ-loop
 returns c =
     let inv = c .before .loop .inv in

@@ -1,53 +1,39 @@
+-- `diagram::reach::push` meets its contract.
 use denote.Ref.{now}
 use Rattle.diagram.proofs.Marking.{push-hit, push-miss}
-use native.Mathlib.Omega.{arith}
 use borrow.Author.Needs.{needs}
 use Rattle.diagram.proofs.reach.push.Statement.{statement}
 use Rattle.diagram.proofs.reach.push.Tie as tie
-use Rattle.diagram.proofs.reach.push.Reads as reads
-use Rattle.diagram.proofs.reach.push.Lts as lts
-use Rattle.diagram.proofs.node.word.Reads as word-reads
-use Rattle.diagram.proofs.room.put.Reads as put-reads
 
--- src/reach.rt:21:14
 cast-at : tie.Need-cast-at
 cast-at c = search needs
 
--- src/reach.rt:22:8
 word-requires : tie.Need-word-requires
 word-requires c κs = search needs
 
--- src/reach.rt:23:9
 put-requires : tie.Need-put-requires
 put-requires c κs = search needs
 
--- src/reach.rt:24:19
 add-put : tie.Need-add-put
 add-put c = search needs
 
--- src/reach.rt:24:9
 put-requires-2 : tie.Need-put-requires-2
 put-requires-2 c κs = search needs
 
--- src/reach.rt:25:9
 add-result : tie.Need-add-result
 add-result c = search needs
 
--- src/reach.rt:17:1
 same-length : tie.Need-same-length
 same-length c = search needs
 
--- src/reach.rt:17:1
 returns : tie.Need-returns
 returns c =
     push-hit (c .before .before .before .before .before .before .before .before .before .before .before .before .before .args .nodes) (now (c .before .before .before .before .before .before .before .before .before .before .before .before .before .args .room)) (c .before .before .before .before .before .before .before .before .before .before .before .before .before .args .top) (c .before .before .before .before .before .before .before .before .before .before .before .before .before .args .node .0) (c .before .before .before .before .before .before .before .before .before .word .result)
     (c .before .before .before .before .before .before .put .last .0) (c .before .before .put2 .last .0) (c .before .before .before .before .before .before .before .before .before .word .ensures) (c .before .before .before .before .before .before .before .before .if1 .taken) (c .before .before .before .before .before .before .put .ensures) (c .before .before .put2 .ensures)
 
--- src/reach.rt:17:1
 same-length-2 : tie.Need-same-length-2
 same-length-2 c = search needs
 
--- src/reach.rt:17:1
 returns-2 : tie.Need-returns-2
 returns-2 c =
     push-miss (c .before .before .before .before .before .args .nodes) (now (c .before .before .before .before .before .args .room)) (c .before .before .before .before .before .args .top) (c .before .before .before .before .before .args .node .0) (c .before .word .result)

@@ -1,3 +1,4 @@
+-- `diagram::reach::visit` meets its contract.
 use mathlib.Core.Path.{sym, _∙_}
 use borrow.Author.Tests.{ltb-true, ltb-false}
 use denote.Ref.{now}
@@ -6,50 +7,34 @@ use native.Mathlib.Omega.{arith}
 use borrow.Author.Needs.{needs}
 use Rattle.diagram.proofs.reach.visit.Statement.{statement}
 use Rattle.diagram.proofs.reach.visit.Tie as tie
-use Rattle.diagram.proofs.reach.visit.Reads as reads
-use Rattle.diagram.proofs.reach.visit.Lts as lts
-use Rattle.diagram.proofs.node.BddPointer.is_terminal.Reads as is-terminal-reads
-use Rattle.diagram.proofs.node.high_link_of.Reads as high-link-of-reads
-use Rattle.diagram.proofs.node.low_link_of.Reads as low-link-of-reads
-use Rattle.diagram.proofs.node.word.Reads as word-reads
-use Rattle.diagram.proofs.reach.push.Reads as push-reads
 
--- src/reach.rt:36:38
 add-word : tie.Need-add-word
 add-word c = omega (arith, c .before .before .before .pre .1 .few, c .before .before .before .pre .2 .space)
 
--- src/reach.rt:36:27
 word-requires : tie.Need-word-requires
 word-requires c κs = search needs
 
--- src/reach.rt:37:8
 is-terminal-requires : tie.Need-is-terminal-requires
 is-terminal-requires c κs = search needs
 
--- src/reach.rt:38:9
 same-length : tie.Need-same-length
 same-length c = search needs
 
--- src/reach.rt:38:9
 returns : tie.Need-returns
 returns c =
     let a = c .before .before .before .before .before .before .args in
     visit-terminal (now (a .words)) (now (a .room)) (a .nodes) (a .below) (c .before .before .word .result) (c .before .before .before .before .before .before .pre .0) (c .before .before .before .before .before .before .pre .2)
     (c .before .before .word .ensures) (ltb-true (c .before .before .word .result) 2 (sym (c .before .is-terminal .ensures) ∙ c .if1 .taken))
 
--- src/reach.rt:40:9
 low-link-of-requires : tie.Need-low-link-of-requires
 low-link-of-requires c κs = search needs
 
--- src/reach.rt:41:9
 push-requires : tie.Need-push-requires
 push-requires c κs = (omega (arith, c .before .before .before .before .before .before .before .before .pre .1 .few, c .before .before .before .before .before .before .before .before .pre .0), omega (arith, c .before .before .before .before .before .before .before .before .pre .1 .few, c .before .before .before .before .before .before .before .before .pre .2 .space))
 
--- src/reach.rt:42:9
 high-link-of-requires : tie.Need-high-link-of-requires
 high-link-of-requires c κs = search needs
 
--- src/reach.rt:43:5
 push-requires-2 : tie.Need-push-requires-2
 push-requires-2 c κs =
     let a = c .before .before .before .before .before .before .before .before .before .before .before .before .before .args in (
@@ -57,11 +42,9 @@ push-requires-2 c κs =
       omega (arith, c .before .before .before .before .before .before .before .before .before .before .before .before .before .pre .1 .few, c .before .before .before .before .before .before .before .before .before .before .before .before .before .pre .2 .space, c .before .before .before .before .push .ensures .0, push-most (now (a .room)) (a .below) (c .before .before .before .before .before .before .low-link-of .result .0)),
     )
 
--- src/reach.rt:32:1
 same-length-2 : tie.Need-same-length-2
 same-length-2 c = search needs
 
--- src/reach.rt:32:1
 returns-2 : tie.Need-returns-2
 returns-2 c =
     let a = c .before .before .before .before .before .before .before .before .before .before .before .before .before .before .before .before .args in

@@ -1,5 +1,5 @@
 -- `diagram::room::clear` meets its contract. Invariant: the words passed are zero, the others as they were.
-use Prim.Native.Nat.{ℕ, _≤_, _-_, min}
+use Prim.Native.Nat.{_≤_, _-_, min}
 use mathlib.Core.Path.{_≡_, _∙_, ap}
 use mathlib.Core.List.{_++_}
 use borrow.Author.Needs.{needs}

@@ -1,23 +1,17 @@
+-- `diagram::terminals::lacks_one` meets its contract.
 use denote.Ref.{now}
 use Rattle.diagram.proofs.Rows.{lacks-yes, lacks-no}
-use native.Mathlib.Omega.{arith}
 use borrow.Author.Needs.{needs}
 use Rattle.diagram.proofs.terminals.lacks_one.Statement.{statement}
 use Rattle.diagram.proofs.terminals.lacks_one.Tie as tie
-use Rattle.diagram.proofs.terminals.lacks_one.Reads as reads
-use Rattle.diagram.proofs.terminals.lacks_one.Lts as lts
-use Rattle.diagram.proofs.terminals.is_terminal_node.Reads as is-terminal-node-reads
 
--- src/terminals.rt:38:17
 is-terminal-node-requires : tie.Need-is-terminal-node-requires
 is-terminal-node-requires c κs = search needs
 
--- src/terminals.rt:38:9
 returns : tie.Need-returns
 returns c =
     lacks-yes (now (c .before .before .before .args .words)) (c .is-terminal-node .result) (c .before .if1 .taken) (c .is-terminal-node .ensures)
 
--- src/terminals.rt:34:1
 returns-2 : tie.Need-returns-2
 returns-2 c = lacks-no (now (c .before .before .args .words)) (c .if1 .left)
 

@@ -1,49 +1,36 @@
+-- `diagram::terminals::terminals` meets its contract.
 use denote.Ref.{now}
 use Rattle.diagram.proofs.Rows.{refuse-6, refuse-6-one, refuse-7, pass-7}
-use native.Mathlib.Omega.{arith}
 use borrow.Author.Needs.{needs}
 use Rattle.diagram.proofs.terminals.terminals.Statement.{statement}
 use Rattle.diagram.proofs.terminals.terminals.Tie as tie
-use Rattle.diagram.proofs.terminals.terminals.Reads as reads
-use Rattle.diagram.proofs.terminals.terminals.Lts as lts
-use Rattle.diagram.proofs.node.word.Reads as word-reads
-use Rattle.diagram.proofs.terminals.is_terminal_node.Reads as is-terminal-node-reads
-use Rattle.diagram.proofs.terminals.lacks_one.Reads as lacks-one-reads
 
--- src/terminals.rt:46:9
 is-terminal-node-requires : tie.Need-is-terminal-node-requires
 is-terminal-node-requires c κs = search needs
 
--- src/terminals.rt:47:9
 returns : tie.Need-returns
 returns c =
     refuse-6 (now (c .before .before .before .args .words)) (c .before .is-terminal-node .result) (c .before .is-terminal-node .ensures) (c .if1 .taken)
 
--- src/terminals.rt:52:8
 lacks-one-requires : tie.Need-lacks-one-requires
 lacks-one-requires c κs = search needs
 
--- src/terminals.rt:53:9
 returns-2 : tie.Need-returns-2
 returns-2 c =
     refuse-6-one (now (c .before .before .before .before .before .args .words)) (c .before .before .before .is-terminal-node .result) (c .before .before .before .is-terminal-node .ensures) (c .before .before .if1 .left)
     (c .before .lacks-one .result) (c .before .lacks-one .ensures) (c .if2 .taken)
 
--- src/terminals.rt:58:9
 word-requires : tie.Need-word-requires
 word-requires c κs = search needs
 
--- src/terminals.rt:59:24
 cast-if3 : tie.Need-cast-if3
 cast-if3 c = search needs
 
--- src/terminals.rt:60:9
 returns-3 : tie.Need-returns-3
 returns-3 c =
     refuse-7 (now (c .before .before .before .before .before .before .before .args .words)) (c .before .before .before .before .before .is-terminal-node .result) (c .before .before .before .before .before .is-terminal-node .ensures) (c .before .before .before .before .if1 .left)
     (c .before .before .before .lacks-one .result) (c .before .before .before .lacks-one .ensures) (c .before .before .if2 .left) (c .before .word .result) (c .before .word .ensures) (c .if3 .taken)
 
--- src/terminals.rt:43:1
 returns-4 : tie.Need-returns-4
 returns-4 c =
     pass-7 (now (c .before .before .before .before .before .before .before .args .words)) (c .before .before .before .before .before .is-terminal-node .result) (c .before .before .before .before .before .is-terminal-node .ensures) (c .before .before .before .before .if1 .left)

@@ -1,3 +1,4 @@
+-- `diagram::validate::admit` meets its contract.
 use Rattle.diagram.proofs.Words.{front-cleared}
 use denote.Ref.{now}
 use Prim.Native.Nat.{_*_, _≤_}
@@ -7,65 +8,48 @@ use lib.ListN.{length}
 use lib.Seq.{length-take-le}
 use Rattle.diagram.specs.Verdict.{said}
 use Rattle.diagram.proofs.Accepting.{lengths-accepted, lengths-refused, contents-decide, sized-of, all-is}
-use native.Mathlib.Omega.{arith}
 use borrow.Author.Needs.{needs}
 use Rattle.diagram.proofs.validate.admit.Statement.{statement}
 use Rattle.diagram.proofs.validate.admit.Tie as tie
-use Rattle.diagram.proofs.validate.admit.Reads as reads
-use Rattle.diagram.proofs.validate.admit.Lts as lts
-use Rattle.diagram.proofs.lengths.lengths.Reads as lengths-reads
-use Rattle.diagram.proofs.lengths.most.Reads as most-reads
-use Rattle.diagram.proofs.validate.inspect.Reads as inspect-reads
 
--- src/validate.rt:76:9
 lengths-requires : tie.Need-lengths-requires
 lengths-requires c κs = search needs
 
--- src/validate.rt:77:29
 enum-known-measured : tie.Need-enum-known-measured
 enum-known-measured c = search needs
 
--- src/validate.rt:78:9
 enum-told : tie.Need-enum-told
 enum-told c = search needs
 
--- src/validate.rt:78:9
 returns : tie.Need-returns
 returns c =
     lengths-refused (now (c .before .before .before .before .before .args .words)) (c .before .before .before .before .before .args .output) (now (c .before .before .before .before .before .args .room)) (c .before .before .lengths .result) (c .before .before .lengths .ensures) _ _ (c .enum-told .given .1)
 
--- src/validate.rt:80:31
 most-requires : tie.Need-most-requires
 most-requires c κs = search needs
 
--- src/validate.rt:80:15
 mul-all : tie.Need-mul-all
 mul-all c =
     omega (arith, (all-is (now (c .before .before .before .before .before .before .before .args .words)) (length (now (c .before .before .before .before .before .before .before .args .room))) _ _ (c .most .result) (lengths-accepted (now (c .before .before .before .before .before .before .before .args .words)) (c .before .before .before .before .before .before .before .args .output) (length (now (c .before .before .before .before .before .before .before .args .room))) _ _ (sym (c .before .before .before .before .lengths .ensures) ∙ ap said (c .before .before .measured .given .1))) (c .most .ensures)), (lengths-accepted (now (c .before .before .before .before .before .before .before .args .words)) (c .before .before .before .before .before .before .before .args .output) (length (now (c .before .before .before .before .before .before .before .args .room))) _ _ (sym (c .before .before .before .before .lengths .ensures) ∙ ap said (c .before .before .measured .given .1))) .few)
 
--- src/validate.rt:81:20
 slice-relend-prefix-inspect : tie.Need-slice-relend-prefix-inspect
 slice-relend-prefix-inspect c =
     omega (arith, (all-is (now (c .before .before .before .before .before .before .before .args .words)) (length (now (c .before .before .before .before .before .before .before .args .room))) _ _ (c .most .result) (lengths-accepted (now (c .before .before .before .before .before .before .before .args .words)) (c .before .before .before .before .before .before .before .args .output) (length (now (c .before .before .before .before .before .before .before .args .room))) _ _ (sym (c .before .before .before .before .lengths .ensures) ∙ ap said (c .before .before .measured .given .1))) (c .most .ensures)), (lengths-accepted (now (c .before .before .before .before .before .before .before .args .words)) (c .before .before .before .before .before .before .before .args .output) (length (now (c .before .before .before .before .before .before .before .args .room))) _ _ (sym (c .before .before .before .before .lengths .ensures) ∙ ap said (c .before .before .measured .given .1))) .fits)
 
--- src/validate.rt:81:20
 slice-aggregate-inspect : tie.Need-slice-aggregate-inspect
 slice-aggregate-inspect c =
     let l : 64 * c .before .most .result ≤ length (now (c .before .before .before .before .before .before .before .before .args .room)) = omega (arith, (all-is (now (c .before .before .before .before .before .before .before .before .args .words)) (length (now (c .before .before .before .before .before .before .before .before .args .room))) _ _ (c .before .most .result) (lengths-accepted (now (c .before .before .before .before .before .before .before .before .args .words)) (c .before .before .before .before .before .before .before .before .args .output) (length (now (c .before .before .before .before .before .before .before .before .args .room))) _ _ (sym (c .before .before .before .before .before .lengths .ensures) ∙ ap said (c .before .before .before .measured .given .1))) (c .before .most .ensures)), (lengths-accepted (now (c .before .before .before .before .before .before .before .before .args .words)) (c .before .before .before .before .before .before .before .before .args .output) (length (now (c .before .before .before .before .before .before .before .before .args .room))) _ _ (sym (c .before .before .before .before .before .lengths .ensures) ∙ ap said (c .before .before .before .measured .given .1))) .fits) in
     sym (length-take-le (64 * c .before .most .result) (now (c .before .before .before .before .before .before .before .before .args .room)) l)
 
--- src/validate.rt:81:5
 inspect-requires : tie.Need-inspect-requires
 inspect-requires c κs =
     let l : 64 * c .before .most .result ≤ length (now (c .before .before .before .before .before .before .before .before .args .room)) = omega (arith, (all-is (now (c .before .before .before .before .before .before .before .before .args .words)) (length (now (c .before .before .before .before .before .before .before .before .args .room))) _ _ (c .before .most .result) (lengths-accepted (now (c .before .before .before .before .before .before .before .before .args .words)) (c .before .before .before .before .before .before .before .before .args .output) (length (now (c .before .before .before .before .before .before .before .before .args .room))) _ _ (sym (c .before .before .before .before .before .lengths .ensures) ∙ ap said (c .before .before .before .measured .given .1))) (c .before .most .ensures)), (lengths-accepted (now (c .before .before .before .before .before .before .before .before .args .words)) (c .before .before .before .before .before .before .before .before .args .output) (length (now (c .before .before .before .before .before .before .before .before .args .room))) _ _ (sym (c .before .before .before .before .before .lengths .ensures) ∙ ap said (c .before .before .before .measured .given .1))) .fits) in
     sized-of (now (c .before .before .before .before .before .before .before .before .args .words)) (length (now (c .before .before .before .before .before .before .before .before .args .room))) _ _ (64 * c .before .most .result) _ (lengths-accepted (now (c .before .before .before .before .before .before .before .before .args .words)) (c .before .before .before .before .before .before .before .before .args .output) (length (now (c .before .before .before .before .before .before .before .before .args .room))) _ _ (sym (c .before .before .before .before .before .lengths .ensures) ∙ ap said (c .before .before .before .measured .given .1))) (all-is (now (c .before .before .before .before .before .before .before .before .args .words)) (length (now (c .before .before .before .before .before .before .before .before .args .room))) _ _ (c .before .most .result) (lengths-accepted (now (c .before .before .before .before .before .before .before .before .args .words)) (c .before .before .before .before .before .before .before .before .args .output) (length (now (c .before .before .before .before .before .before .before .before .args .room))) _ _ (sym (c .before .before .before .before .before .lengths .ensures) ∙ ap said (c .before .before .before .measured .given .1))) (c .before .most .ensures))
     (length-take-le (64 * c .before .most .result) (now (c .before .before .before .before .before .before .before .before .args .room)) l)
 
--- src/validate.rt:73:1
 same-length : tie.Need-same-length
 same-length c = search needs
 
--- src/validate.rt:73:1
 returns-2 : tie.Need-returns-2
 returns-2 c =
     let all = 64 * c .before .before .before .before .most .result in

@@ -1,52 +1,39 @@
+-- `diagram::validate::contents` meets its contract.
 use denote.Ref.{now}
 use mathlib.Core.Path.{sym, _∙_, ap}
 use native.Mathlib.Omega.{arith}
 use Rattle.diagram.specs.Verdict.{said}
 use Rattle.diagram.proofs.Accepting.{terminals-accepted, ranges-accepted, formed-of, terminals-refused, ranges-refused, graph-decides}
-use native.Mathlib.Omega.{arith}
 use borrow.Author.Needs.{needs}
 use Rattle.diagram.proofs.validate.contents.Statement.{statement}
 use Rattle.diagram.proofs.validate.contents.Tie as tie
-use Rattle.diagram.proofs.validate.contents.Reads as reads
-use Rattle.diagram.proofs.validate.contents.Lts as lts
-use Rattle.diagram.proofs.ranges.ranges.Reads as ranges-reads
-use Rattle.diagram.proofs.terminals.terminals.Reads as terminals-reads
-use Rattle.diagram.proofs.validate.graph.Reads as graph-reads
 
--- src/validate.rt:50:9
 terminals-requires : tie.Need-terminals-requires
 terminals-requires c κs = search needs
 
 enum-told : tie.Need-enum-told
 enum-told c = search needs
 
--- src/validate.rt:52:9
 enum-told-2 : tie.Need-enum-told-2
 enum-told-2 c = search needs
 
--- src/validate.rt:52:9
 returns : tie.Need-returns
 returns c =
     terminals-refused (now (c .before .before .before .before .before .args .words)) (c .before .before .terminals .result) (c .before .before .terminals .ensures) _ _ (c .enum-told2 .given .1)
 
--- src/validate.rt:54:9
 ranges-requires : tie.Need-ranges-requires
 ranges-requires c κs = c .before .before .before .before .before .pre .few
 
--- src/validate.rt:55:29
 enum-known-ranged : tie.Need-enum-known-ranged
 enum-known-ranged c = search needs
 
--- src/validate.rt:56:9
 enum-told-3 : tie.Need-enum-told-3
 enum-told-3 c = search needs
 
--- src/validate.rt:56:9
 returns-2 : tie.Need-returns-2
 returns-2 c =
     ranges-refused (now (c .before .before .before .before .before .before .before .before .args .words)) (c .before .before .before .before .before .terminals .result) (c .before .before .before .before .before .terminals .ensures) _ _ (c .before .before .before .enum-told .given .1) (c .before .before .ranges .result) (c .before .before .ranges .ensures) _ _ (c .enum-told3 .given .1)
 
--- src/validate.rt:58:5
 graph-requires : tie.Need-graph-requires
 graph-requires c κs =
     let w = (now (c .before .before .before .before .before .before .before .before .before .before .args .words)) in
@@ -54,11 +41,9 @@ graph-requires c κs =
     let r = (ranges-accepted (now (c .before .before .before .before .before .before .before .before .before .before .args .words)) _ _ (sym (c .before .before .before .before .ranges .ensures) ∙ ap said (c .before .before .ranged .given .1))) in
     (r .nodes, r .count, formed-of w (now (c .before .before .before .before .before .before .before .before .before .before .args .room)) _ _ (c .before .before .before .before .before .before .before .before .before .before .pre) e r, omega (arith, r .nodes, c .before .before .before .before .before .before .before .before .before .before .pre .fits))
 
--- src/validate.rt:46:1
 same-length : tie.Need-same-length
 same-length c = search needs
 
--- src/validate.rt:46:1
 returns-3 : tie.Need-returns-3
 returns-3 c =
     graph-decides (now (c .before .before .before .before .before .before .before .before .before .before .before .before .before .args .words)) (c .before .before .before .before .before .before .before .before .before .before .terminals .result) (c .before .before .before .before .before .before .before .before .before .before .terminals .ensures) _ _ (c .before .before .before .before .before .before .before .before .enum-told .given .1) (c .before .before .before .before .before .before .before .ranges .result) (c .before .before .before .before .before .before .before .ranges .ensures) _ _ (c .before .before .before .before .before .ranged .given .1) (c .before .before .graph .result) (c .before .before .graph .ensures)

@@ -1,28 +1,20 @@
+-- `diagram::validate::inspect` meets its contract.
 use denote.Ref.{now}
 use mathlib.Core.Path.{_∙_}
 use Rattle.diagram.proofs.Words.{zeros-whole}
-use native.Mathlib.Omega.{arith}
 use borrow.Author.Needs.{needs}
 use Rattle.diagram.proofs.validate.inspect.Statement.{statement}
 use Rattle.diagram.proofs.validate.inspect.Tie as tie
-use Rattle.diagram.proofs.validate.inspect.Reads as reads
-use Rattle.diagram.proofs.validate.inspect.Lts as lts
-use Rattle.diagram.proofs.room.clear.Reads as clear-reads
-use Rattle.diagram.proofs.validate.contents.Reads as contents-reads
 
--- src/validate.rt:66:9
 contents-requires : tie.Need-contents-requires
 contents-requires c κs = search needs
 
--- src/validate.rt:68:5
 clear-requires : tie.Need-clear-requires
 clear-requires c κs = search needs
 
--- src/validate.rt:62:1
 same-length : tie.Need-same-length
 same-length c = search needs
 
--- src/validate.rt:62:1
 returns : tie.Need-returns
 returns c =
     (c .before .before .before .before .before .before .contents .ensures, c .before .before .clear .ensures ∙ zeros-whole (c .before .before .before .before .before .before .contents .last .1 .0) (now (c .before .before .before .before .before .before .before .before .before .before .args .room)) (c .before .before .before .before .before .before .contents .kept .1 .0))
