@@ -193,8 +193,7 @@ module _ {w room out : List ℕ} {n p : ℕ} (k : Turning w room out n p) where
         spent q not-todo =
             let l = layer in
             let not-low : q ≢ lowOf w p = λ e. not-todo (rw e low-todo) in
-            let not-high : q ≢ highOf w p = λ e. not-todo (rw e high-todo) in
-            (
+            let not-high : q ≢ highOf w p = λ e. not-todo (rw e high-todo) in (
               bump-other two (highOf w p) y q not-high ∙ bump-other one (lowOf w p) x q not-low,
               gave-high .other q not-high ∙ gave-low .other q not-low,
             )
@@ -253,14 +252,16 @@ module _ {w heads room out : List ℕ} {n c : ℕ} (d : Ascending w heads room o
       up-on {after} m q e =
           let k = s .node ne in
           let last : Last w c p q = rw (e, ← k .1) (d .sated .next p (k .0 .two) (k .0 .inside)) in
-          let mine : Passing w after c p = rw (k .1) at (m .passing) in
-          (record {
-            node = at-chain (omega (arith, k .0 .inside)) last;
-            passed = record {
-              passing = passing-as mine c (suc q) (todo-from w (d .given .ordered) c (d .level) last) (todo-back w (d .given .ordered) c (d .level) last);
-              rest = m .rest ∙ s .passed .rest;
-            };
-          }, chain-falls (k .0 .two) last)
+          let mine : Passing w after c p = rw (k .1) at (m .passing) in (
+            record {
+              node = at-chain (omega (arith, k .0 .inside)) last;
+              passed = record {
+                passing = passing-as mine c (suc q) (todo-from w (d .given .ordered) c (d .level) last) (todo-back w (d .given .ordered) c (d .level) last);
+                rest = m .rest ∙ s .passed .rest;
+              };
+            },
+            chain-falls (k .0 .two) last,
+          )
 
     pub up-ends : p ≡ 0 → Passed w out now (suc c) (size w)
     up-ends e =
@@ -389,3 +390,7 @@ pub all-up : {w heads room out before now : List ℕ} {n v c : ℕ} → Rising w
     → Ascending w heads room now n c
 all-up r l s =
     record { given = r .given; level = omega (arith, r .variables); head = r .head; sated = r .sated; passing = s .passing }
+
+pub weigh-done : {w before out : List ℕ} {n v : ℕ} → Given w n → v ≡ vars w → Passed w before out v (size w) → length out ≡ length before
+    → {after : List ℕ} → Noted 0 out 0 0 after → Weighed w before after
+weigh-done given e s = ends-weighed given (rw e at s)

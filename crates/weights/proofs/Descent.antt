@@ -129,11 +129,13 @@ module _ {w room : List ℕ} {n c : ℕ} (given : Given w n) (level : c < vars w
     down-on {after} sated q e =
         let k = s .node ne in
         let mine : Sated w after c p = rw (k .1) at sated in
-        let last : Last w c p q = rw (e, ← k .1) (sated .next p (k .0 .two) (k .0 .inside)) in
-        (record {
-          node = at-chain (omega (arith, k .0 .inside)) last;
-          sated = sated-as mine c (suc q) (known-from w (given .ordered) c level last);
-        }, chain-falls (k .0 .two) last)
+        let last : Last w c p q = rw (e, ← k .1) (sated .next p (k .0 .two) (k .0 .inside)) in (
+          record {
+            node = at-chain (omega (arith, k .0 .inside)) last;
+            sated = sated-as mine c (suc q) (known-from w (given .ordered) c level last);
+          },
+          chain-falls (k .0 .two) last,
+        )
 
   pub down-ends : {p : ℕ} → AtDown w room c p → p ≡ 0 → Sated w room c 0
   down-ends {p} s e =

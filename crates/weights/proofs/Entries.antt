@@ -56,8 +56,7 @@ zero-entry n s after l e q h =
 pub zero-rest : (n : ℕ) (s after : List ℕ) → wordCount * n ≤ length s → after ≡ replicate (min (wordCount * n) (length s)) 0 ++ drop (wordCount * n) s
     → (drop (wordCount * n) after ≡ drop (wordCount * n) s) × (length after ≡ length s)
 zero-rest n s after l e =
-    let m : min (wordCount * n) (length s) ≡ wordCount * n = omega arith in
-    (
+    let m : min (wordCount * n) (length s) ≡ wordCount * n = omega arith in (
       rw (e, m) (drop-at (replicate (wordCount * n) 0) (drop (wordCount * n) s) (wordCount * n) (length-replicate {A = ℕ} (wordCount * n) 0)),
       ap length e ∙ rw (m, length-append (replicate (wordCount * n) 0) (drop (wordCount * n) s), length-replicate {A = ℕ} (wordCount * n) 0, length-drop (wordCount * n) s) (omega arith),
     )

@@ -5,9 +5,11 @@
 --     Chaining   the chains of each variable's nodes
 --     Descent    the first pass
 --     Ascent     the second pass
+--     Answers    what the public function answers
 pub mod Dots
 pub mod Levels
 pub mod Entries
 pub mod Chaining
 pub mod Descent
 pub mod Ascent
+pub mod Answers

@@ -48,7 +48,14 @@ fn pass_on(words: &[u32], room: &[u32], output: &mut [u32], nodes: usize, node: 
 }
 
 // The nodes of one variable.
-fn level(words: &[u32], heads: &[u32], room: &[u32], output: &mut [u32], nodes: usize, variable: u32)
+fn level(
+    words: &[u32],
+    heads: &[u32],
+    room: &[u32],
+    output: &mut [u32],
+    nodes: usize,
+    variable: u32,
+)
     requires { ⌜ Ascending (now words) (now heads) (now room) (now output) nodes variable ⌝ }
     ensures { λ _. ⌜ Passed (now (words .entry)) (now (output .entry)) (now (output .exit)) (suc variable) (size (now (words .entry))) ⌝ }
 {
@@ -72,7 +79,14 @@ fn begin(words: &[u32], output: &mut [u32], nodes: usize)
 }
 
 // All nodes.
-pub(crate) fn pass_all(words: &[u32], heads: &[u32], room: &[u32], output: &mut [u32], nodes: usize, vars: u32)
+pub(crate) fn pass_all(
+    words: &[u32],
+    heads: &[u32],
+    room: &[u32],
+    output: &mut [u32],
+    nodes: usize,
+    vars: u32,
+)
     requires { ⌜ Rising (now words) (now heads) (now room) (now output) nodes vars ⌝ }
     ensures { λ _. ⌜ Passed (now (words .entry)) (now (output .entry)) (now (output .exit)) vars (size (now (words .entry))) ⌝ }
 {

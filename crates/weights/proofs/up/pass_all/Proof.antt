@@ -52,7 +52,7 @@ same-length c = c .before .loop .inv .2 ∙ c .before .before .before .before .b
 
 -- src/up.rt:75:1
 returns : tie.Need-returns Inv-loop μ-loop
-returns c = 
+returns c =
     let e : c .before .loop .c ≡ c .before .before .before .before .before .before .before .before .before .before .args .vars = omega (arith, c .before .loop .inv .1) in
     passed-join (c .before .before .before .before .begin .ensures) (rw e at (c .before .loop .inv .0))
 
