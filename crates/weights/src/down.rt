@@ -69,7 +69,7 @@ pub(crate) fn count_all(words: &[u32], heads: &[u32], room: &mut [u32], nodes: u
     terminals(words, heads, room, nodes);
     let mut c = vars;
     while 0 < c {
+        level(words, heads, room, nodes, c - 1);
         c -= 1;
-        level(words, heads, room, nodes, c);
     }
 }

@@ -43,8 +43,10 @@ fn pass_on(words: &[u32], room: &[u32], output: &mut [u32], nodes: usize, node: 
     let received = count_at(output, 0, node);
     let weight = multiply(received, count_at(room, nodes, node));
     note(output, 0, node, weight.natural);
-    give(words, output, node, low_link_of(words, node), received);
-    give(words, output, node, high_link_of(words, node), received);
+    let low = low_link_of(words, node);
+    let high = high_link_of(words, node);
+    give(words, output, node, low, received);
+    give(words, output, node, high, received);
 }
 
 // The nodes of one variable.

@@ -28,13 +28,17 @@ terminals-requires c κs = (c .before .before .before .before .pre .0, c .before
 loop-holds : tie.Need-loop-holds Inv-loop μ-loop
 loop-holds c = (rw (c .before .before .before .before .before .before .before .pre .3) (c .before .before .terminals .ensures), omega arith, refl)
 
--- src/down.rt:72:9
-sub-c : tie.Need-sub-c Inv-loop μ-loop
-sub-c c = search needs
+-- src/down.rt:72:42
+sub-level : tie.Need-sub-level Inv-loop μ-loop
+sub-level c = search needs
 
--- src/down.rt:73:9
+-- src/down.rt:72:9
 level-requires : tie.Need-level-requires Inv-loop μ-loop
 level-requires c κs = all-down (c .before .before .before .before .before .before .before .before .before .before .pre .0) (c .before .before .before .before .before .before .before .before .before .before .pre .1) (c .before .before .before .before .before .before .before .before .before .before .pre .3) (c .before .before .loop .inv .1) (c .before .loop-test .taken) (c .before .before .loop .inv .0)
+
+-- src/down.rt:73:9
+sub-c : tie.Need-sub-c Inv-loop μ-loop
+sub-c c = search needs
 
 -- src/down.rt:71:5
 loop-less : tie.Need-loop-less Inv-loop μ-loop
@@ -50,7 +54,7 @@ same-length c = c .before .loop .inv .2 ∙ c .before .before .before .before .t
 
 -- src/down.rt:65:1
 returns : tie.Need-returns Inv-loop μ-loop
-returns c =
+returns c = 
     let e : c .before .loop .c ≡ 0 = omega arith in
     rw e at (c .before .loop .inv .0)
 
@@ -62,8 +66,9 @@ count-all-spec =
     μ-loop
     terminals-requires
     loop-holds
-    sub-c
+    sub-level
     level-requires
+    sub-c
     loop-less
     loop-again
     same-length

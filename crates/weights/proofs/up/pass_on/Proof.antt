@@ -30,21 +30,21 @@ multiply-requires c κs = search needs
 note-requires : tie.Need-note-requires
 note-requires c κs = turn-in (c .before .before .before .before .before .before .before .before .pre) .0
 
--- src/up.rt:46:31
+-- src/up.rt:46:9
 low-link-of-requires : tie.Need-low-link-of-requires
 low-link-of-requires c κs = search needs
 
--- src/up.rt:46:5
-give-requires : tie.Need-give-requires
-give-requires c κs = turn-low (c .before .before .before .before .before .before .before .before .before .before .before .before .before .pre) (c .before .before .before .before .note .ensures _ (turn-weight (c .before .before .before .before .before .before .before .before .before .before .before .before .before .pre) (c .before .before .before .before .before .before .before .before .count-at .ensures) (c .before .before .before .before .before .before .before .count-at2 .ensures) (c .before .before .before .before .before .before .multiply .ensures))) (c .before .before .before .before .before .before .before .before .count-at .ensures) (c .low-link-of .result .0) (c .low-link-of .ensures)
-
--- src/up.rt:47:31
+-- src/up.rt:47:9
 high-link-of-requires : tie.Need-high-link-of-requires
 high-link-of-requires c κs = search needs
 
--- src/up.rt:47:5
+-- src/up.rt:48:5
+give-requires : tie.Need-give-requires
+give-requires c κs = turn-low (c .before .before .before .before .before .before .before .before .before .before .before .before .before .before .pre) (c .before .before .before .before .before .note .ensures _ (turn-weight (c .before .before .before .before .before .before .before .before .before .before .before .before .before .before .pre) (c .before .before .before .before .before .before .before .before .before .count-at .ensures) (c .before .before .before .before .before .before .before .before .count-at2 .ensures) (c .before .before .before .before .before .before .before .multiply .ensures))) (c .before .before .before .before .before .before .before .before .before .count-at .ensures) (c .before .before .low-link-of .result .0) (c .before .before .low-link-of .ensures)
+
+-- src/up.rt:49:5
 give-requires-2 : tie.Need-give-requires-2
-give-requires-2 c κs = turn-high (c .before .before .before .before .before .before .before .before .before .before .before .before .before .before .before .before .before .before .pre) (c .before .before .before .before .before .before .before .before .before .note .ensures _ (turn-weight (c .before .before .before .before .before .before .before .before .before .before .before .before .before .before .before .before .before .before .pre) (c .before .before .before .before .before .before .before .before .before .before .before .before .before .count-at .ensures) (c .before .before .before .before .before .before .before .before .before .before .before .before .count-at2 .ensures) (c .before .before .before .before .before .before .before .before .before .before .before .multiply .ensures))) (c .before .before .before .before .before .before .before .before .before .before .before .before .before .count-at .ensures) (c .before .before .before .before .before .low-link-of .result .0) (c .before .before .before .before .before .low-link-of .ensures) (c .before .before .before .before .give .ensures) (c .high-link-of .result .0) (c .high-link-of .ensures)
+give-requires-2 c κs = turn-high (c .before .before .before .before .before .before .before .before .before .before .before .before .before .before .before .before .before .before .pre) (c .before .before .before .before .before .before .before .before .before .note .ensures _ (turn-weight (c .before .before .before .before .before .before .before .before .before .before .before .before .before .before .before .before .before .before .pre) (c .before .before .before .before .before .before .before .before .before .before .before .before .before .count-at .ensures) (c .before .before .before .before .before .before .before .before .before .before .before .before .count-at2 .ensures) (c .before .before .before .before .before .before .before .before .before .before .before .multiply .ensures))) (c .before .before .before .before .before .before .before .before .before .before .before .before .before .count-at .ensures) (c .before .before .before .before .before .before .low-link-of .result .0) (c .before .before .before .before .before .before .low-link-of .ensures) (c .before .before .before .give .ensures) (c .before .before .before .before .before .high-link-of .result .0) (c .before .before .before .before .before .high-link-of .ensures)
 
 -- src/up.rt:39:1
 same-length : tie.Need-same-length
@@ -52,7 +52,7 @@ same-length c = search needs
 
 -- src/up.rt:39:1
 returns : tie.Need-returns
-returns c = turn-done (c .before .before .before .before .before .before .before .before .before .before .before .before .before .before .before .before .before .before .before .before .before .pre) (c .before .before .before .before .before .before .before .before .before .before .before .before .note .ensures _ (turn-weight (c .before .before .before .before .before .before .before .before .before .before .before .before .before .before .before .before .before .before .before .before .before .pre) (c .before .before .before .before .before .before .before .before .before .before .before .before .before .before .before .before .count-at .ensures) (c .before .before .before .before .before .before .before .before .before .before .before .before .before .before .before .count-at2 .ensures) (c .before .before .before .before .before .before .before .before .before .before .before .before .before .before .multiply .ensures))) (c .before .before .before .before .before .before .before .before .before .before .before .before .before .before .before .before .count-at .ensures) (c .before .before .before .before .before .before .before .before .low-link-of .result .0) (c .before .before .before .before .before .before .before .before .low-link-of .ensures) (c .before .before .before .before .before .before .before .give .ensures) (c .before .before .before .high-link-of .result .0) (c .before .before .before .high-link-of .ensures) (c .before .before .give2 .ensures)
+returns c = turn-done (c .before .before .before .before .before .before .before .before .before .before .before .before .before .before .before .before .before .before .before .before .before .pre) (c .before .before .before .before .before .before .before .before .before .before .before .before .note .ensures _ (turn-weight (c .before .before .before .before .before .before .before .before .before .before .before .before .before .before .before .before .before .before .before .before .before .pre) (c .before .before .before .before .before .before .before .before .before .before .before .before .before .before .before .before .count-at .ensures) (c .before .before .before .before .before .before .before .before .before .before .before .before .before .before .before .count-at2 .ensures) (c .before .before .before .before .before .before .before .before .before .before .before .before .before .before .multiply .ensures))) (c .before .before .before .before .before .before .before .before .before .before .before .before .before .before .before .before .count-at .ensures) (c .before .before .before .before .before .before .before .before .before .low-link-of .result .0) (c .before .before .before .before .before .before .before .before .before .low-link-of .ensures) (c .before .before .before .before .before .before .give .ensures) (c .before .before .before .before .before .before .before .before .high-link-of .result .0) (c .before .before .before .before .before .before .before .before .high-link-of .ensures) (c .before .before .give2 .ensures)
 
 pub pass-on-spec : {M : Type 1} → statement M
 pass-on-spec =
@@ -63,8 +63,8 @@ pass-on-spec =
     multiply-requires
     note-requires
     low-link-of-requires
-    give-requires
     high-link-of-requires
+    give-requires
     give-requires-2
     same-length
     returns)
