@@ -6,6 +6,7 @@
 --     Descent    the first pass
 --     Ascent     the second pass
 --     Answers    what the public function answers
+--     Visits     what weights say: of the terminals and the root, and of several nodes together
 pub mod Dots
 pub mod Levels
 pub mod Entries
@@ -13,3 +14,4 @@ pub mod Chaining
 pub mod Descent
 pub mod Ascent
 pub mod Answers
+pub mod Visits

@@ -54,7 +54,7 @@ same-length c = c .before .loop .inv .2 ∙ c .before .before .before .before .t
 
 -- src/down.rt:65:1
 returns : tie.Need-returns Inv-loop μ-loop
-returns c = 
+returns c =
     let e : c .before .loop .c ≡ 0 = omega arith in
     rw e at (c .before .loop .inv .0)
 
