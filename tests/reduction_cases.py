@@ -1,13 +1,13 @@
-#!/usr/bin/env python3
-"""Writes crates/reduction_run/stdout: what reduction must answer in each case that the program runs.
-
-Reduction is done here from truth tables where there are few variables, and else from node lists with a dictionary of the
-triples met so far; both follow document 01 and share nothing with the code under test.
-"""
+"""Writes crates/reduction_run/stdout: what reduction must answer in each case that the program runs. Reduction is done here
+from truth tables where there are few variables, and else from node lists with a dictionary of the triples met so far."""
 import os
 import sys
 
+from reading import ROOM, most, verdict
+
 sys.setrecursionlimit(10000)
+HERE = os.path.dirname(os.path.abspath(__file__))
+LENT, LENT_ROOM = 12291, 262150
 
 
 def from_nodes(words):
@@ -77,25 +77,28 @@ def total(words):
     return s
 
 
-def accepted(name, words, answer):
-    n, v, k = len(words) // 3, words[0], len(answer) // 3
-    shown = "".join(f" {x}" for x in answer) if len(answer) <= 15 else ""
-    return f"{name}: accepted {n} {v}  nodes {k} {total(answer)}{shown}  beyond yes  room {64 * max(n, 2)} yes  again yes"
+def line(name, words, answer, lent=LENT, room=LENT_ROOM):
+    kind, a, b = verdict(words, room, ('diagram', lent))
+    if kind == 'refused':
+        zeros = 0 if a <= 5 else ROOM * most(len(words) // 3)
+        return f'{name}: refused {a} at {b}  nodes 0  beyond yes  room {zeros} yes'
+    reduced = answer(words)
+    shown = ''.join(f' {x}' for x in reduced) if len(reduced) <= 15 else ''
+    return f'{name}: accepted {a} {b}  nodes {len(reduced) // 3} {total(reduced)}{shown}  beyond yes  room {ROOM * most(a)} yes  again yes'
 
 
-def refused(name, number, place, zeros):
-    return f"{name}: refused {number} at {place}  nodes 0  beyond yes  room {zeros} yes"
-
-
-def small(name, words):
+def by_table(words):
     answer = from_table(words[0], table_of(words))
     assert answer == from_nodes(words)
-    return accepted(name, words, answer)
+    return answer
+
+
+def small(name, words, lent=LENT, room=LENT_ROOM):
+    return line(name, words, by_table, lent, room)
 
 
 def long(name, nodes):
-    words = [x for node in nodes for x in node]
-    return accepted(name, words, from_nodes(words))
+    return line(name, [x for node in nodes for x in node], from_nodes)
 
 
 def terminals(vars_):
@@ -150,43 +153,43 @@ def mixed(seed, size):
 
 def functions(name, vars_, tables):
     nodes = [len(from_table(vars_, t)) // 3 for t in tables]
-    return f"{name} {vars_} variables: {len(nodes)} of which right {len(nodes)} with nodes {sum(nodes)}"
+    return f'{name} {vars_} variables: {len(nodes)} of which right {len(nodes)} with nodes {sum(nodes)}'
 
 
+D = [3, 0, 0, 3, 1, 1, 2, 0, 1, 1, 2, 1, 0, 2, 3]
 lines = [
-    small("D", [3, 0, 0, 3, 1, 1, 2, 0, 1, 1, 2, 1, 0, 2, 3]),
-    small("D, longer", [3, 0, 0, 3, 1, 1, 1, 4, 1, 1, 5, 5, 2, 0, 1, 2, 0, 1, 0, 3, 2]),
-    small("x0 and x1 and x2", [3, 0, 0, 3, 1, 1, 2, 0, 1, 1, 0, 2, 0, 0, 3]),
-    small("C3", [3, 0, 0, 3, 1, 1, 1, 0, 1, 0, 0, 2]),
-    small("C4", [3, 0, 0, 3, 1, 1, 2, 0, 1, 0, 2, 0]),
-    small("C5", [3, 0, 0, 3, 1, 1, 2, 0, 1, 0, 2, 1]),
-    small("exclusive or", [2, 0, 0, 2, 1, 1, 1, 1, 0, 1, 0, 1, 0, 3, 2]),
-    small("false", [3, 0, 0]),
-    small("true", [3, 0, 0, 3, 1, 1]),
-    long("257 nodes, false", constant(0)),
-    long("257 nodes, true", constant(1)),
-    long("511 nodes, odd", odd()),
-    long("4,096 nodes, few", few()),
-    long("4,096 nodes, all", every()),
-    refused("no words", 1, 0, 0),
-    refused("broken words", 2, 0, 0),
-    refused("4,097 nodes", 3, 0, 0),
-    refused("bad terminal", 6, 1, 128),
-    refused("256 variables", 7, 0, 128),
-    refused("bad variable", 8, 2, 192),
-    refused("bad low link", 9, 2, 192),
-    refused("bad high link", 10, 2, 192),
-    refused("bad order", 11, 3, 256),
-    refused("unreached", 12, 2, 256),
-    refused("short output", 4, 0, 0),
-    small("output and room that fit", [3, 0, 0, 3, 1, 1, 2, 0, 1, 1, 2, 1, 0, 2, 3]),
-    refused("short room", 5, 0, 0),
+    small('D', D),
+    small('D, longer', [3, 0, 0, 3, 1, 1, 1, 4, 1, 1, 5, 5, 2, 0, 1, 2, 0, 1, 0, 3, 2]),
+    small('x0 and x1 and x2', [3, 0, 0, 3, 1, 1, 2, 0, 1, 1, 0, 2, 0, 0, 3]),
+    small('C3', [3, 0, 0, 3, 1, 1, 1, 0, 1, 0, 0, 2]),
+    small('C4', [3, 0, 0, 3, 1, 1, 2, 0, 1, 0, 2, 0]),
+    small('C5', [3, 0, 0, 3, 1, 1, 2, 0, 1, 0, 2, 1]),
+    small('exclusive or', [2, 0, 0, 2, 1, 1, 1, 1, 0, 1, 0, 1, 0, 3, 2]),
+    small('false', [3, 0, 0]),
+    small('true', [3, 0, 0, 3, 1, 1]),
+    long('257 nodes, false', constant(0)),
+    long('257 nodes, true', constant(1)),
+    long('511 nodes, odd', odd()),
+    long('4,096 nodes, few', few()),
+    long('4,096 nodes, all', every()),
+    small('no words', []),
+    small('broken words', [3, 0, 0, 3]),
+    small('4,097 nodes', [0] * 12291),
+    small('bad terminal', [3, 0, 0, 3, 1, 0]),
+    small('256 variables', [256, 0, 0]),
+    small('bad variable', [3, 0, 0, 3, 1, 1, 3, 0, 1]),
+    small('bad low link', [3, 0, 0, 3, 1, 1, 0, 3, 1]),
+    small('bad high link', [3, 0, 0, 3, 1, 1, 0, 1, 3]),
+    small('bad order', [3, 0, 0, 3, 1, 1, 1, 0, 1, 1, 2, 0]),
+    small('unreached', [3, 0, 0, 3, 1, 1, 1, 0, 1, 1, 1, 0]),
+    small('short output', D, lent=14, room=320),
+    small('output and room that fit', D, lent=15, room=320),
+    small('short room', D, lent=15, room=319),
 ]
 for v in range(4):
-    lines.append(functions("all functions of", v, [[f >> x & 1 for x in range(2**v)] for f in range(2 ** 2**v)]))
+    lines.append(functions('all functions of', v, [[f >> x & 1 for x in range(2 ** v)] for f in range(2 ** 2 ** v)]))
 for v in range(4, 9):
-    lines.append(functions("some functions of", v, [mixed(f, 2**v) for f in range(100)]))
+    lines.append(functions('some functions of', v, [mixed(f, 2 ** v) for f in range(100)]))
 
-here = os.path.dirname(os.path.dirname(os.path.abspath(__file__)))
-with open(os.path.join(here, "crates", "reduction_run", "stdout"), "w", encoding="ascii") as f:
-    f.write("".join(line + "\n" for line in lines))
+with open(os.path.join(HERE, '..', 'crates', 'reduction_run', 'stdout'), 'w', encoding='ascii') as f:
+    f.write(''.join(line + '\n' for line in lines))

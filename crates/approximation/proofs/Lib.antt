@@ -1,7 +1,6 @@
 -- Laws of cuts.
 --     Constants  the constants hold always or never
 --     Relink     links sent elsewhere
---     Negation   the negation holds exactly where the diagram does not
 --     Send       cutting is sending links to a terminal and reducing
 --     Cut        what is promised of a cut
 --     Sort       sorting by halves
@@ -13,7 +12,6 @@
 --     Nights     the examples of document 01
 pub mod Constants
 pub mod Relink
-pub mod Negation
 pub mod Send
 pub mod Cut
 pub mod Sort

@@ -1,5 +1,5 @@
 -- The answers to a target: the early ones and the searches; inclusion, and the target met.
-use Prim.Native.Nat.{ℕ, zero, suc, _-_, _^_, _≤_, _<_, max}
+use Prim.Native.Nat.{ℕ, zero, suc, _-_, _^_, _≤_, _<_}
 use mathlib.Core.Path.{_≡_, refl, sym, ap, _∙_}
 use mathlib.Core.Bool.{Bool, true, false, cond, not}
 use mathlib.Core.List.{List, [], _∷_}
@@ -13,12 +13,11 @@ use Rattle.diagram.proofs.Tests.{by-test, by-eq, not-both}
 use Rattle.diagram.proofs.Reading.{accepted-ordered}
 use Rattle.diagram.proofs.Tally.{tally-zero, tally-suc, tally-none, tally-most}
 use Rattle.approximation.specs.Constants.{falseOf, trueOf}
-use Rattle.approximation.specs.Negation.{other, negated}
+use Rattle.negation.specs.Negation.{negated}
 use Rattle.approximation.specs.Cut.{Under, Over}
 use Rattle.approximation.specs.Search.{Answer, answer, cutFirst, sizeSearch, underToSize, back, overToSize, countSearch, underToCount, overToCount}
 use Rattle.approximation.proofs.Constants.{false-holds, one-holds, two-holds, false-accepted, true-accepted}
-use Rattle.approximation.proofs.Negation.{negated-vars, negated-is-two, negated-holds, negated-count, negated-accepted, by-negated}
-use Rattle.approximation.proofs.Relink.{relinked-size}
+use Rattle.negation.proofs.Meaning.{negated-vars, negated-is-two, negated-holds, negated-count, negated-accepted, negated-most}
 use Rattle.approximation.proofs.Search.{first-under, first-size, size-by-rules, by-size-rules, false-count, count-by-rules, by-count-rules}
 
 -- ---- underapproximations to a size
@@ -115,23 +114,18 @@ module _ (w : List ℕ) (t : ℕ) (a : Accepted w) where
 
 -- ---- overapproximations, by negation
 
-negated-most : (w : List ℕ) → size (negated w) ≤ max (size w) 2
-negated-most w = by-negated w (λ x. size x ≤ max (size w) 2)
-    (λ e. omega arith) (λ e. omega arith) (λ x y. let n = relinked-size other w in omega arith)
-
 -- What implies the negation, negated, is implied.
-pub over-by-negation : (w u : List ℕ) → Ordered w → Under (negated w) u → Over w (negated u)
-over-by-negation w u o under =
-    let n = negated-vars w in
+pub over-by-negation : (w u : List ℕ) → Accepted w → Under (negated w) u → Over w (negated u)
+over-by-negation w u a under =
+    let n = negated-vars w a in
     let v : vars u ≡ vars w = under .variables ∙ n in
-    let ordered-u = accepted-ordered u (under .accepted) in
     record {
       accepted = negated-accepted u (under .accepted);
-      variables = negated-vars u ∙ v;
+      variables = negated-vars u (under .accepted) ∙ v;
       implied = λ bs l h.
-          negated-holds u ordered-u bs (l ∙ sym v)
+          negated-holds u (under .accepted) bs
           ∙ by-test (holds u bs)
-          (λ e. absurd (not-both (holds w bs) h (not-true (holds w bs) (sym (negated-holds w o bs l) ∙ under .implies bs (l ∙ sym n) e))))
+          (λ e. absurd (not-both (holds w bs) h (not-true (holds w bs) (sym (negated-holds w a bs) ∙ under .implies bs (l ∙ sym n) e))))
           (λ e. ap not e);
     }
 
@@ -143,13 +137,13 @@ module _ (w : List ℕ) (t : ℕ) (a : Accepted w) where
   pub over-to-size-over : Over w (overToSize w t .words)
   unfolding overToSize
   over-to-size-over = rw (back-words (underToSize (negated w) t))
-      (over-by-negation w (underToSize (negated w) t .words) (accepted-ordered w a) (to-size-under (negated w) t (negated-accepted w a)))
+      (over-by-negation w (underToSize (negated w) t .words) a (to-size-under (negated w) t (negated-accepted w a)))
 
   pub over-to-size-fits : 2 ≤ t → size (overToSize w t .words) ≤ t
   unfolding overToSize
   over-to-size-fits two =
       let fits = to-size-fits (negated w) t (negated-accepted w a) two in
-      let most = negated-most (underToSize (negated w) t .words) in
+      let most = negated-most (underToSize (negated w) t .words) (to-size-under (negated w) t (negated-accepted w a) .accepted) in
       rw (back-words (underToSize (negated w) t)) (omega arith)
 
 -- ---- counts
@@ -261,10 +255,10 @@ module _ (w : List ℕ) (k : ℕ) where
 module _ (w : List ℕ) (k : ℕ) (a : Accepted w) (most : k ≤ 2 ^ vars w) (open-target : size w ≡ 1 → 0 < k → k < 2 ^ vars w → ⊥) where
   opposite-open : countOf w < k → Open (negated w) (opposite w k)
   opposite-open high e low less =
-      let one = negated-is-two w e in
+      let one = negated-is-two w a e in
       let none = one-count w one in
-      let all = negated-count w (accepted-ordered w a) in
-      let v = ap (λ (n : ℕ). 2 ^ n) (negated-vars w) in
+      let all = negated-count w a in
+      let v = ap (λ (n : ℕ). 2 ^ n) (negated-vars w a) in
       open-target one (omega arith) (omega arith)
 
   over-words : countOf w < k → overToCount w k .words ≡ negated (underToCount (negated w) (opposite w k) .words)
@@ -283,7 +277,7 @@ module _ (w : List ℕ) (k : ℕ) (a : Accepted w) (most : k ≤ 2 ^ vars w) (op
   pub over-to-count-over : Over w (overToCount w k .words)
   over-to-count-over = by-over-count (Over w)
       (λ h. itself-over w a)
-      (λ h. over-by-negation w (underToCount (negated w) (opposite w k) .words) (accepted-ordered w a) (negation-under h))
+      (λ h. over-by-negation w (underToCount (negated w) (opposite w k) .words) a (negation-under h))
 
   pub over-to-count-fits : k ≤ countOf (overToCount w k .words)
   over-to-count-fits = by-over-count (λ x. k ≤ countOf x)
@@ -292,7 +286,7 @@ module _ (w : List ℕ) (k : ℕ) (a : Accepted w) (most : k ≤ 2 ^ vars w) (op
       let u = underToCount (negated w) (opposite w k) .words in
       let under = negation-under h in
       let fits = to-count-fits (negated w) (opposite w k) (negated-accepted w a) (opposite-open h) in
-      let all = negated-count w (accepted-ordered w a) in
-      let all-u = negated-count u (accepted-ordered u (under .accepted)) in
-      let v = ap (λ (n : ℕ). 2 ^ n) (under .variables ∙ negated-vars w) in
+      let all = negated-count w a in
+      let all-u = negated-count u (under .accepted) in
+      let v = ap (λ (n : ℕ). 2 ^ n) (under .variables ∙ negated-vars w a) in
       omega arith)

@@ -1,7 +1,6 @@
 -- What a reader must believe of cuts.
 --     Constants  false and true as diagrams
 --     Links      a diagram with its links sent elsewhere
---     Negation   links 0 and 1 exchanged
 --     Cut        cutting by a list, and what refuses a list or a target
 --     Search     priorities, and cutting to a size or to a count
 --     Sorted     what a sorted list without repeats is
@@ -12,7 +11,6 @@
 --     Merge      merging sorted lists
 pub mod Constants
 pub mod Links
-pub mod Negation
 pub mod Cut
 pub mod Search
 pub mod Sorted

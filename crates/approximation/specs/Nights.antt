@@ -1,10 +1,11 @@
 -- "Nights worked out by hand" of document 01, as one list of cases; `nights` of proofs/Nights.antt says that all are right.
-use Prim.Native.Nat.{ℕ, zero, suc, _+_}
-use mathlib.Core.Bool.{Bool, true, false, cond, _&&_}
+use Prim.Native.Nat.{ℕ}
+use mathlib.Core.Bool.{Bool, true, false, _&&_}
 use mathlib.Core.List.{List, [], _∷_, _++_}
-use lib.Dec.{eqb, ltb}
-use Rattle.diagram.specs.Diagram.{size, vars, lowOf, highOf, root}
+use lib.Dec.{eqb}
+use Rattle.diagram.specs.Diagram.{size}
 use Rattle.diagram.specs.Valuations.{countOf, weightOf}
+use Rattle.counts.specs.Paths.{pathCountOf}
 use Rattle.diagram.specs.Verdict.{Outcome, accepted, refused}
 use Rattle.approximation.specs.Links.{table}
 use Rattle.approximation.specs.Constants.{falseOf, trueOf}
@@ -21,15 +22,6 @@ all-three = 3 ∷ 0 ∷ 0 ∷ 3 ∷ 1 ∷ 1 ∷ 2 ∷ 0 ∷ 1 ∷ 1 ∷ 0 ∷ 2 
 -- A diagram by the nodes after its terminals.
 abbrev pub after : List ℕ → List ℕ
 after nodes = trueOf 3 ++ nodes
-
--- How many paths of at most k links lead from p to node 1; variables grow along a path, so none has more links than there
--- are variables.
-unfoldable pub paths : List ℕ → ℕ → ℕ → ℕ
-paths w zero p = cond (eqb p 1) 1 0
-paths w (suc k) p = cond (ltb p 2) (cond (eqb p 1) 1 0) (paths w k (lowOf w p) + paths w k (highOf w p))
-
-abbrev pub pathCountOf : List ℕ → ℕ
-pathCountOf w = paths w (vars w) (root w)
 
 pub data Case : Type 0 where
   -- a diagram's weights

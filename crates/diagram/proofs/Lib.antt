@@ -11,6 +11,8 @@
 --     Rows        the returns of the checks are the rows of the verdict
 --     Accepting   what an acceptance tells
 --     Meaning     the verdict in document 01's words
+--     Entering    what the check tells an operation that begins with it
+--     Parents     an acceptance without a search
 pub mod Words
 pub mod Tests
 pub mod Count
@@ -23,3 +25,5 @@ pub mod Breaks
 pub mod Rows
 pub mod Accepting
 pub mod Meaning
+pub mod Entering
+pub mod Parents

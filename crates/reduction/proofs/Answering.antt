@@ -7,8 +7,8 @@ use mathlib.Core.List.{List, _++_}
 use native.Mathlib.Omega.{arith}
 use native.Mathlib.Decide.{decLt}
 use borrow.Author.Tests.{ltb-false}
-use lib.ListN.{length, getD, set, take, drop, replicate, length-set, length-append, length-take, length-drop, length-replicate, take-append-drop, List·getD-append}
-use lib.Seq.{getD-set-same, getD-set-other, getD-take, getD-drop, getD-append-add, ext-getD, length-take-le}
+use lib.ListN.{length, getD, set, take, drop, replicate, length-set, length-append, length-drop, length-replicate, take-append-drop, List·getD-append}
+use lib.Seq.{getD-set-same, getD-set-other, getD-drop, getD-append-add, ext-getD, length-take-le}
 use Rattle.diagram.specs.Limits.{maxNodes}
 use Rattle.diagram.specs.Diagram.{size, vars, root}
 use Rattle.diagram.specs.Verdict.{Outcome, accepted, refused, said, andThen, ifAccepted, most as most-of, roomOf, short, lengthsOf, contentsOf, verdictOf, cleared, roomAfter, Checked}
@@ -102,7 +102,7 @@ zeros-again k r s same fits none kept =
 
 -- ---- the whole
 
-module _ (w r out : List ℕ) (n v : ℕ) (a : Lent w r out n v) (m : ℕ) (is-m : m ≡ max n 2) where
+module _ {w r out : List ℕ} {n v : ℕ} (a : Lent w r out n v) {m : ℕ} (is-m : m ≡ max n 2) where
   most : m ≡ max (size w) 2
   most = is-m ∙ ap (λ (k : ℕ). max k 2) (a .is-size)
 
@@ -112,8 +112,8 @@ module _ (w r out : List ℕ) (n v : ℕ) (a : Lent w r out n v) (m : ℕ) (is-m
   pub lent-some : 0 < n
   lent-some = let e = a .is-size in let some = a .ordered .formed .some in omega arith
 
-  on-start : (s : List ℕ) → s ≡ started m r v → On w m (terminals (vars w)) s
-  on-start s e =
+  on-start : {s : List ℕ} → s ≡ started m r v → On w m (terminals (vars w)) s
+  on-start e =
       let is-most = most in
       let long = a .long in
       let none = a .zero in
@@ -133,40 +133,40 @@ module _ (w r out : List ℕ) (n v : ℕ) (a : Lent w r out n v) (m : ℕ) (is-m
             (started-five m r v (omega arith));
       })
 
-  module _ (s : List ℕ) (is-s : s ≡ started m r v) where
+  module _ {s : List ℕ} (is-s : s ≡ started m r v) where
     first-store : storeIn m s 2 ≡ terminals (vars w)
-    first-store = stands w m (terminals (vars w)) s (on-start s is-s) 2 refl
+    first-store = stands w m (terminals (vars w)) s (on-start is-s) 2 refl
 
-    pub walk-start : (p : ℕ) → p ≡ n - 1 → Walking w m s 2 p
-    walk-start p e =
+    pub walk-start : {p : ℕ} → p ≡ n - 1 → Walking w m s 2 p
+    walk-start {p} e =
         let at-root : p ≡ root w = e ∙ ap (λ (k : ℕ). k - 1) (a .is-size) in
         rw at-root (record {
-          on = rw first-store (on-start s is-s);
+          on = rw first-store (on-start is-s);
           node = root-in w (a .ordered);
           fits = rw first-store (let fits = store-fits w (a .ordered) in let e = most in omega arith);
         })
 
-    module _ (p : ℕ) (is-p : p ≡ n - 1) (t : List ℕ) (x k : ℕ) (walked : Walked w m s 2 p t x k) where
+    module _ {p : ℕ} (is-p : p ≡ n - 1) {t : List ℕ} {x k : ℕ} (walked : Walked w m s 2 p t x k) where
       made : own w (vars w) p (storeIn m s 2) ≡ own w (vars w) (root w) (terminals (vars w))
       made =
           let at-root : p ≡ root w = is-p ∙ ap (λ (k : ℕ). k - 1) (a .is-size) in
           rw (at-root, first-store) refl
 
       pub answer-small : x < m
-      answer-small = let place = walk-place w m s 2 p (walk-start p is-p) in let e = walked .is-pointer in omega arith
+      answer-small = let place = walk-place (walk-start is-p) in let e = walked .is-pointer in omega arith
 
       pub answer-fits : 3 * (x + 1) ≤ length out
       answer-fits = let small = answer-small in let e = most in let fits = a .output in omega arith
 
       -- c nodes are copied, and the tables cleared.
-      module _ (c : ℕ) (is-c : c ≡ x + 1) (out′ : List ℕ) (kept : length out′ ≡ length out) (copied : Copied t m out out′ (3 * c)) where
+      module _ {c : ℕ} (is-c : c ≡ x + 1) {out′ : List ℕ} (kept : length out′ ≡ length out) (copied : Copied t m out out′ (3 * c)) where
         store : List Node
         store = own w (vars w) p (storeIn m s 2) .store
 
         in-store : c ≤ length store
         unfolding store
         in-store =
-            let inside = own-means w (vars w) (size w) (layered w (a .ordered)) p (walk-start p is-p .node) (storeIn m s 2) (walk-start p is-p .on .bench .sound) .place in
+            let inside = own-means w (vars w) (size w) (layered w (a .ordered)) p (walk-start is-p .node) (storeIn m s 2) (walk-start is-p .on .bench .sound) .place in
             let e = walked .is-pointer in
             omega arith
 
@@ -191,8 +191,8 @@ module _ (w r out : List ℕ) (n v : ℕ) (a : Lent w r out n v) (m : ℕ) (is-m
             take-words (own w (vars w) p (storeIn m s 2) .store) (wordIn m t) (walked .on .bench .held) out′ c in-store (omega arith) (copied .first)
             ∙ result
 
-        pub answer-ends : length t ≡ length r → (u : List ℕ) → u ≡ replicate (min (6 * m) (length t)) 0 ++ drop (6 * m) t → Answered w r out u out′ c
-        answer-ends same u e =
+        pub answer-ends : length t ≡ length r → {u : List ℕ} → u ≡ replicate (min (6 * m) (length t)) 0 ++ drop (6 * m) t → Answered w r out u out′ c
+        answer-ends same e =
             let is-most = most in
             let long = a .long in
             record {
@@ -218,13 +218,13 @@ lent-enough : (w : List ℕ) (lent : ℕ) → short w (Diagram lent) ≡ false �
 unfolding short
 lent-enough w lent e = ltb-false lent (3 * most-of w) e
 
-module _ (w before after out : List ℕ) (r : Verdict) (checked : Checked w (Diagram (length out)) before after r) where
-  pub answer-refused : (k p : ℕ) → r ≡ Refused k p → Answer w before after out out (record { verdict = r; nodes = 0 })
-  answer-refused k p e =
+module _ {w before after : List ℕ} (out : List ℕ) {r : Verdict} (checked : Checked w (Diagram (length out)) before after r) where
+  pub answer-refused : {k p : ℕ} → r ≡ Refused k p → Answer w before after out out (record { verdict = r; nodes = 0 })
+  answer-refused {k} {p} e =
       let told : verdictOf w (Diagram (length out)) (length before) ≡ refused k p = sym (checked .verdict) ∙ ap said e in
       record { checked = checked; nodes = rw told refl; output = rw told refl }
 
-  module _ (n v : ℕ) (e : r ≡ Accepted n v) where
+  module _ {n v : ℕ} (e : r ≡ Accepted n v) where
     told-accepted : verdictOf w (Diagram (length out)) (length before) ≡ accepted n v
     told-accepted = sym (checked .verdict) ∙ ap said e
 
@@ -244,9 +244,9 @@ module _ (w before after out : List ℕ) (r : Verdict) (checked : Checked w (Dia
           output = lent-enough w (length out) (told .lent);
         })
 
-    pub answer-accepted : (after′ out′ : List ℕ) (k : ℕ) → Answered w after out after′ out′ k
+    pub answer-accepted : {after′ out′ : List ℕ} {k : ℕ} → Answered w after out after′ out′ k
         → Answer w before after′ out out′ (record { verdict = Accepted n v; nodes = k })
-    answer-accepted after′ out′ k a = record {
+    answer-accepted a = record {
       checked = record { verdict = sym told-accepted; left = a .room ∙ checked .left };
       nodes = rw told-accepted (a .count);
       output = rw told-accepted (a .output);

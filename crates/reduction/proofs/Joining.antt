@@ -26,24 +26,24 @@ abbrev pub threeAt : List ℕ → ℕ → Node
 threeAt r a = node (getD r a 0) (getD r (a + 1) 0) (getD r (a + 2) 0)
 
 -- The returns of `is_node`.
-pub three-low : (r : List ℕ) (a : ℕ) (n : Node) (x : ℕ) → x ≡ getD r (a + 1) 0 → x ≢ n .low → false ≡ same (threeAt r a) n
-three-low r a n x e ne = sym (same-no (threeAt r a) n (λ q. ne (e ∙ ap (λ (k : Node). k .low) q)))
+pub three-low : (r : List ℕ) (a : ℕ) (n : Node) {x : ℕ} → x ≡ getD r (a + 1) 0 → x ≢ n .low → false ≡ same (threeAt r a) n
+three-low r a n e ne = sym (same-no (threeAt r a) n (λ q. ne (e ∙ ap (λ (k : Node). k .low) q)))
 
-pub three-high : (r : List ℕ) (a : ℕ) (n : Node) (x : ℕ) → x ≡ getD r (a + 2) 0 → x ≢ n .high → false ≡ same (threeAt r a) n
-three-high r a n x e ne = sym (same-no (threeAt r a) n (λ q. ne (e ∙ ap (λ (k : Node). k .high) q)))
+pub three-high : (r : List ℕ) (a : ℕ) (n : Node) {x : ℕ} → x ≡ getD r (a + 2) 0 → x ≢ n .high → false ≡ same (threeAt r a) n
+three-high r a n e ne = sym (same-no (threeAt r a) n (λ q. ne (e ∙ ap (λ (k : Node). k .high) q)))
 
-pub three-var : (r : List ℕ) (a : ℕ) (n : Node) (x y z : ℕ) → x ≡ getD r (a + 1) 0 → x ≡ n .low → y ≡ getD r (a + 2) 0 → y ≡ n .high → z ≡ getD r a 0
+pub three-var : (r : List ℕ) (a : ℕ) (n : Node) {x y z : ℕ} → x ≡ getD r (a + 1) 0 → x ≡ n .low → y ≡ getD r (a + 2) 0 → y ≡ n .high → z ≡ getD r a 0
     → eqb z (n .var) ≡ same (threeAt r a) n
 unfolding same
-three-var r a n x y z e low f high g =
+three-var r a n e low f high g =
     rw (g, eq-eqb (getD r (a + 1) 0) (n .low) (sym e ∙ low), eq-eqb (getD r (a + 2) 0) (n .high) (sym f ∙ high)) (sym (and-true (eqb (getD r a 0) (n .var))))
 
-module _ (m : ℕ) (r : List ℕ) (k : ℕ) (n : Node) (s : Shelf m r k) where
+module _ {m : ℕ} {r : List ℕ} {k : ℕ} (s : Shelf m r k) where
   shelf-some : 0 < m
   shelf-some = let e = s .sound .enough in let l = nodes-length (wordIn m r) k in let f = s .fits in omega arith
 
-  pub key-small : keyOf m n < m
-  key-small = key-below m n shelf-some
+  pub key-small : (n : Node) → keyOf m n < m
+  key-small n = key-below m n shelf-some
 
   store-at : (q : ℕ) → q < k → at (storeIn m r k) q ≡ threeAt r (m + 3 * q)
   store-at q h =
@@ -53,22 +53,22 @@ module _ (m : ℕ) (r : List ℕ) (k : ℕ) (n : Node) (s : Shelf m r k) where
       held-is (storeIn m r k) (wordIn m r) (threeAt r (m + 3 * q)) q (held-nodes (wordIn m r) k) (omega arith)
       refl (ap (λ (j : ℕ). getD r j 0) low) (ap (λ (j : ℕ). getD r j 0) high)
 
-  pub seek-begin : (h q : ℕ) → h ≡ keyOf m n → q ≡ getD r (5 * m + h) 0 → Seek (keyOf m) (storeIn m r k) n q
-  seek-begin h q e f =
-      rw (f, e) (seek-start (keyOf m) m (storeIn m r k) (headIn m r) (nextIn m r) n (s .chains) (let two = s .sound .enough in omega arith) key-small)
+  pub seek-begin : {n : Node} {h q : ℕ} → h ≡ keyOf m n → q ≡ getD r (5 * m + h) 0 → Seek (keyOf m) (storeIn m r k) n q
+  seek-begin {n} e f =
+      rw (f, e) (seek-start (keyOf m) m (storeIn m r k) (headIn m r) (nextIn m r) n (s .chains) (let two = s .sound .enough in omega arith) (key-small n))
 
-  module _ (q : ℕ) (t : Seek (keyOf m) (storeIn m r k) n q) where
+  module _ {n : Node} {q : ℕ} (t : Seek (keyOf m) (storeIn m r k) n q) where
     pub seek-inside : q < k
     seek-inside = let i = t .inside in let l = nodes-length (wordIn m r) k in omega arith
 
     seek-differs : same (threeAt r (m + 3 * q)) n ≡ false → at (storeIn m r k) q ≢ n
     seek-differs f e = true≢false (sym (same-yes (threeAt r (m + 3 * q)) n (sym (store-at q seek-inside) ∙ e)) ∙ f)
 
-    pub seek-onward : q ≢ 0 → same (threeAt r (m + 3 * q)) n ≡ false → (x : ℕ) → x ≡ getD r (4 * m + q) 0 → Seek (keyOf m) (storeIn m r k) n x
-    seek-onward ne f x e = rw e (seek-next (keyOf m) m (storeIn m r k) (headIn m r) (nextIn m r) n q (s .chains) t ne (seek-differs f))
+    pub seek-onward : q ≢ 0 → same (threeAt r (m + 3 * q)) n ≡ false → {x : ℕ} → x ≡ getD r (4 * m + q) 0 → Seek (keyOf m) (storeIn m r k) n x
+    seek-onward ne f e = rw e (seek-next (keyOf m) m (storeIn m r k) (headIn m r) (nextIn m r) n q (s .chains) t ne (seek-differs f))
 
-    pub seek-less : q ≢ 0 → (x : ℕ) → x ≡ getD r (4 * m + q) 0 → x < q
-    seek-less ne x e = rw e (seek-falls (keyOf m) m (storeIn m r k) (headIn m r) (nextIn m r) n q (s .chains) t ne)
+    pub seek-less : q ≢ 0 → {x : ℕ} → x ≡ getD r (4 * m + q) 0 → x < q
+    seek-less ne e = rw e (seek-falls (keyOf m) m (storeIn m r k) (headIn m r) (nextIn m r) n q (s .chains) t ne)
 
     pub seek-hit : q ≢ 0 → same (threeAt r (m + 3 * q)) n ≡ true → Sought m r k n q
     seek-hit ne e =
@@ -85,8 +85,8 @@ module _ (m : ℕ) (r : List ℕ) (k : ℕ) (n : Node) (s : Shelf m r k) where
           | no x ↦ absurd (true≢false (sym e ∙ same-no a b x))
         ]
 
-  pub seek-end : (q : ℕ) → q ≡ 0 → Seek (keyOf m) (storeIn m r k) n q → Sought m r k n k
-  seek-end q e t = record {
+  pub seek-end : {n : Node} {q : ℕ} → q ≡ 0 → Seek (keyOf m) (storeIn m r k) n q → Sought m r k n k
+  seek-end {n} e t = record {
     most = omega arith;
     here = λ l. absurd (omega arith);
     absent = λ x. subst (Seek (keyOf m) (storeIn m r k) n) e t;
@@ -94,18 +94,18 @@ module _ (m : ℕ) (r : List ℕ) (k : ℕ) (n : Node) (s : Shelf m r k) where
 
   -- ---- the returns of joining
 
-  pub joins-equal : n .low ≡ n .high → Joined m r k n r (n .low) k
-  joins-equal e = there (join-equal (n .var) (n .low) (n .high) (storeIn m r k) e) refl refl
+  pub joins-equal : {n : Node} → n .low ≡ n .high → Joined m r k n r (n .low) k
+  joins-equal {n} e = there (join-equal (n .var) (n .low) (n .high) (storeIn m r k) e) refl refl
 
-  pub joins-found : n .low ≢ n .high → (q : ℕ) → Sought m r k n q → q < k → Joined m r k n r q k
-  joins-found ne q f l =
+  pub joins-found : {n : Node} → n .low ≢ n .high → {q : ℕ} → Sought m r k n q → q < k → Joined m r k n r q k
+  joins-found {n} ne {q} f l =
       let here = f .here l in
       let all = nodes-length (wordIn m r) k in
       there (join-there (n .var) (n .low) (n .high) (storeIn m r k) ne (omega arith) ∙ ap (built (storeIn m r k)) here) refl refl
 
-  pub joins-new : n .low ≢ n .high → (q : ℕ) → Sought m r k n q → k ≤ q → (h : ℕ) → h ≡ keyOf m n → (after : List ℕ) → after ≡ entered m r k h n
+  pub joins-new : {n : Node} → n .low ≢ n .high → {q : ℕ} → Sought m r k n q → k ≤ q → {h : ℕ} → h ≡ keyOf m n → {after : List ℕ} → after ≡ entered m r k h n
       → Joined m r k n after k (k + 1)
-  joins-new ne q f l h e after g =
+  joins-new {n} ne {q} f l e g =
       let most = f .most in
       added ne (f .absent (omega arith)) refl refl (g ∙ ap (λ (x : ℕ). entered m r k x n) e)
 

@@ -1,6 +1,6 @@
 -- The tables in the working room: keys are in range, and what entering a node writes and leaves.
 use Prim.Native.Nat.{ℕ, _+_, _*_, _/_, _%_, _^_, _≤_, _<_}
-use mathlib.Core.Path.{_≡_, refl, ap, _∙_}
+use mathlib.Core.Path.{_≡_, ap, _∙_}
 use mathlib.Core.Logic.{_≢_}
 use mathlib.Core.List.{List}
 use native.Mathlib.Omega.{arith}
@@ -122,14 +122,14 @@ module _ (m : ℕ) (r : List ℕ) (k h : ℕ) (n : Node) where
         ∙ written-other m r k n (5 * m + h) (λ e. omega arith) (λ e. omega arith) (λ e. omega arith)
 
 -- The stores of the code, one after the other.
-pub entered-is : (m : ℕ) (r : List ℕ) (k h : ℕ) (n : Node) (a b c d e : List ℕ) (x : ℕ) → a ≡ set r (m + 3 * k) (n .var) → b ≡ set a (m + 3 * k + 1) (n .low)
+pub entered-is : (m : ℕ) (r : List ℕ) (k h : ℕ) (n : Node) {a b c d e : List ℕ} {x : ℕ} → a ≡ set r (m + 3 * k) (n .var) → b ≡ set a (m + 3 * k + 1) (n .low)
     → c ≡ set b (m + 3 * k + 2) (n .high) → x ≡ getD c (5 * m + h) 0 → d ≡ set c (4 * m + k) x → e ≡ set d (5 * m + h) k → e ≡ entered m r k h n
 unfolding written chained
-entered-is m r k h n a b c d e x p q s t u v = cc
+entered-is m r k h n p q s t u v = cc
 
-pub started-is : (m : ℕ) (r : List ℕ) (v : ℕ) (a b c d : List ℕ) → a ≡ set r m v → b ≡ set a (m + 3) v → c ≡ set b (m + 4) 1 → d ≡ set c (m + 5) 1 → d ≡ started m r v
+pub started-is : (m : ℕ) (r : List ℕ) (v : ℕ) {a b c d : List ℕ} → a ≡ set r m v → b ≡ set a (m + 3) v → c ≡ set b (m + 4) 1 → d ≡ set c (m + 5) 1 → d ≡ started m r v
 unfolding started
-started-is m r v a b c d p q s t = cc
+started-is m r v p q s t = cc
 
 -- One word more has been copied.
 pub copy-more : (r out : List ℕ) (from i x : ℕ) → x ≡ getD r (from + i) 0 → i < length out → ((j : ℕ) → j < i → getD out j 0 ≡ getD r (from + j) 0)

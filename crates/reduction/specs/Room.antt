@@ -2,14 +2,14 @@
 -- No promise of reduction rests on this file. Everywhere m is the larger of the diagram's number of nodes and 2:
 --     [0, m)      the memo                    [4m, 5m)    for each node of the store the one before it with the same key
 --     [m, 4m)     the words of the nodes      [5m, 6m)    for each key the last node that has it
-use Prim.Native.Nat.{ℕ, suc, _+_, _*_, _/_, _%_, _≤_, _<_, max}
+use Prim.Native.Nat.{ℕ, _+_, _*_, _/_, _%_, _≤_, _<_, max}
 use mathlib.Core.Path.{_≡_}
 use mathlib.Core.Logic.{_≢_}
 use mathlib.Core.List.{List, _++_}
 use lib.ListN.{length, getD, set, drop}
 use Rattle.diagram.specs.Limits.{maxNodes}
 use Rattle.diagram.specs.Diagram.{size, vars, Ordered}
-use Rattle.reduction.specs.Reduce.{Node, node, find, Built, built, join, reduce}
+use Rattle.reduction.specs.Reduce.{Node, node, find, built, join, reduce}
 use Rattle.reduction.specs.Build.{at, Sound, nodes, own, Chains, Bench, Seek}
 
 -- ---- the tables

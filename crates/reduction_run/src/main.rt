@@ -1,10 +1,10 @@
-// Runs `reduce` and prints a line for each case: its name, and the verdict. Where the words are accepted there follow the
-// number of nodes of the answer, a sum over its words, and whether reducing it again gives the same words, whether the output
-// beyond it is as it was and whether the room is zero; then its words, where they are few. Where they are refused there
-// follow whether the output is as it was, and the room. The last lines are of all functions of up to 3 variables, and of
-// some of 4 to 8, each given as its whole decision tree: of how many the answer has as many nodes as the truth table has
-// different blocks that depend on their first variable, with the terminals; and the nodes of all together. The expected
-// output was computed by another program, from truth tables and node lists, which shares nothing with this code.
+// Runs `reduce` and prints a line for each case: the verdict; the number of nodes of the answer, a sum over its words, and
+// the words where they are few; whether the output beyond them is as it was; how many words at the front of the room are zero,
+// and whether those after them are as they were; whether reducing the answer again gives the same words. The last lines are
+// of all functions of up to 3 variables and of some of 4 to 8, each given as its whole decision tree: of how many the answer
+// has as many nodes as the truth table has different blocks that depend on their first variable, with the terminals; and the
+// nodes of all together. The expected output is made by tests/reduction_cases.py, from a reading of document 01 that shares
+// nothing with this code.
 mod arrays;
 mod tables;
 

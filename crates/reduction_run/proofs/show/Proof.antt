@@ -1,8 +1,6 @@
-use Prim.Native.Nat.{_+_, _-_, _*_, _≤_, _<_}
-use mathlib.Core.Path.{_≡_}
+use Prim.Native.Nat.{_-_, _≤_}
 use lib.ListN.{length}
 use borrow.Author.Needs.{needs}
-use native.Mathlib.Omega.{arith}
 use Rattle.reduction_run.proofs.show.Statement.{statement}
 use Rattle.reduction_run.proofs.show.Tie as tie
 

@@ -1,7 +1,6 @@
 use Rattle.reduction.proofs.Answering.{lent-few, lent-some, walk-start, answer-small, answer-fits, answer-ends}
-use denote.Ref.{now}
-use mathlib.Core.Path.{refl, sym, ap, _∙_}
-use Prim.Native.Nat.{ℕ, _+_, _-_, _*_}
+use mathlib.Core.Path.{refl, ap, _∙_}
+use Prim.Native.Nat.{ℕ, _+_}
 use native.Mathlib.Omega.{arith}
 use borrow.Author.Needs.{needs}
 use Rattle.reduction.proofs.answer.answer.Statement.{statement}
@@ -11,47 +10,31 @@ most-requires : tie.Need-most-requires
 most-requires c κs = search needs
 
 start-requires : tie.Need-start-requires
-start-requires c κs =
-    let a = (c .before .before .before .before .before) .args in
-    lent-few (now (a .words)) (now (a .room)) (now (a .output)) (a .nodes) (a .vars) ((c .before .before .before .before .before) .pre) ((c .before .most) .result) ((c .before .most) .ensures)
+start-requires c κs = lent-few (c .before .before .before .before .before .pre) (c .before .most .ensures)
 
 sub-t14 : tie.Need-sub-t14
-sub-t14 c =
-    let a = (c .before .before .before .before .before .before .before .before .before) .args in
-    omega (arith, lent-some (now (a .words)) (now (a .room)) (now (a .output)) (a .nodes) (a .vars) ((c .before .before .before .before .before .before .before .before .before) .pre) ((c .before .before .before .before .before .most) .result) ((c .before .before .before .before .before .most) .ensures))
+sub-t14 c = omega (arith, lent-some (c .before .before .before .before .before .before .before .before .before .pre) (c .before .before .before .before .before .most .ensures))
 
 cast-t15 : tie.Need-cast-t15
-cast-t15 c =
-    let a = (c .before .before .before .before .before .before .before .before .before) .args in
-    omega (arith, lent-few (now (a .words)) (now (a .room)) (now (a .output)) (a .nodes) (a .vars) ((c .before .before .before .before .before .before .before .before .before) .pre) ((c .before .before .before .before .before .most) .result) ((c .before .before .before .before .before .most) .ensures), (c .before .before .before .before .before .most) .ensures)
+cast-t15 c = omega (arith, lent-few (c .before .before .before .before .before .before .before .before .before .pre) (c .before .before .before .before .before .most .ensures), c .before .before .before .before .before .most .ensures)
 
 build-requires : tie.Need-build-requires
-build-requires c κs =
-    let a = (c .before .before .before .before .before .before .before .before .before) .args in
-    walk-start (now (a .words)) (now (a .room)) (now (a .output)) (a .nodes) (a .vars) ((c .before .before .before .before .before .before .before .before .before) .pre) ((c .before .before .before .before .before .most) .result) ((c .before .before .before .before .before .most) .ensures) ((c .before .before .before .start) .last .0) ((c .before .before .before .start) .ensures) (a .nodes - 1) refl
+build-requires c κs = walk-start (c .before .before .before .before .before .before .before .before .before .pre) (c .before .before .before .before .before .most .ensures) (c .before .before .before .start .ensures) refl
 
 to-index-requires : tie.Need-to-index-requires
 to-index-requires c κs = search needs
 
 add-count : tie.Need-add-count
-add-count c =
-    let a = (c .before .before .before .before .before .before .before .before .before .before .before .before .before) .args in
-    omega (arith, (c .to-index) .ensures, lent-few (now (a .words)) (now (a .room)) (now (a .output)) (a .nodes) (a .vars) ((c .before .before .before .before .before .before .before .before .before .before .before .before .before) .pre) ((c .before .before .before .before .before .before .before .before .before .most) .result) ((c .before .before .before .before .before .before .before .before .before .most) .ensures), answer-small (now (a .words)) (now (a .room)) (now (a .output)) (a .nodes) (a .vars) ((c .before .before .before .before .before .before .before .before .before .before .before .before .before) .pre) ((c .before .before .before .before .before .before .before .before .before .most) .result) ((c .before .before .before .before .before .before .before .before .before .most) .ensures) ((c .before .before .before .before .before .before .before .start) .last .0) ((c .before .before .before .before .before .before .before .start) .ensures) (a .nodes - 1) refl ((c .before .before .before .build) .last .1 .0) ((c .before .before .before .build) .result .pointer .0) ((c .before .before .before .build) .result .count) ((c .before .before .before .build) .ensures))
+add-count c = omega (arith, c .to-index .ensures, lent-few (c .before .before .before .before .before .before .before .before .before .before .before .before .before .pre) (c .before .before .before .before .before .before .before .before .before .most .ensures), answer-small (c .before .before .before .before .before .before .before .before .before .before .before .before .before .pre) (c .before .before .before .before .before .before .before .before .before .most .ensures) (c .before .before .before .before .before .before .before .start .ensures) refl (c .before .before .before .build .ensures))
 
 mul-copy : tie.Need-mul-copy
-mul-copy c =
-    let a = (c .before .before .before .before .before .before .before .before .before .before .before .before .before .before .before) .args in
-    omega (arith, (c .before .before .to-index) .ensures, lent-few (now (a .words)) (now (a .room)) (now (a .output)) (a .nodes) (a .vars) ((c .before .before .before .before .before .before .before .before .before .before .before .before .before .before .before) .pre) ((c .before .before .before .before .before .before .before .before .before .before .before .most) .result) ((c .before .before .before .before .before .before .before .before .before .before .before .most) .ensures), answer-small (now (a .words)) (now (a .room)) (now (a .output)) (a .nodes) (a .vars) ((c .before .before .before .before .before .before .before .before .before .before .before .before .before .before .before) .pre) ((c .before .before .before .before .before .before .before .before .before .before .before .most) .result) ((c .before .before .before .before .before .before .before .before .before .before .before .most) .ensures) ((c .before .before .before .before .before .before .before .before .before .start) .last .0) ((c .before .before .before .before .before .before .before .before .before .start) .ensures) (a .nodes - 1) refl ((c .before .before .before .before .before .build) .last .1 .0) ((c .before .before .before .before .before .build) .result .pointer .0) ((c .before .before .before .before .before .build) .result .count) ((c .before .before .before .before .before .build) .ensures))
+mul-copy c = omega (arith, c .before .before .to-index .ensures, lent-few (c .before .before .before .before .before .before .before .before .before .before .before .before .before .before .before .pre) (c .before .before .before .before .before .before .before .before .before .before .before .most .ensures), answer-small (c .before .before .before .before .before .before .before .before .before .before .before .before .before .before .before .pre) (c .before .before .before .before .before .before .before .before .before .before .before .most .ensures) (c .before .before .before .before .before .before .before .before .before .start .ensures) refl (c .before .before .before .before .before .build .ensures))
 
 copy-requires : tie.Need-copy-requires
-copy-requires c κs =
-    let a = (c .before .before .before .before .before .before .before .before .before .before .before .before .before .before .before) .args in
-    (lent-few (now (a .words)) (now (a .room)) (now (a .output)) (a .nodes) (a .vars) ((c .before .before .before .before .before .before .before .before .before .before .before .before .before .before .before) .pre) ((c .before .before .before .before .before .before .before .before .before .before .before .most) .result) ((c .before .before .before .before .before .before .before .before .before .before .before .most) .ensures), omega (arith, (c .before .before .to-index) .ensures, answer-fits (now (a .words)) (now (a .room)) (now (a .output)) (a .nodes) (a .vars) ((c .before .before .before .before .before .before .before .before .before .before .before .before .before .before .before) .pre) ((c .before .before .before .before .before .before .before .before .before .before .before .most) .result) ((c .before .before .before .before .before .before .before .before .before .before .before .most) .ensures) ((c .before .before .before .before .before .before .before .before .before .start) .last .0) ((c .before .before .before .before .before .before .before .before .before .start) .ensures) (a .nodes - 1) refl ((c .before .before .before .before .before .build) .last .1 .0) ((c .before .before .before .before .before .build) .result .pointer .0) ((c .before .before .before .before .before .build) .result .count) ((c .before .before .before .before .before .build) .ensures)))
+copy-requires c κs = (lent-few (c .before .before .before .before .before .before .before .before .before .before .before .before .before .before .before .pre) (c .before .before .before .before .before .before .before .before .before .before .before .most .ensures), omega (arith, c .before .before .to-index .ensures, answer-fits (c .before .before .before .before .before .before .before .before .before .before .before .before .before .before .before .pre) (c .before .before .before .before .before .before .before .before .before .before .before .most .ensures) (c .before .before .before .before .before .before .before .before .before .start .ensures) refl (c .before .before .before .before .before .build .ensures)))
 
 mul-clear : tie.Need-mul-clear
-mul-clear c =
-    let a = (c .before .before .before .before .before .before .before .before .before .before .before .before .before .before .before .before .before .before .before) .args in
-    omega (arith, lent-few (now (a .words)) (now (a .room)) (now (a .output)) (a .nodes) (a .vars) ((c .before .before .before .before .before .before .before .before .before .before .before .before .before .before .before .before .before .before .before) .pre) ((c .before .before .before .before .before .before .before .before .before .before .before .before .before .before .before .most) .result) ((c .before .before .before .before .before .before .before .before .before .before .before .before .before .before .before .most) .ensures))
+mul-clear c = omega (arith, lent-few (c .before .before .before .before .before .before .before .before .before .before .before .before .before .before .before .before .before .before .before .pre) (c .before .before .before .before .before .before .before .before .before .before .before .before .before .before .before .most .ensures))
 
 clear-requires : tie.Need-clear-requires
 clear-requires c κs = search needs
@@ -64,9 +47,9 @@ same-length-2 c = search needs
 
 returns : tie.Need-returns
 returns c =
-    let a = (c .before .before .before .before .before .before .before .before .before .before .before .before .before .before .before .before .before .before .before .before .before .before) .args in
-    answer-ends (now (a .words)) (now (a .room)) (now (a .output)) (a .nodes) (a .vars) ((c .before .before .before .before .before .before .before .before .before .before .before .before .before .before .before .before .before .before .before .before .before .before) .pre) ((c .before .before .before .before .before .before .before .before .before .before .before .before .before .before .before .before .before .before .most) .result) ((c .before .before .before .before .before .before .before .before .before .before .before .before .before .before .before .before .before .before .most) .ensures) ((c .before .before .before .before .before .before .before .before .before .before .before .before .before .before .before .before .start) .last .0) ((c .before .before .before .before .before .before .before .before .before .before .before .before .before .before .before .before .start) .ensures) (a .nodes - 1) refl ((c .before .before .before .before .before .before .before .before .before .before .before .before .build) .last .1 .0) ((c .before .before .before .before .before .before .before .before .before .before .before .before .build) .result .pointer .0) ((c .before .before .before .before .before .before .before .before .before .before .before .before .build) .result .count) ((c .before .before .before .before .before .before .before .before .before .before .before .before .build) .ensures)
-    ((c .before .before .before .before .before .before .before .before .before .to-index) .result + 1) (ap (λ (k : ℕ). k + 1) ((c .before .before .before .before .before .before .before .before .before .to-index) .ensures)) ((c .before .before .before .before .before .before .copy) .last .1 .1 .0) ((c .before .before .before .before .before .before .copy) .kept .1 .1 .0) ((c .before .before .before .before .before .before .copy) .ensures) ((c .before .before .before .before .before .before .before .before .before .before .before .before .build) .kept .1 .0 ∙ (c .before .before .before .before .before .before .before .before .before .before .before .before .before .before .before .before .start) .kept .0) ((c .before .before .clear) .last .0) ((c .before .before .clear) .ensures)
+    let count = ap (λ (k : ℕ). k + 1) (c .before .before .before .before .before .before .before .before .before .to-index .ensures) in
+    let same = c .before .before .before .before .before .before .before .before .before .before .before .before .build .kept .1 .0 ∙ c .before .before .before .before .before .before .before .before .before .before .before .before .before .before .before .before .start .kept .0 in
+    answer-ends (c .before .before .before .before .before .before .before .before .before .before .before .before .before .before .before .before .before .before .before .before .before .before .pre) (c .before .before .before .before .before .before .before .before .before .before .before .before .before .before .before .before .before .before .most .ensures) (c .before .before .before .before .before .before .before .before .before .before .before .before .before .before .before .before .start .ensures) refl (c .before .before .before .before .before .before .before .before .before .before .before .before .build .ensures) count (c .before .before .before .before .before .before .copy .kept .1 .1 .0) (c .before .before .before .before .before .before .copy .ensures) same (c .before .before .clear .ensures)
 
 pub answer-spec : {M : Type 1} → statement M
 answer-spec =

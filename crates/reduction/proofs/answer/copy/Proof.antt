@@ -2,7 +2,7 @@ use Rattle.reduction.proofs.Zones.{copy-more}
 use denote.Ref.{now}
 use lib.Seq.{drop-set-lt}
 use lib.ListN.{length, getD, drop, length-set}
-use mathlib.Core.Path.{_≡_, refl, sym, _∙_}
+use mathlib.Core.Path.{_≡_, refl, _∙_}
 use Prim.Native.Nat.{ℕ, _+_, _-_, _<_, _≤_}
 use borrow.Author.Needs.{needs}
 use native.Mathlib.Omega.{arith}
@@ -38,18 +38,18 @@ loop-less c = search needs
 
 loop-again : tie.Need-loop-again Inv-loop μ-loop
 loop-again c =
-    let a = (c .before .before .before .before .before) .args in
-    let inv = (c .before .before .loop) .inv in
-    (omega arith, simp length-set (inv .1), copy-more (now (a .room)) ((c .before .before .loop) .output) (a .from) ((c .before .before .loop) .i) ((c .word) .result) ((c .word) .ensures) (omega arith) (inv .2), drop-set-lt (a .count) ((c .before .before .loop) .output) ((c .before .before .loop) .i) ((c .word) .result) ((c .before .loop-test) .taken) ∙ inv .3)
+    let a = c .before .before .before .before .before .args in
+    let inv = c .before .before .loop .inv in
+    (omega arith, simp length-set (inv .1), copy-more (now (a .room)) (c .before .before .loop .output) (a .from) (c .before .before .loop .i) (c .word .result) (c .word .ensures) (omega arith) (inv .2), drop-set-lt (a .count) (c .before .before .loop .output) (c .before .before .loop .i) (c .word .result) (c .before .loop-test .taken) ∙ inv .3)
 
 same-length : tie.Need-same-length Inv-loop μ-loop
-same-length c = (c .before .loop) .inv .1
+same-length c = c .before .loop .inv .1
 
 returns : tie.Need-returns Inv-loop μ-loop
 returns c =
-    let a = (c .before .before .before .before) .args in
-    let inv = (c .before .loop) .inv in
-    let end : (c .before .loop) .i ≡ a .count = omega arith in
+    let a = c .before .before .before .before .args in
+    let inv = c .before .loop .inv in
+    let end : c .before .loop .i ≡ a .count = omega arith in
     record { first = λ j h. inv .2 j (omega arith); rest = inv .3 }
 
 pub copy-spec : {M : Type 1} → statement M

@@ -1,6 +1,5 @@
-use Rattle.reduction.proofs.Zones.{started-is}
 use denote.Ref.{now}
-use native.Mathlib.Omega.{arith}
+use Rattle.reduction.proofs.Zones.{started-is}
 use borrow.Author.Needs.{needs}
 use Rattle.reduction.proofs.answer.start.Statement.{statement}
 use Rattle.reduction.proofs.answer.start.Tie as tie
@@ -31,10 +30,8 @@ same-length c = search needs
 
 returns : tie.Need-returns
 returns c =
-    let a = (c .before .before .before .before .before .before .before .before .before .before .before .before .before .before .before .before .before) .args in
-    started-is (a .most) (now (a .room)) (a .vars)
-    ((c .before .before .before .before .before .before .before .before .before .before .before .before .before .before .put) .last .0) ((c .before .before .before .before .before .before .before .before .before .before .put2) .last .0) ((c .before .before .before .before .before .before .put3) .last .0) ((c .before .before .put4) .last .0)
-    ((c .before .before .before .before .before .before .before .before .before .before .before .before .before .before .put) .ensures) ((c .before .before .before .before .before .before .before .before .before .before .put2) .ensures) ((c .before .before .before .before .before .before .put3) .ensures) ((c .before .before .put4) .ensures)
+    let a = c .before .before .before .before .before .before .before .before .before .before .before .before .before .before .before .before .before .args in
+    started-is (a .most) (now (a .room)) (a .vars) (c .before .before .before .before .before .before .before .before .before .before .before .before .before .before .put .ensures) (c .before .before .before .before .before .before .before .before .before .before .put2 .ensures) (c .before .before .before .before .before .before .put3 .ensures) (c .before .before .put4 .ensures)
 
 pub start-spec : {M : Type 1} → statement M
 start-spec =

@@ -1,6 +1,5 @@
 use Rattle.reduction.proofs.Answering.{answer-refused, lent-of, answer-accepted}
 use denote.Ref.{now}
-use native.Mathlib.Omega.{arith}
 use borrow.Author.Needs.{needs}
 use Rattle.reduction.proofs.reduce.reduce.Statement.{statement}
 use Rattle.reduction.proofs.reduce.reduce.Tie as tie
@@ -18,14 +17,10 @@ same-length : tie.Need-same-length
 same-length c = search needs
 
 returns : tie.Need-returns
-returns c =
-    let a = (c .before .before .before .before .before .before .before .before .before) .args in
-    answer-refused (now (a .words)) (now (a .room)) ((c .before .before .before .before .admit) .last .1 .0) (now (a .output)) ((c .before .before .before .before .admit) .result) ((c .before .before .before .before .admit) .ensures) _ _ ((c .enum-told) .given .1)
+returns c = answer-refused (now (c .before .before .before .before .before .before .before .before .before .args .output)) (c .before .before .before .before .admit .ensures) (c .enum-told .given .1)
 
 answer-requires : tie.Need-answer-requires
-answer-requires c κs =
-    let a = (c .before .before .before .before .before .before .before .before .before .before .before .before) .args in
-    lent-of (now (a .words)) (now (a .room)) ((c .before .before .before .before .before .before .before .admit) .last .1 .0) (now (a .output)) ((c .before .before .before .before .before .before .before .admit) .result) ((c .before .before .before .before .before .before .before .admit) .ensures) _ _ ((c .before .before .before .verdict) .given .1)
+answer-requires c κs = lent-of (now (c .before .before .before .before .before .before .before .before .before .before .before .before .args .output)) (c .before .before .before .before .before .before .before .admit .ensures) (c .before .before .before .verdict .given .1)
 
 same-length-2 : tie.Need-same-length-2
 same-length-2 c = search needs
@@ -34,9 +29,7 @@ same-length-3 : tie.Need-same-length-3
 same-length-3 c = search needs
 
 returns-2 : tie.Need-returns-2
-returns-2 c =
-    let a = (c .before .before .before .before .before .before .before .before .before .before .before .before .before .before .before .before .before) .args in
-    answer-accepted (now (a .words)) (now (a .room)) ((c .before .before .before .before .before .before .before .before .before .before .before .before .admit) .last .1 .0) (now (a .output)) ((c .before .before .before .before .before .before .before .before .before .before .before .before .admit) .result) ((c .before .before .before .before .before .before .before .before .before .before .before .before .admit) .ensures) _ _ ((c .before .before .before .before .before .before .before .before .verdict) .given .1) ((c .before .before .before .before .answer) .last .1 .0) ((c .before .before .before .before .answer) .last .1 .1 .0) ((c .before .before .before .before .answer) .result) ((c .before .before .before .before .answer) .ensures)
+returns-2 c = answer-accepted (now (c .before .before .before .before .before .before .before .before .before .before .before .before .before .before .before .before .before .args .output)) (c .before .before .before .before .before .before .before .before .before .before .before .before .admit .ensures) (c .before .before .before .before .before .before .before .before .verdict .given .1) (c .before .before .before .before .answer .ensures)
 
 pub reduce-spec : {M : Type 1} → statement M
 reduce-spec =

@@ -1,7 +1,6 @@
-use Rattle.reduction.proofs.Zones.{entered-is}
 use Rattle.reduction.specs.Reduce.{node}
 use denote.Ref.{now}
-use native.Mathlib.Omega.{arith}
+use Rattle.reduction.proofs.Zones.{entered-is}
 use borrow.Author.Needs.{needs}
 use Rattle.reduction.proofs.shelf.enter.Statement.{statement}
 use Rattle.reduction.proofs.shelf.enter.Tie as tie
@@ -62,10 +61,8 @@ same-length c = search needs
 
 returns : tie.Need-returns
 returns c =
-    let a = (c .before .before .before .before .before .before .before .before .before .before .before .before .before .before .before .before .before .before .before .before .before .before .before) .args in
-    entered-is (a .most) (now (a .room)) (a .count) (a .bucket) (node (a .var .0) (a .low .0) (a .high .0))
-    ((c .before .before .before .before .before .before .before .before .before .before .before .before .before .before .before .before .before .before .before .before .put) .last .0) ((c .before .before .before .before .before .before .before .before .before .before .before .before .before .before .before .before .put2) .last .0) ((c .before .before .before .before .before .before .before .before .before .before .before .before .put3) .last .0) ((c .before .before .before .before .before .before .put4) .last .0) ((c .before .before .put5) .last .0) ((c .before .before .before .before .before .before .before .before .word) .result)
-    ((c .before .before .before .before .before .before .before .before .before .before .before .before .before .before .before .before .before .before .before .before .put) .ensures) ((c .before .before .before .before .before .before .before .before .before .before .before .before .before .before .before .before .put2) .ensures) ((c .before .before .before .before .before .before .before .before .before .before .before .before .put3) .ensures) ((c .before .before .before .before .before .before .before .before .word) .ensures) ((c .before .before .before .before .before .before .put4) .ensures) ((c .before .before .put5) .ensures)
+    let a = c .before .before .before .before .before .before .before .before .before .before .before .before .before .before .before .before .before .before .before .before .before .before .before .args in
+    entered-is (a .most) (now (a .room)) (a .count) (a .bucket) (node (a .var .0) (a .low .0) (a .high .0)) (c .before .before .before .before .before .before .before .before .before .before .before .before .before .before .before .before .before .before .before .before .put .ensures) (c .before .before .before .before .before .before .before .before .before .before .before .before .before .before .before .before .put2 .ensures) (c .before .before .before .before .before .before .before .before .before .before .before .before .put3 .ensures) (c .before .before .before .before .before .before .before .before .word .ensures) (c .before .before .before .before .before .before .put4 .ensures) (c .before .before .put5 .ensures)
 
 pub enter-spec : {M : Type 1} → statement M
 enter-spec =

@@ -1,7 +1,6 @@
 use Rattle.reduction.proofs.Zones.{key-fits}
 use mathlib.Core.Path.{refl}
 use Rattle.reduction.specs.Room.{keyOf}
-use native.Mathlib.Omega.{arith}
 use borrow.Author.Needs.{needs}
 use Rattle.reduction.proofs.shelf.key.Statement.{statement}
 use Rattle.reduction.proofs.shelf.key.Tie as tie
@@ -31,7 +30,7 @@ add-mixed-2 : tie.Need-add-mixed-2
 add-mixed-2 c = search needs
 
 mul-result : tie.Need-mul-result
-mul-result c = record { fits = key-fits _ ((c .before .before .before) .args .most) ((c .before .before .before) .pre) }
+mul-result c = record { fits = key-fits _ (c .before .before .before .args .most) (c .before .before .before .pre) }
 
 returns : tie.Need-returns
 unfolding keyOf

@@ -2,9 +2,7 @@ use Rattle.reduction.proofs.Joining.{key-small, seek-begin, seek-inside
 use Rattle.reduction.specs.Room.{keyOf, storeIn}
 use Rattle.reduction.specs.Build.{Seek}
 use Rattle.reduction.specs.Reduce.{node}
-use denote.Ref.{now}
-use mathlib.Core.Path.{_≡_, sym, _∙_}
-use Prim.Native.Nat.{_+_, _*_, _≤_, _<_}
+use mathlib.Core.Path.{sym, _∙_}
 use borrow.Author.Needs.{needs}
 use native.Mathlib.Omega.{arith}
 use Rattle.reduction.proofs.shelf.seek.Statement.{statement}
@@ -17,13 +15,12 @@ abbrev μ-loop : tie.MeasureT-loop
 μ-loop room most count bucket var low high q₀ q = q
 
 mul-word : tie.Need-mul-word Inv-loop μ-loop
-mul-word c = omega (arith, (c .before) .pre .0 .few)
+mul-word c = omega (arith, c .before .pre .0 .few)
 
 add-word : tie.Need-add-word Inv-loop μ-loop
 add-word c =
-    let a = (c .before) .args in
-    let n = node (a .var .0) (a .low .0) (a .high .0) in
-    omega (arith, (c .before) .pre .0 .few, (c .before) .pre .1, key-small (a .most) (now (a .room)) (a .count) n ((c .before) .pre .0))
+    let a = c .before .args in
+    omega (arith, c .before .pre .0 .few, c .before .pre .1, key-small (c .before .pre .0) (node (a .var .0) (a .low .0) (a .high .0)))
 
 word-requires : tie.Need-word-requires Inv-loop μ-loop
 word-requires c κs = search needs
@@ -32,37 +29,25 @@ cast-q : tie.Need-cast-q Inv-loop μ-loop
 cast-q c = search needs
 
 loop-holds : tie.Need-loop-holds Inv-loop μ-loop
-loop-holds c =
-    let a = (c .before .before) .args in
-    seek-begin (a .most) (now (a .room)) (a .count) (node (a .var .0) (a .low .0) (a .high .0)) ((c .before .before) .pre .0) (a .bucket) ((c .word) .result) ((c .before .before) .pre .1) ((c .word) .ensures)
+loop-holds c = seek-begin (c .before .before .pre .0) (c .before .before .pre .1) (c .word .ensures)
 
 mul-is-node : tie.Need-mul-is-node Inv-loop μ-loop
-mul-is-node c =
-    let a = (c .before .before .before .before) .args in
-    omega (arith, (c .before .before .before .before) .pre .0 .few, (c .before .before .before .before) .pre .0 .fits, seek-inside (a .most) (now (a .room)) (a .count) (node (a .var .0) (a .low .0) (a .high .0)) ((c .before .before .before .before) .pre .0) ((c .before .loop) .q) ((c .before .loop) .inv))
+mul-is-node c = omega (arith, c .before .before .before .before .pre .0 .few, c .before .before .before .before .pre .0 .fits, seek-inside (c .before .before .before .before .pre .0) (c .before .loop .inv))
 
 add-is-node : tie.Need-add-is-node Inv-loop μ-loop
-add-is-node c =
-    let a = (c .before .before .before .before) .args in
-    omega (arith, (c .before .before .before .before) .pre .0 .few, (c .before .before .before .before) .pre .0 .fits, seek-inside (a .most) (now (a .room)) (a .count) (node (a .var .0) (a .low .0) (a .high .0)) ((c .before .before .before .before) .pre .0) ((c .before .loop) .q) ((c .before .loop) .inv))
+add-is-node c = omega (arith, c .before .before .before .before .pre .0 .few, c .before .before .before .before .pre .0 .fits, seek-inside (c .before .before .before .before .pre .0) (c .before .loop .inv))
 
 is-node-requires : tie.Need-is-node-requires Inv-loop μ-loop
-is-node-requires c κs =
-    let a = (c .before .before .before .before) .args in
-    omega (arith, (c .before .before .before .before) .pre .0 .few, (c .before .before .before .before) .pre .0 .fits, seek-inside (a .most) (now (a .room)) (a .count) (node (a .var .0) (a .low .0) (a .high .0)) ((c .before .before .before .before) .pre .0) ((c .before .loop) .q) ((c .before .loop) .inv))
+is-node-requires c κs = omega (arith, c .before .before .before .before .pre .0 .few, c .before .before .before .before .pre .0 .fits, seek-inside (c .before .before .before .before .pre .0) (c .before .loop .inv))
 
 returns : tie.Need-returns Inv-loop μ-loop
-returns c =
-    let a = (c .before .before .before .before .before .before) .args in
-    seek-hit (a .most) (now (a .room)) (a .count) (node (a .var .0) (a .low .0) (a .high .0)) ((c .before .before .before .before .before .before) .pre .0) ((c .before .before .before .loop) .q) ((c .before .before .before .loop) .inv) ((c .before .before .loop-test) .taken) (sym ((c .before .is-node) .ensures) ∙ (c .if1) .taken)
+returns c = seek-hit (c .before .before .before .before .before .before .pre .0) (c .before .before .before .loop .inv) (c .before .before .loop-test .taken) (sym (c .before .is-node .ensures) ∙ c .if1 .taken)
 
 mul-word-2 : tie.Need-mul-word-2 Inv-loop μ-loop
-mul-word-2 c = omega (arith, (c .before .before .before .before .before .before) .pre .0 .few)
+mul-word-2 c = omega (arith, c .before .before .before .before .before .before .pre .0 .few)
 
 add-word-2 : tie.Need-add-word-2 Inv-loop μ-loop
-add-word-2 c =
-    let a = (c .before .before .before .before .before .before) .args in
-    omega (arith, (c .before .before .before .before .before .before) .pre .0 .few, (c .before .before .before .before .before .before) .pre .0 .fits, seek-inside (a .most) (now (a .room)) (a .count) (node (a .var .0) (a .low .0) (a .high .0)) ((c .before .before .before .before .before .before) .pre .0) ((c .before .before .before .loop) .q) ((c .before .before .before .loop) .inv))
+add-word-2 c = omega (arith, c .before .before .before .before .before .before .pre .0 .few, c .before .before .before .before .before .before .pre .0 .fits, seek-inside (c .before .before .before .before .before .before .pre .0) (c .before .before .before .loop .inv))
 
 word-requires-2 : tie.Need-word-requires-2 Inv-loop μ-loop
 word-requires-2 c κs = search needs
@@ -71,19 +56,13 @@ cast-q-2 : tie.Need-cast-q-2 Inv-loop μ-loop
 cast-q-2 c = search needs
 
 loop-less : tie.Need-loop-less Inv-loop μ-loop
-loop-less c =
-    let a = (c .before .before .before .before .before .before .before) .args in
-    seek-less (a .most) (now (a .room)) (a .count) (node (a .var .0) (a .low .0) (a .high .0)) ((c .before .before .before .before .before .before .before) .pre .0) ((c .before .before .before .before .loop) .q) ((c .before .before .before .before .loop) .inv) ((c .before .before .before .loop-test) .taken) ((c .word2) .result) ((c .word2) .ensures)
+loop-less c = seek-less (c .before .before .before .before .before .before .before .pre .0) (c .before .before .before .before .loop .inv) (c .before .before .before .loop-test .taken) (c .word2 .ensures)
 
 loop-again : tie.Need-loop-again Inv-loop μ-loop
-loop-again c =
-    let a = (c .before .before .before .before .before .before .before) .args in
-    seek-onward (a .most) (now (a .room)) (a .count) (node (a .var .0) (a .low .0) (a .high .0)) ((c .before .before .before .before .before .before .before) .pre .0) ((c .before .before .before .before .loop) .q) ((c .before .before .before .before .loop) .inv) ((c .before .before .before .loop-test) .taken) (sym ((c .before .before .is-node) .ensures) ∙ (c .before .if1) .left) ((c .word2) .result) ((c .word2) .ensures)
+loop-again c = seek-onward (c .before .before .before .before .before .before .before .pre .0) (c .before .before .before .before .loop .inv) (c .before .before .before .loop-test .taken) (sym (c .before .before .is-node .ensures) ∙ c .before .if1 .left) (c .word2 .ensures)
 
 returns-2 : tie.Need-returns-2 Inv-loop μ-loop
-returns-2 c =
-    let a = (c .before .before .before .before) .args in
-    seek-end (a .most) (now (a .room)) (a .count) (node (a .var .0) (a .low .0) (a .high .0)) ((c .before .before .before .before) .pre .0) ((c .before .loop) .q) ((c .loop-test) .left) ((c .before .loop) .inv)
+returns-2 c = seek-end (c .before .before .before .before .pre .0) (c .loop-test .left) (c .before .loop .inv)
 
 pub seek-spec : {M : Type 1} → statement M
 seek-spec =

@@ -2,7 +2,7 @@ use Rattle.reduction.proofs.Walking.{walk-few, walk-terminal, walk-know
 use Rattle.diagram.specs.Diagram.{varOf, vars}
 use denote.Ref.{now}
 use borrow.Author.Tests.{ltb-true, ltb-false}
-use mathlib.Core.Path.{sym, ap, _∙_, subst}
+use mathlib.Core.Path.{sym, ap, _∙_}
 use lib.ListN.{getD, set}
 use Prim.Native.Nat.{_+_, _-_}
 use borrow.Author.Needs.{needs}
@@ -41,8 +41,8 @@ build-is-terminal-requires t c κs = search needs
 
 build-returns : (t : ℕ) → build-lts.Need-returns (known t) (build-at t) build.Post
 build-returns t c =
-    let a = (c .before .before .before .before) .args in
-    walk-terminal (now (a .words)) (a .most) (now (a .room)) (a .count) (a .node .0) ((c .before .before .before .before) .pre .1) (ltb-true (a .node .0) 2 (sym ((c .before .is-terminal) .ensures) ∙ (c .if1) .taken))
+    let a = c .before .before .before .before .args in
+    walk-terminal (c .before .before .before .before .pre .1) (ltb-true (a .node .0) 2 (sym (c .before .is-terminal .ensures) ∙ c .if1 .taken))
 
 build-to-index-requires : (t : ℕ) → build-lts.Need-to-index-requires (known t) (build-at t) build.Post
 build-to-index-requires t c κs = search needs
@@ -58,45 +58,38 @@ build-same-length t c = search needs
 
 build-returns-2 : (t : ℕ) → build-lts.Need-returns-2 (known t) (build-at t) build.Post
 build-returns-2 t c =
-    let a = (c .before .before .before .before .before .before .before .before) .args in
-    walk-known (now (a .words)) (a .most) (now (a .room)) (a .count) (a .node .0) ((c .before .before .before .before .before .before .before .before) .pre .1) ((c .before .word) .result) ((c .before .word) .ensures ∙ ap (λ (p : ℕ). getD (now (a .room)) p 0) ((c .before .before .before .to-index) .ensures)) ((c .if2) .taken)
+    let a = c .before .before .before .before .before .before .before .before .args in
+    walk-known (c .before .before .before .before .before .before .before .before .pre .1) (c .before .word .ensures ∙ ap (λ (p : ℕ). getD (now (a .room)) p 0) (c .before .before .before .to-index .ensures)) (c .if2 .taken)
 
 build-low-link-of-requires : (t : ℕ) → build-lts.Need-low-link-of-requires (known t) (build-at t) build.Post
 build-low-link-of-requires t c κs = search needs
 
 build-build-requires : (t : ℕ) → build-lts.Need-build-requires (known t) (build-at t) build.Post
 build-build-requires t c κs =
-    let a = (c .before .before .before .before .before .before .before .before .before .before) .args in
-    let two = ltb-false (a .node .0) 2 (sym ((c .before .before .before .before .before .before .before .is-terminal) .ensures) ∙ (c .before .before .before .before .before .before .if1) .left) in (
-      subst (λ (x : ℕ). vars (now (a .words)) - varOf (now (a .words)) ((c .low-link-of) .result .0) < x) ((c .before .before .before .before .before .before .before .before .before .before) .pre .0) (walk-falls (now (a .words)) (a .most) (now (a .room)) (a .count) (a .node .0) ((c .before .before .before .before .before .before .before .before .before .before) .pre .1) two ((c .low-link-of) .result .0) ((c .low-link-of) .ensures)),
-      walk-low (now (a .words)) (a .most) (now (a .room)) (a .count) (a .node .0) ((c .before .before .before .before .before .before .before .before .before .before) .pre .1) two ((c .low-link-of) .result .0) ((c .low-link-of) .ensures),
-    )
+    let two = ltb-false (c .before .before .before .before .before .before .before .before .before .before .args .node .0) 2 (sym (c .before .before .before .before .before .before .before .is-terminal .ensures) ∙ c .before .before .before .before .before .before .if1 .left) in
+    (rw (c .before .before .before .before .before .before .before .before .before .before .pre .0) at (walk-falls (c .before .before .before .before .before .before .before .before .before .before .pre .1) two (c .low-link-of .ensures)), walk-low (c .before .before .before .before .before .before .before .before .before .before .pre .1) two (c .low-link-of .ensures))
 
 build-high-link-of-requires : (t : ℕ) → build-lts.Need-high-link-of-requires (known t) (build-at t) build.Post
 build-high-link-of-requires t c κs = search needs
 
 build-build-requires-2 : (t : ℕ) → build-lts.Need-build-requires-2 (known t) (build-at t) build.Post
 build-build-requires-2 t c κs =
-    let a = (c .before .before .before .before .before .before .before .before .before .before .before .before .before .before .before) .args in
-    let two = ltb-false (a .node .0) 2 (sym ((c .before .before .before .before .before .before .before .before .before .before .before .before .is-terminal) .ensures) ∙ (c .before .before .before .before .before .before .before .before .before .before .before .if1) .left) in (
-      subst (λ (x : ℕ). vars (now (a .words)) - varOf (now (a .words)) ((c .high-link-of) .result .0) < x) ((c .before .before .before .before .before .before .before .before .before .before .before .before .before .before .before) .pre .0) (walk-falls-high (now (a .words)) (a .most) (now (a .room)) (a .count) (a .node .0) ((c .before .before .before .before .before .before .before .before .before .before .before .before .before .before .before) .pre .1) two ((c .high-link-of) .result .0) ((c .high-link-of) .ensures)),
-      walk-high (now (a .words)) (a .most) (now (a .room)) (a .count) (a .node .0) ((c .before .before .before .before .before .before .before .before .before .before .before .before .before .before .before) .pre .1) two ((c .before .before .before .before .before .low-link-of) .result .0) ((c .before .before .before .before .before .low-link-of) .ensures) ((c .before .before .before .before .build) .last .1 .0) ((c .before .before .before .before .build) .result .pointer .0) ((c .before .before .before .before .build) .result .count) ((c .before .before .before .before .build) .ensures) ((c .high-link-of) .result .0) ((c .high-link-of) .ensures),
-    )
+    let two = ltb-false (c .before .before .before .before .before .before .before .before .before .before .before .before .before .before .before .args .node .0) 2 (sym (c .before .before .before .before .before .before .before .before .before .before .before .before .is-terminal .ensures) ∙ c .before .before .before .before .before .before .before .before .before .before .before .if1 .left) in
+    (rw (c .before .before .before .before .before .before .before .before .before .before .before .before .before .before .before .pre .0) at (walk-falls-high (c .before .before .before .before .before .before .before .before .before .before .before .before .before .before .before .pre .1) two (c .high-link-of .ensures)), walk-high (c .before .before .before .before .before .before .before .before .before .before .before .before .before .before .before .pre .1) two (c .before .before .before .before .before .low-link-of .ensures) (c .before .before .before .before .build .ensures) (c .high-link-of .ensures))
 
 build-var-of-requires : (t : ℕ) → build-lts.Need-var-of-requires (known t) (build-at t) build.Post
 build-var-of-requires t c κs = search needs
 
 build-join-requires : (t : ℕ) → build-lts.Need-join-requires (known t) (build-at t) build.Post
 build-join-requires t c κs =
-    let a = (c .before .before .before .before .before .before .before .before .before .before .before .before .before .before .before .before .before .before .before .before) .args in
-    let two = ltb-false (a .node .0) 2 (sym ((c .before .before .before .before .before .before .before .before .before .before .before .before .before .before .before .before .before .is-terminal) .ensures) ∙ (c .before .before .before .before .before .before .before .before .before .before .before .before .before .before .before .before .if1) .left) in
-    walk-shelf (now (a .words)) (a .most) (now (a .room)) (a .count) (a .node .0) ((c .before .before .before .before .before .before .before .before .before .before .before .before .before .before .before .before .before .before .before .before) .pre .1) two ((c .before .before .before .before .before .before .before .before .before .before .low-link-of) .result .0) ((c .before .before .before .before .before .before .before .before .before .before .low-link-of) .ensures) ((c .before .before .before .before .before .before .before .before .before .build) .last .1 .0) ((c .before .before .before .before .before .before .before .before .before .build) .result .pointer .0) ((c .before .before .before .before .before .before .before .before .before .build) .result .count) ((c .before .before .before .before .before .before .before .before .before .build) .ensures) ((c .before .before .before .before .before .high-link-of) .result .0) ((c .before .before .before .before .before .high-link-of) .ensures) ((c .before .before .before .before .build2) .last .1 .0) ((c .before .before .before .before .build2) .result .pointer .0) ((c .before .before .before .before .build2) .result .count) ((c .before .before .before .before .build2) .ensures)
+    let two = ltb-false (c .before .before .before .before .before .before .before .before .before .before .before .before .before .before .before .before .before .before .before .before .args .node .0) 2 (sym (c .before .before .before .before .before .before .before .before .before .before .before .before .before .before .before .before .before .is-terminal .ensures) ∙ c .before .before .before .before .before .before .before .before .before .before .before .before .before .before .before .before .if1 .left) in
+    walk-shelf (c .before .before .before .before .before .before .before .before .before .before .before .before .before .before .before .before .before .before .before .before .pre .1) two (c .before .before .before .before .before .before .before .before .before .before .low-link-of .ensures) (c .before .before .before .before .before .before .before .before .before .build .ensures) (c .before .before .before .before .before .high-link-of .ensures) (c .before .before .before .before .build2 .ensures)
 
 build-add-put : (t : ℕ) → build-lts.Need-add-put (known t) (build-at t) build.Post
 build-add-put t c =
-    let a = (c .before .before .before .before .before .before .before .before .before .before .before .before .before .before .before .before .before .before .before .before .before .before .before .before .before) .args in
-    let two = ltb-false (a .node .0) 2 (sym ((c .before .before .before .before .before .before .before .before .before .before .before .before .before .before .before .before .before .before .before .before .before .before .is-terminal) .ensures) ∙ (c .before .before .before .before .before .before .before .before .before .before .before .before .before .before .before .before .before .before .before .before .before .if1) .left) in
-    omega (arith, walk-few (now (a .words)) (a .most) (now (a .room)) (a .count) (a .node .0) ((c .before .before .before .before .before .before .before .before .before .before .before .before .before .before .before .before .before .before .before .before .before .before .before .before .before) .pre .1), walk-small (now (a .words)) (a .most) (now (a .room)) (a .count) (a .node .0) ((c .before .before .before .before .before .before .before .before .before .before .before .before .before .before .before .before .before .before .before .before .before .before .before .before .before) .pre .1) two ((c .before .before .before .before .before .before .before .before .before .before .before .before .before .before .before .low-link-of) .result .0) ((c .before .before .before .before .before .before .before .before .before .before .before .before .before .before .before .low-link-of) .ensures) ((c .before .before .before .before .before .before .before .before .before .before .before .before .before .before .build) .last .1 .0) ((c .before .before .before .before .before .before .before .before .before .before .before .before .before .before .build) .result .pointer .0) ((c .before .before .before .before .before .before .before .before .before .before .before .before .before .before .build) .result .count) ((c .before .before .before .before .before .before .before .before .before .before .before .before .before .before .build) .ensures) ((c .before .before .before .before .before .before .before .before .before .before .high-link-of) .result .0) ((c .before .before .before .before .before .before .before .before .before .before .high-link-of) .ensures) ((c .before .before .before .before .before .before .before .before .before .build2) .last .1 .0) ((c .before .before .before .before .before .before .before .before .before .build2) .result .pointer .0) ((c .before .before .before .before .before .before .before .before .before .build2) .result .count) ((c .before .before .before .before .before .before .before .before .before .build2) .ensures) ((c .before .before .before .before .before .before .var-of) .result .0) ((c .before .before .before .before .before .before .var-of) .ensures) ((c .before .before .before .before .join) .last .0) ((c .before .before .before .before .join) .result .pointer .0) ((c .before .before .before .before .join) .result .count) ((c .before .before .before .before .join) .ensures))
+    let two = ltb-false (c .before .before .before .before .before .before .before .before .before .before .before .before .before .before .before .before .before .before .before .before .before .before .before .before .before .args .node .0) 2 (sym (c .before .before .before .before .before .before .before .before .before .before .before .before .before .before .before .before .before .before .before .before .before .before .is-terminal .ensures) ∙ c .before .before .before .before .before .before .before .before .before .before .before .before .before .before .before .before .before .before .before .before .before .if1 .left) in
+    let small = walk-small (c .before .before .before .before .before .before .before .before .before .before .before .before .before .before .before .before .before .before .before .before .before .before .before .before .before .pre .1) two (c .before .before .before .before .before .before .before .before .before .before .before .before .before .before .before .low-link-of .ensures) (c .before .before .before .before .before .before .before .before .before .before .before .before .before .before .build .ensures) (c .before .before .before .before .before .before .before .before .before .before .high-link-of .ensures) (c .before .before .before .before .before .before .before .before .before .build2 .ensures) (c .before .before .before .before .before .before .var-of .ensures) (c .before .before .before .before .join .ensures) in
+    omega (arith, small, walk-few (c .before .before .before .before .before .before .before .before .before .before .before .before .before .before .before .before .before .before .before .before .before .before .before .before .before .pre .1))
 
 build-put-requires : (t : ℕ) → build-lts.Need-put-requires (known t) (build-at t) build.Post
 build-put-requires t c κs = search needs
@@ -106,9 +99,9 @@ build-same-length-2 t c = search needs
 
 build-returns-3 : (t : ℕ) → build-lts.Need-returns-3 (known t) (build-at t) build.Post
 build-returns-3 t c =
-    let a = (c .before .before .before .before .before .before .before .before .before .before .before .before .before .before .before .before .before .before .before .before .before .before .before .before .before .before .before .before) .args in
-    let two = ltb-false (a .node .0) 2 (sym ((c .before .before .before .before .before .before .before .before .before .before .before .before .before .before .before .before .before .before .before .before .before .before .before .before .before .is-terminal) .ensures) ∙ (c .before .before .before .before .before .before .before .before .before .before .before .before .before .before .before .before .before .before .before .before .before .before .before .before .if1) .left) in
-    walk-node (now (a .words)) (a .most) (now (a .room)) (a .count) (a .node .0) ((c .before .before .before .before .before .before .before .before .before .before .before .before .before .before .before .before .before .before .before .before .before .before .before .before .before .before .before .before) .pre .1) two ((c .before .before .before .before .before .before .before .before .before .before .before .before .before .before .before .before .before .before .low-link-of) .result .0) ((c .before .before .before .before .before .before .before .before .before .before .before .before .before .before .before .before .before .before .low-link-of) .ensures) ((c .before .before .before .before .before .before .before .before .before .before .before .before .before .before .before .before .before .build) .last .1 .0) ((c .before .before .before .before .before .before .before .before .before .before .before .before .before .before .before .before .before .build) .result .pointer .0) ((c .before .before .before .before .before .before .before .before .before .before .before .before .before .before .before .before .before .build) .result .count) ((c .before .before .before .before .before .before .before .before .before .before .before .before .before .before .before .before .before .build) .ensures) ((c .before .before .before .before .before .before .before .before .before .before .before .before .before .high-link-of) .result .0) ((c .before .before .before .before .before .before .before .before .before .before .before .before .before .high-link-of) .ensures) ((c .before .before .before .before .before .before .before .before .before .before .before .before .build2) .last .1 .0) ((c .before .before .before .before .before .before .before .before .before .before .before .before .build2) .result .pointer .0) ((c .before .before .before .before .before .before .before .before .before .before .before .before .build2) .result .count) ((c .before .before .before .before .before .before .before .before .before .before .before .before .build2) .ensures) ((c .before .before .before .before .before .before .before .before .before .var-of) .result .0) ((c .before .before .before .before .before .before .before .before .before .var-of) .ensures) ((c .before .before .before .before .before .before .before .join) .last .0) ((c .before .before .before .before .before .before .before .join) .result .pointer .0) ((c .before .before .before .before .before .before .before .join) .result .count) ((c .before .before .before .before .before .before .before .join) .ensures) ((c .before .before .put) .last .0) ((c .before .before .put) .ensures ∙ ap (λ (p : ℕ). set ((c .before .before .before .before .before .before .before .join) .last .0) p ((c .before .before .before .before .before .before .before .join) .result .pointer .0 + 1)) ((c .before .before .before .before .before .before .before .before .before .before .before .before .before .before .before .before .before .before .before .before .before .before .before .to-index) .ensures))
+    let two = ltb-false (c .before .before .before .before .before .before .before .before .before .before .before .before .before .before .before .before .before .before .before .before .before .before .before .before .before .before .before .before .args .node .0) 2 (sym (c .before .before .before .before .before .before .before .before .before .before .before .before .before .before .before .before .before .before .before .before .before .before .before .before .before .is-terminal .ensures) ∙ c .before .before .before .before .before .before .before .before .before .before .before .before .before .before .before .before .before .before .before .before .before .before .before .before .if1 .left) in
+    let here = ap (λ (p : ℕ). set (c .before .before .before .before .before .before .before .join .last .0) p (c .before .before .before .before .before .before .before .join .result .pointer .0 + 1)) (c .before .before .before .before .before .before .before .before .before .before .before .before .before .before .before .before .before .before .before .before .before .before .before .to-index .ensures) in
+    walk-node (c .before .before .before .before .before .before .before .before .before .before .before .before .before .before .before .before .before .before .before .before .before .before .before .before .before .before .before .before .pre .1) two (c .before .before .before .before .before .before .before .before .before .before .before .before .before .before .before .before .before .before .low-link-of .ensures) (c .before .before .before .before .before .before .before .before .before .before .before .before .before .before .before .before .before .build .ensures) (c .before .before .before .before .before .before .before .before .before .before .before .before .before .high-link-of .ensures) (c .before .before .before .before .before .before .before .before .before .before .before .before .build2 .ensures) (c .before .before .before .before .before .before .before .before .before .var-of .ensures) (c .before .before .before .before .before .before .before .join .ensures) (c .before .before .put .ensures ∙ here)
 
 pub +build-spec : {M : Type 1} → statement M
 +build-spec = close μ-build λ t. build-lts.spec (known t)

@@ -1,8 +1,7 @@
-use Prim.Native.Nat.{_+_, _-_, _*_, _≤_, _<_}
+use Prim.Native.Nat.{_-_, _≤_}
 use mathlib.Core.Path.{_≡_}
 use lib.ListN.{length}
 use borrow.Author.Needs.{needs}
-use native.Mathlib.Omega.{arith}
 use Rattle.reduction_run.proofs.arrays.odd.Statement.{statement}
 use Rattle.reduction_run.proofs.arrays.odd.Tie as tie
 

@@ -1,0 +1,8 @@
+-- What a reader must believe of counts.
+--     Paths      paths from the root to node 1
+--     Counted    what a count answers
+-- and, for the code inside, which no promise to a caller names:
+--     Worth      what a node is worth, and the worths noted in the working room
+pub mod Paths
+pub mod Counted
+pub mod Worth

@@ -1,0 +1,48 @@
+-- Negation (document 01, port 5): constants exchange; else links 0 and 1 exchange and every node keeps its place. That the
+-- result holds exactly where the diagram doesn't, is accepted again and negates to the diagram is in proofs/Meaning.antt.
+use Prim.Native.Nat.{ℕ, _-_}
+use mathlib.Core.Path.{_≡_}
+use mathlib.Core.Bool.{cond}
+use mathlib.Core.List.{List, [], _∷_, _++_}
+use lib.ListN.{length, take, drop}
+use lib.Dec.{ltb, eqb}
+use Rattle.diagram.specs.Diagram.{size, vars, Formed}
+use Rattle.diagram.specs.Verdict.{verdictOf, ifAccepted, Checked}
+use Rattle.diagram.specs.declared.verdict.Verdict.{Verdict}
+use Rattle.diagram.specs.declared.verdict.Output.the-variants.{Diagram}
+
+-- A link to 0 goes to 1 and a link to 1 goes to 0.
+unfoldable pub exchanged : ℕ → ℕ
+exchanged link = cond (ltb link 2) (1 - link) link
+
+-- The links of every node: variable, low link, high link.
+unfoldable pub exchangedLinks : List ℕ → List ℕ
+exchangedLinks [] = []
+exchangedLinks (v ∷ []) = v ∷ []
+exchangedLinks (v ∷ low ∷ []) = v ∷ exchanged low ∷ []
+exchangedLinks (v ∷ low ∷ high ∷ nodes) = v ∷ exchanged low ∷ exchanged high ∷ exchangedLinks nodes
+
+-- False has one node, true two; in other diagrams the terminals stay.
+unfoldable pub negated : List ℕ → List ℕ
+negated w =
+    cond (eqb (size w) 1) (vars w ∷ 0 ∷ 0 ∷ vars w ∷ 1 ∷ 1 ∷ [])
+    (cond (eqb (size w) 2) (vars w ∷ 0 ∷ 0 ∷ [])
+    (take 6 w ++ exchangedLinks (drop 6 w)))
+
+-- What negation answers: the check's verdict, the number of nodes of the result, and in the output the result with the
+-- rest as it was. Zero nodes, and the output as it was, where the words are refused.
+abbrev pub over : List ℕ → List ℕ → List ℕ
+over result output = result ++ drop (length result) output
+
+pub record Negates (w before after out out′ : List ℕ) (verdict : Verdict) (count : ℕ) : Type 0 where
+  pub checked : Checked w (Diagram (length out)) before after verdict
+  pub nodes : count ≡ ifAccepted (verdictOf w (Diagram (length out)) (length before)) (size (negated w)) 0
+  pub result : out′ ≡ ifAccepted (verdictOf w (Diagram (length out)) (length before)) (over (negated w) out) out
+
+-- For the code inside, which no promise to a caller names: how many nodes the result has, and what it is made from.
+unfoldable pub nodesOf : ℕ → ℕ
+nodesOf n = cond (eqb n 1) 2 (cond (eqb n 2) 1 n)
+
+pub record Ready (w : List ℕ) (v : ℕ) : Type 0 where
+  pub formed : Formed w
+  pub count : v ≡ vars w
