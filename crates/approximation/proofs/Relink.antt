@@ -6,11 +6,10 @@ use mathlib.Core.List.{List}
 use native.Mathlib.Omega.{arith}
 use native.Mathlib.Decide.{decLt}
 use lib.ListN.{length, getD, List·getD-eq-default}
-use lib.Seq.{ext-getD}
 use lib.Dec.{ltb, eqb}
 use borrow.Author.Tests.{lt-ltb, le-ltb, eq-eqb, ne-eqb}
 use Rattle.diagram.specs.Diagram.{varOf, lowOf, highOf, size, root, Terminal, Formed, Ordered}
-use Rattle.diagram.proofs.Tests.{by-test, cond-true, cond-false, or-right}
+use Rattle.diagram.proofs.Tests.{cond-true, or-right}
 use Rattle.approximation.specs.Links.{table, relinked}
 
 pub table-length : (f : ℕ → ℕ) (a k : ℕ) → length (table f a k) ≡ k
@@ -111,12 +110,3 @@ module _ (f : ℕ → ℕ) (w : List ℕ) where
               (let up = lowers (omega arith) (highOf w p) (r .high) .1 in let b = a .high in omega arith);
         };
   }
-
--- Sent there and back.
-pub relinked-twice : (f : ℕ → ℕ) (w : List ℕ) → ((q : ℕ) → f (f q) ≡ q) → relinked f (relinked f w) ≡ w
-relinked-twice f w twice = ext-getD 0 (relinked f (relinked f w)) w (relinked-length f (relinked f w) ∙ relinked-length f w) (λ j h.
-    let inner = relinked-length f w in
-    let outer = relinked-length f (relinked f w) in
-    at f (relinked f w) j (omega arith) ∙ by-test (ltb j 6 || eqb (j % 3) 0)
-    (λ e. rw e (at f w j (omega arith) ∙ rw e refl))
-    (λ e. rw e (ap f (at f w j (omega arith) ∙ cond-false (ltb j 6 || eqb (j % 3) 0) (getD w j 0) (f (getD w j 0)) e) ∙ twice (getD w j 0))))

@@ -1,4 +1,4 @@
--- A diagram with its links sent elsewhere, for negation and for cuts.
+-- A diagram with its links sent elsewhere.
 use Prim.Native.Nat.{ℕ, zero, suc, _%_}
 use mathlib.Core.Bool.{cond, _||_}
 use mathlib.Core.List.{List, [], _∷_}
