@@ -1,5 +1,5 @@
 -- What the result means: it holds exactly where the diagram doesn't, is accepted again, and negates to the diagram.
-use Prim.Native.Nat.{ℕ, zero, suc, _+_, _-_, _*_, _/_, _%_, _^_, _≤_, _<_}
+use Prim.Native.Nat.{ℕ, zero, suc, _+_, _-_, _*_, _%_, _^_, _≤_, _<_}
 use mathlib.Core.Path.{_≡_, refl, sym, ap, _∙_, subst}
 use mathlib.Core.Bool.{Bool, true, false, cond, not}
 use mathlib.Core.List.{List, [], _∷_}
@@ -7,10 +7,10 @@ use native.Mathlib.Omega.{arith}
 use native.Mathlib.Decide.{decLt}
 use lib.ListN.{length, getD}
 use lib.Seq.{ext-getD, getD-take}
-use lib.Dec.{ltb, eqb}
+use lib.Dec.{eqb}
 use borrow.Author.Tests.{lt-ltb, le-ltb}
-use Rattle.diagram.specs.Diagram.{varOf, lowOf, highOf, size, vars, root, step, walk, holds, Terminal, InRange, Above, Formed, Ordered, Accepted, Reach, start, by-low, by-high}
-use Rattle.diagram.specs.Valuations.{tally, countOf}
+use Rattle.diagram.specs.Diagram.{varOf, lowOf, highOf, size, vars, root, step, walk, holds, Formed, Ordered, Accepted, Reach, start, by-low, by-high}
+use Rattle.diagram.specs.Valuations.{countOf}
 use Rattle.diagram.proofs.Tests.{by-eq}
 use Rattle.diagram.proofs.Reading.{by-two, accepted-ordered, path-ends, root-in}
 use Rattle.counts.proofs.Tally.{tally-same, tally-not}
