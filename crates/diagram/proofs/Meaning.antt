@@ -19,7 +19,7 @@ use Rattle.diagram.proofs.Reaching.{reaches-sound, reaches-complete}
 use Rattle.diagram.proofs.Accepting.{lengths-accepted, lent-accepted, terminals-accepted, ranges-accepted}
 
 -- `isAbove` says `Above`
-above-told : (w : List ℕ) (p : ℕ) → isAbove w p ≡ true → Above w p
+pub above-told : (w : List ℕ) (p : ℕ) → isAbove w p ≡ true → Above w p
 unfolding isAbove
 above-told w p e =
     let b = and-both (ltb (varOf w p) (varOf w (lowOf w p))) (ltb (varOf w p) (varOf w (highOf w p))) e in
@@ -182,7 +182,7 @@ module _ (w : List ℕ) (formed : Formed w) where
         reached = λ p two m. reaches-sound w p (reached p two m);
       })
 
-  accepted-graph : Accepted w → graphOf w ≡ accepted (size w) (vars w)
+  pub accepted-graph : Accepted w → graphOf w ≡ accepted (size w) (vars w)
   unfolding broken-at lost-at
   accepted-graph a =
       graph-ok

@@ -2,14 +2,14 @@
 -- nodes whose links have still to be followed at [n, 2n). Auxiliary: no promise to a caller names these.
 use Prim.Native.Nat.{ℕ, zero, suc, _+_, _*_, _≤_, _<_}
 use mathlib.Core.Path.{_≡_}
-use mathlib.Core.Bool.{Bool, cond, not}
+use mathlib.Core.Bool.{Bool, true, cond, not}
 use mathlib.Core.List.{List}
 use mathlib.Core.Logic.{_⊎_, _≢_}
 use lib.ListN.{length, getD, set}
 use lib.Dec.{eqb}
 use Rattle.diagram.specs.Limits.{maxNodes}
 use Rattle.diagram.specs.Diagram.{lowOf, highOf, size, root, Reach}
-use Rattle.diagram.specs.Verdict.{reaches}
+use Rattle.diagram.specs.Verdict.{reaches, isAbove}
 
 -- How many numbers below n pass a test.
 unfoldable pub count : ℕ → (ℕ → Bool) → ℕ
@@ -50,6 +50,11 @@ pub record Onward (w : List ℕ) (spent : ℕ) (r : List ℕ) (top : ℕ) (r′ 
 -- The search has ended: exactly the reachable nodes have a mark.
 abbrev pub Marks : List ℕ → List ℕ → Type 0
 Marks w r = (p : ℕ) → p < size w → eqb (getD r p 0) 0 ≡ not (reaches w p)
+
+-- The non-terminals before k have both children at a larger variable, and a mark says that a node has a parent.
+pub record Linked (w r : List ℕ) (k : ℕ) : Type 0 where
+  pub above : (p : ℕ) → 2 ≤ p → p < k → isAbove w p ≡ true
+  pub parent : (p : ℕ) → p < size w → Marked r p → (q : ℕ) × (2 ≤ q) × (q < size w) × ((lowOf w q ≡ p) ⊎ (highOf w q ≡ p))
 
 -- The lengths have been looked at: whole nodes, within the limit, and room for marks and stack.
 pub record Sized (w room : List ℕ) : Type 0 where

@@ -2,6 +2,7 @@
 pub mod lengths;
 pub mod limits;
 pub mod node;
+mod plain;
 mod ranges;
 mod reach;
 pub mod refusal;

@@ -2,6 +2,7 @@
 use crate::lengths::lengths;
 use crate::lengths::most;
 use crate::limits::ROOM_PER_NODE;
+use crate::plain::is_plain;
 use crate::ranges::ranges;
 use crate::reach::first_broken;
 use crate::reach::first_lost;
@@ -24,6 +25,9 @@ fn graph(words: &[u32], room: &mut [u32], nodes: usize, vars: u32) -> Verdict
     requires { ⌜ (nodes ≡ size (now words)) × (vars ≡ varsOf (now words)) × Formed (now words) × (2 * nodes ≤ length (now room)) ⌝ }
     ensures { λ r. ⌜ said r ≡ graphOf (now (words .entry)) ⌝ }
 {
+    if is_plain(words, room, nodes) {
+        return Verdict::Accepted { nodes, vars };
+    }
     mark(words, room, nodes);
     let broken = first_broken(words, room, nodes);
     if broken < nodes {

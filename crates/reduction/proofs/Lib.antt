@@ -10,6 +10,10 @@
 --     Chains        look-up by chains of nodes with the same key
 --     Tables        the store's words and the memo as tables
 --     Bench         all tables together
+--     Zones         where the tables stand in the working room: keys in range, what entering a node writes
+--     Joining       the search along a chain, and joining two children
+--     Walking       the calls and returns of the walk
+--     Answering     how the walk starts, and what is left in output and room
 pub mod Store
 pub mod Canon
 pub mod Sound
@@ -21,3 +25,7 @@ pub mod Canonical
 pub mod Chains
 pub mod Tables
 pub mod Bench
+pub mod Zones
+pub mod Joining
+pub mod Walking
+pub mod Answering

@@ -1,9 +1,20 @@
 -- `diagram::validate::graph` meets its contract.
 use denote.Ref.{now}
 use Rattle.diagram.proofs.Rows.{refuse-11, refuse-12, pass-12}
+use Rattle.diagram.proofs.Parents.{pass-plain}
 use borrow.Author.Needs.{needs}
+use native.Mathlib.Omega.{arith}
 use Rattle.diagram.proofs.validate.graph.Statement.{statement}
 use Rattle.diagram.proofs.validate.graph.Tie as tie
+
+is-plain-requires : tie.Need-is-plain-requires
+is-plain-requires c κs = (c .before .before .before .pre .0, c .before .before .before .pre .2, omega (arith, c .before .before .before .pre .3))
+
+same-length : tie.Need-same-length
+same-length c = search needs
+
+returns : tie.Need-returns
+returns c = pass-plain (now (c .before .before .before .before .before .before .before .args .words)) (c .before .before .before .before .before .before .before .args .nodes) (c .before .before .before .before .before .before .before .args .vars) (c .before .before .before .before .before .before .before .pre .0) (c .before .before .before .before .before .before .before .pre .1) (c .before .before .before .is-plain .ensures (c .if1 .taken))
 
 mark-requires : tie.Need-mark-requires
 mark-requires c κs = search needs
@@ -11,42 +22,45 @@ mark-requires c κs = search needs
 first-broken-requires : tie.Need-first-broken-requires
 first-broken-requires c κs = search needs
 
-same-length : tie.Need-same-length
-same-length c = search needs
-
-returns : tie.Need-returns
-returns c =
-    refuse-11 (now (c .before .before .before .before .before .before .before .before .before .args .words)) (c .before .before .before .before .before .before .before .before .before .args .nodes) (c .before .first-broken .result) (c .before .before .before .before .before .before .before .before .before .pre .0) (c .before .first-broken .ensures) (c .if1 .taken)
-
-first-lost-requires : tie.Need-first-lost-requires
-first-lost-requires c κs = search needs
-
 same-length-2 : tie.Need-same-length-2
 same-length-2 c = search needs
 
 returns-2 : tie.Need-returns-2
 returns-2 c =
-    refuse-12 (now (c .before .before .before .before .before .before .before .before .before .before .before .before .args .words)) (c .before .before .before .before .before .before .before .before .before .before .before .before .args .nodes) (c .before .before .before .before .first-broken .result) (c .before .before .before .before .before .before .before .before .before .before .before .before .pre .0) (c .before .before .before .before .first-broken .ensures) (c .before .before .before .if1 .left)
-    (c .before .before .before .before .before .before .before .before .mark .last .1 .0) (c .before .before .before .before .before .before .before .before .mark .ensures) (c .before .first-lost .result) (c .before .first-lost .ensures) (c .if2 .taken)
+    refuse-11 (now (c .before .before .before .before .before .before .before .before .before .before .before .before .before .before .args .words)) (c .before .before .before .before .before .before .before .before .before .before .before .before .before .before .args .nodes) (c .before .first-broken .result) (c .before .before .before .before .before .before .before .before .before .before .before .before .before .before .pre .0) (c .before .first-broken .ensures) (c .if2 .taken)
+
+first-lost-requires : tie.Need-first-lost-requires
+first-lost-requires c κs = search needs
 
 same-length-3 : tie.Need-same-length-3
 same-length-3 c = search needs
 
 returns-3 : tie.Need-returns-3
 returns-3 c =
-    pass-12 (now (c .before .before .before .before .before .before .before .before .before .before .before .before .args .words)) (c .before .before .before .before .before .before .before .before .before .before .before .before .args .nodes) (c .before .before .before .before .first-broken .result) (c .before .before .before .before .before .before .before .before .before .before .before .before .pre .0) (c .before .before .before .before .first-broken .ensures) (c .before .before .before .if1 .left)
-    (c .before .before .before .before .before .before .before .before .mark .last .1 .0) (c .before .before .before .before .before .before .before .before .mark .ensures) (c .before .first-lost .result) (c .before .first-lost .ensures) (c .if2 .left) (c .before .before .before .before .before .before .before .before .before .before .before .before .args .vars) (c .before .before .before .before .before .before .before .before .before .before .before .before .pre .1)
+    refuse-12 (now (c .before .before .before .before .before .before .before .before .before .before .before .before .before .before .before .before .before .args .words)) (c .before .before .before .before .before .before .before .before .before .before .before .before .before .before .before .before .before .args .nodes) (c .before .before .before .before .first-broken .result) (c .before .before .before .before .before .before .before .before .before .before .before .before .before .before .before .before .before .pre .0) (c .before .before .before .before .first-broken .ensures) (c .before .before .before .if2 .left)
+    (c .before .before .before .before .before .before .before .before .mark .last .1 .0) (c .before .before .before .before .before .before .before .before .mark .ensures) (c .before .first-lost .result) (c .before .first-lost .ensures) (c .if3 .taken)
+
+same-length-4 : tie.Need-same-length-4
+same-length-4 c = search needs
+
+returns-4 : tie.Need-returns-4
+returns-4 c =
+    pass-12 (now (c .before .before .before .before .before .before .before .before .before .before .before .before .before .before .before .before .before .args .words)) (c .before .before .before .before .before .before .before .before .before .before .before .before .before .before .before .before .before .args .nodes) (c .before .before .before .before .first-broken .result) (c .before .before .before .before .before .before .before .before .before .before .before .before .before .before .before .before .before .pre .0) (c .before .before .before .before .first-broken .ensures) (c .before .before .before .if2 .left)
+    (c .before .before .before .before .before .before .before .before .mark .last .1 .0) (c .before .before .before .before .before .before .before .before .mark .ensures) (c .before .first-lost .result) (c .before .first-lost .ensures) (c .if3 .left) (c .before .before .before .before .before .before .before .before .before .before .before .before .before .before .before .before .before .args .vars) (c .before .before .before .before .before .before .before .before .before .before .before .before .before .before .before .before .before .pre .1)
 
 pub graph-spec : {M : Type 1} → statement M
 graph-spec =
     tie.close
     (tie.spec
-    mark-requires
-    first-broken-requires
+    is-plain-requires
     same-length
     returns
-    first-lost-requires
+    mark-requires
+    first-broken-requires
     same-length-2
     returns-2
+    first-lost-requires
     same-length-3
-    returns-3)
+    returns-3
+    same-length-4
+    returns-4)

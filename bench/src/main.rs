@@ -1,0 +1,179 @@
+//! Times the Rust text and the proved library side by side, and compares what they answer.
+mod generate;
+mod operations;
+mod ours;
+
+use generate::{diagram, vars_of, Random, FAMILIES};
+use operations::{Case, Lent, Operation, OPERATIONS};
+use rust_text::Bdd;
+use std::hint::black_box;
+use std::time::Instant;
+
+const SIZES: [usize; 5] = [256, 512, 1024, 2048, 4096];
+/// A row is measured over several diagrams, this many nodes together at every size: over one alone, small ones would be
+/// quicker a node for the processor's memory of past branches only.
+const NODES_A_ROW: usize = 16384;
+const BATCHES: usize = 21;
+const BATCH_NS: f64 = 1_000_000.0;
+
+/// The median of some batches, in ns a call; a batch goes through all the cases some times.
+fn time(cases: &[Case], mut call: impl FnMut(&Case)) -> f64 {
+    let mut batch = |k: usize| {
+        let start = Instant::now();
+        (0..k).for_each(|_| cases.iter().for_each(&mut call));
+        start.elapsed().as_nanos() as f64 / k as f64
+    };
+    let once = batch(1).min(batch(1));
+    let k = ((BATCH_NS / once) as usize).clamp(1, 10_000);
+    let batches = if once > 20_000_000.0 { 3 } else { BATCHES };
+    let mut times: Vec<f64> = (0..batches).map(|_| batch(k)).collect();
+    times.sort_by(f64::total_cmp);
+    times[batches / 2] / cases.len() as f64
+}
+
+/// One row: each time as measured in the first and in the second pass.
+struct Row {
+    operation: &'static str,
+    family: &'static str,
+    vars: usize,
+    nodes: usize,
+    rust: [f64; 2],
+    ours: Option<[f64; 2]>,
+    clear: [f64; 2],
+}
+
+fn least(x: [f64; 2]) -> f64 {
+    x[0].min(x[1])
+}
+
+fn measure(operation: &Operation, cases: &[Case], lent: &mut Lent) -> (f64, Option<f64>, f64) {
+    let rust = time(cases, |case| (operation.rust)(black_box(case)));
+    let clear = time(cases, |case| ours::clear(black_box(&mut lent.room), black_box(64 * case.nodes())));
+    let ours = operation.ours.map(|ours| time(cases, |case| ours(black_box(case), black_box(lent))));
+    (rust, ours, clear)
+}
+
+/// Both sides say the same of diagrams with one word changed. (Words 0 to 5 stay: the Rust text does not look at
+/// terminals where there are three nodes or more.)
+fn compare_damaged(seed: u64, lent: &mut Lent) -> [usize; 2] {
+    let mut said = [0; 2];
+    let mut random = Random(seed);
+    for (family, name) in FAMILIES {
+        let whole = diagram(family, 64, seed);
+        for _ in 0..2_000 {
+            let mut words = whole.clone();
+            let at = 6 + random.below(words.len() - 6);
+            words[at] = random.below(words.len() / 2) as u32;
+            let accepted = ours::validate(&words, &mut lent.room).number == 0;
+            assert_eq!(accepted, Bdd::from_words(&words).validate().is_ok(), "{name} {at} {}", words[at]);
+            said[accepted as usize] += 1;
+        }
+    }
+    said
+}
+
+fn main() {
+    let seed = std::env::args().nth(1).map_or(2026, |s| s.parse().expect("the seed is a number"));
+    let wanted = std::env::args().nth(2);
+    let mut lent = Lent::new(*SIZES.last().unwrap());
+    let [refused, accepted] = compare_damaged(seed, &mut lent);
+    println!("seed {seed}; validate of diagrams with one word changed: {accepted} accepted and {refused} refused by both sides\n");
+
+    let mut rows: Vec<Row> = vec![];
+    for pass in 0..2 {
+        let mut at = 0;
+        for operation in OPERATIONS.iter().filter(|o| wanted.as_ref().map_or(true, |w| w == o.name)) {
+            for (family, name) in FAMILIES {
+                for nodes in SIZES {
+                    let made = |i| Case::new(diagram(family, nodes, seed + i as u64), operation);
+                    let cases: Vec<Case> = (0..NODES_A_ROW / nodes).map(made).collect();
+                    for case in cases.iter().filter(|_| pass == 0) {
+                        let verdict = ours::validate(&case.words, &mut lent.room);
+                        assert!(verdict.number == 0, "{name}: refused {} at {}", verdict.number, verdict.place);
+                        (operation.compare)(case, &mut lent);
+                        assert!(lent.room.iter().all(|w| *w == 0), "{name}: the room is not zero");
+                    }
+                    let (rust, ours, clear) = measure(operation, &cases, &mut lent);
+                    if pass == 0 {
+                        rows.push(Row {
+                            operation: operation.name,
+                            family: name,
+                            vars: vars_of(family),
+                            nodes,
+                            rust: [rust; 2],
+                            ours: ours.map(|x| [x; 2]),
+                            clear: [clear; 2],
+                        });
+                    } else {
+                        rows[at].rust[1] = rust;
+                        rows[at].clear[1] = clear;
+                        if let (Some(old), Some(new)) = (rows[at].ours.as_mut(), ours) {
+                            old[1] = new;
+                        }
+                    }
+                    at += 1;
+                }
+            }
+        }
+    }
+    print(&rows);
+}
+
+fn ns(x: f64) -> String {
+    let digits = format!("{:.0}", x.max(0.0));
+    let mut out = String::new();
+    for (i, d) in digits.chars().enumerate() {
+        if i > 0 && (digits.len() - i) % 3 == 0 {
+            out.push(',');
+        }
+        out.push(d);
+    }
+    out
+}
+
+fn print(rows: &[Row]) {
+    let last = *SIZES.last().unwrap();
+    println!("Times in ns a call: the smaller of two passes' medians. `clearing`: one clearing of the working room, 64 words a node.");
+    println!("`growth`, in the last row of a family: the time at {last} nodes over that at {} (linear is 16).\n", SIZES[0]);
+    println!("one clearing of the working room\n\n| nodes | words | time | growth |\n|--:|--:|--:|---|");
+    let clearing = |n: usize| {
+        let mut all: Vec<f64> = rows.iter().filter(|r| r.nodes == n).map(|r| least(r.clear)).collect();
+        all.sort_by(f64::total_cmp);
+        all[all.len() / 2]
+    };
+    for n in SIZES {
+        let growth = if n == last { format!("{:.1}", clearing(n) / clearing(SIZES[0])) } else { "".into() };
+        println!("| {n} | {} | {} | {growth} |", 64 * n, ns(clearing(n)));
+    }
+    let mut operation = "";
+    for (i, row) in rows.iter().enumerate() {
+        if row.operation != operation {
+            operation = row.operation;
+            println!("\n{operation}\n");
+            println!("| family (variables) | nodes | Rust text | ours | clearing | ours - clearing | ours / Rust | ours / clearing | growth Rust, ours, ours - clearing |");
+            println!("|---|--:|--:|--:|--:|--:|--:|--:|---|");
+        }
+        let clear = least(row.clear);
+        let first = &rows[i + 1 - SIZES.len().min(i + 1)];
+        let growth = |f: fn(&Row) -> f64| format!("{:.1}", f(row) / f(first));
+        let rust_growth = growth(|r| least(r.rust));
+        let (ours, rest, ratio, to_clear, ours_growth) = match row.ours {
+            None => ("".into(), "".into(), "".into(), "".into(), "".into()),
+            Some(x) => {
+                let x = least(x);
+                let all = growth(|r| least(r.ours.unwrap()));
+                let rest = growth(|r| least(r.ours.unwrap()) - least(r.clear));
+                (ns(x), ns(x - clear), format!("{:.2}", x / least(row.rust)), format!("{:.2}", x / clear), format!(", {all}, {rest}"))
+            }
+        };
+        let growth = if row.nodes == last { format!("{rust_growth}{ours_growth}") } else { "".into() };
+        println!(
+            "| {} ({}) | {} | {} | {ours} | {} | {rest} | {ratio} | {to_clear} | {growth} |",
+            row.family, row.vars, row.nodes, ns(least(row.rust)), ns(clear)
+        );
+    }
+    let apart = |x: [f64; 2]| x[0].max(x[1]) / least(x);
+    let mut all: Vec<f64> = rows.iter().flat_map(|r| [apart(r.rust), apart(r.clear), r.ours.map_or(1.0, apart)]).collect();
+    all.sort_by(f64::total_cmp);
+    println!("\nThe two passes differ by a factor of {:.2} in the median and {:.2} at most.", all[all.len() / 2], all[all.len() - 1]);
+}

@@ -1,0 +1,111 @@
+//! The operations that are timed: the Rust text's, and ours where it is exported.
+use crate::ours;
+use num_bigint::BigUint;
+use rust_text::Bdd;
+use std::hint::black_box;
+
+/// What the caller lends to ours: made once, zero at the start, and left zero by every call.
+pub struct Lent {
+    pub room: Vec<u32>,
+}
+
+impl Lent {
+    pub fn new(nodes: usize) -> Lent {
+        Lent { room: vec![0; 64 * nodes] }
+    }
+}
+
+/// A diagram in both forms, with the targets of the cuts.
+pub struct Case {
+    pub words: Vec<u32>,
+    pub bdd: Bdd,
+    pub half_count: BigUint,
+}
+
+impl Case {
+    pub fn new(words: Vec<u32>, operation: &Operation) -> Case {
+        let bdd = Bdd::from_words(&words);
+        let half_count = if operation.targets { bdd.exact_cardinality() / 2u32 } else { BigUint::default() };
+        Case { words, bdd, half_count }
+    }
+    pub fn nodes(&self) -> usize {
+        self.words.len() / 3
+    }
+    /// Our working room: exactly the words that are asked for, so that no call clears more.
+    fn room<'a>(&self, lent: &'a mut Lent) -> &'a mut [u32] {
+        &mut lent.room[..64 * self.nodes()]
+    }
+}
+
+pub struct Operation {
+    pub name: &'static str,
+    /// Whether the case needs a count target.
+    pub targets: bool,
+    pub rust: fn(&Case),
+    pub ours: Option<fn(&Case, &mut Lent)>,
+    /// Panics where the two sides answer differently.
+    pub compare: fn(&Case, &mut Lent),
+}
+
+pub const OPERATIONS: [Operation; 8] = [
+    Operation {
+        name: "validate",
+        targets: false,
+        rust: |c| _ = black_box(c.bdd.validate()),
+        ours: Some(|c, lent| _ = black_box(ours::validate(&c.words, c.room(lent)))),
+        compare: |c, lent| {
+            let ours = ours::validate(&c.words, c.room(lent));
+            assert!(c.bdd.validate().is_ok());
+            assert_eq!((ours.nodes, ours.vars), (c.bdd.size(), c.bdd.num_vars() as u32));
+        },
+    },
+    Operation {
+        name: "exact_cardinality",
+        targets: false,
+        rust: |c| _ = black_box(c.bdd.exact_cardinality()),
+        ours: None,
+        compare: |_, _| (),
+    },
+    Operation {
+        name: "exact_clause_cardinality",
+        targets: false,
+        rust: |c| _ = black_box(c.bdd.exact_clause_cardinality()),
+        ours: None,
+        compare: |_, _| (),
+    },
+    Operation {
+        name: "cardinality",
+        targets: false,
+        rust: |c| _ = black_box(c.bdd.cardinality()),
+        ours: None,
+        compare: |_, _| (),
+    },
+    Operation {
+        name: "node_valuation_weights",
+        targets: false,
+        rust: |c| _ = black_box(c.bdd.node_valuation_weights()),
+        ours: None,
+        compare: |_, _| (),
+    },
+    Operation {
+        name: "reduce",
+        targets: false,
+        rust: |c| _ = black_box(c.bdd.and(&c.bdd)),
+        ours: None,
+        compare: |c, _| assert!(c.bdd.and(&c.bdd).validate().is_ok()),
+    },
+    Operation {
+        name: "underapproximate_to_size, half",
+        targets: false,
+        rust: |c| _ = black_box(c.bdd.underapproximate_to_size(c.nodes() / 2)),
+        ours: None,
+        compare: |_, _| (),
+    },
+    Operation {
+        name: "underapproximate_to_cardinality, half",
+        targets: true,
+        rust: |c| _ = black_box(c.bdd.underapproximate_to_cardinality(&c.half_count)),
+        ours: None,
+        compare: |_, _| (),
+    },
+];

@@ -1,0 +1,253 @@
+-- The reduced diagram from a room that is zero: how the walk starts, and what is left in output and room.
+use Prim.Native.Nat.{ℕ, zero, suc, _+_, _-_, _*_, _≤_, _<_, min, max}
+use mathlib.Core.Path.{_≡_, refl, sym, ap, _∙_}
+use mathlib.Core.Logic.{_≢_}
+use mathlib.Core.Bool.{false}
+use mathlib.Core.List.{List, _++_}
+use native.Mathlib.Omega.{arith}
+use native.Mathlib.Decide.{decLt}
+use borrow.Author.Tests.{ltb-false}
+use lib.ListN.{length, getD, set, take, drop, replicate, length-set, length-append, length-drop, length-replicate, take-append-drop, List·getD-append}
+use lib.Seq.{getD-set-same, getD-set-other, getD-drop, getD-append-add, ext-getD, length-take-le}
+use Rattle.diagram.specs.Limits.{maxNodes}
+use Rattle.diagram.specs.Diagram.{size, vars, root}
+use Rattle.diagram.specs.Verdict.{Outcome, accepted, refused, said, andThen, ifAccepted, most as most-of, roomOf, short, lengthsOf, contentsOf, verdictOf, cleared, roomAfter, Checked}
+use Rattle.diagram.specs.declared.verdict.Output.{Output}
+use Rattle.diagram.specs.declared.verdict.Output.the-variants.{Diagram}
+use Rattle.diagram.specs.declared.verdict.Verdict.{Verdict}
+use Rattle.diagram.specs.declared.verdict.Verdict.the-variants.{Accepted, Refused}
+use Rattle.diagram.proofs.Reading.{layered, root-in, accepted-ordered}
+use Rattle.diagram.proofs.Meaning.{Admitted, verdict-accepted}
+use Rattle.reduction.specs.Reduce.{Node, words, Built, terminals, reduce}
+use Rattle.reduction.specs.Build.{own}
+use Rattle.reduction.specs.Answer.{Answer}
+use Rattle.reduction.specs.Room.{keyOf, memoIn, wordIn, nextIn, headIn, storeIn, On, Walking, Walked, started, Copied, Lent, Answered}
+use Rattle.reduction.proofs.Store.{length-words, size-words}
+use Rattle.reduction.proofs.Graph.{own-means, reduce-is}
+use Rattle.reduction.proofs.Fewest.{store-fits}
+use Rattle.reduction.proofs.Tables.{take-words}
+use Rattle.reduction.proofs.Bench.{bench-start}
+use Rattle.reduction.proofs.Joining.{stands}
+use Rattle.reduction.proofs.Walking.{walk-place}
+
+-- ---- the terminals' words
+
+module _ (m : ℕ) (r : List ℕ) (v : ℕ) where
+  started-other : (j : ℕ) → j ≢ m → j ≢ m + 3 → j ≢ m + 4 → j ≢ m + 5 → getD (started m r v) j 0 ≡ getD r j 0
+  unfolding started
+  started-other j a b c d =
+      getD-set-other (set (set (set r m v) (m + 3) v) (m + 4) 1) (m + 5) j 1 0 d
+      ∙ getD-set-other (set (set r m v) (m + 3) v) (m + 4) j 1 0 c
+      ∙ getD-set-other (set r m v) (m + 3) j v 0 b
+      ∙ getD-set-other r m j v 0 a
+
+  started-length : length (started m r v) ≡ length r
+  unfolding started
+  started-length = simp length-set
+
+  module _ (long : m + 5 < length r) where
+    started-zero : getD (started m r v) m 0 ≡ v
+    unfolding started
+    started-zero =
+        getD-set-other (set (set (set r m v) (m + 3) v) (m + 4) 1) (m + 5) m 1 0 (λ e. omega arith)
+        ∙ getD-set-other (set (set r m v) (m + 3) v) (m + 4) m 1 0 (λ e. omega arith)
+        ∙ getD-set-other (set r m v) (m + 3) m v 0 (λ e. omega arith)
+        ∙ getD-set-same r m v 0 (omega arith)
+
+    started-three : getD (started m r v) (m + 3) 0 ≡ v
+    unfolding started
+    started-three =
+        getD-set-other (set (set (set r m v) (m + 3) v) (m + 4) 1) (m + 5) (m + 3) 1 0 (λ e. omega arith)
+        ∙ getD-set-other (set (set r m v) (m + 3) v) (m + 4) (m + 3) 1 0 (λ e. omega arith)
+        ∙ getD-set-same (set r m v) (m + 3) v 0 (simp length-set (omega arith))
+
+    started-four : getD (started m r v) (m + 4) 0 ≡ 1
+    unfolding started
+    started-four =
+        getD-set-other (set (set (set r m v) (m + 3) v) (m + 4) 1) (m + 5) (m + 4) 1 0 (λ e. omega arith)
+        ∙ getD-set-same (set (set r m v) (m + 3) v) (m + 4) 1 0 (simp length-set (omega arith))
+
+    started-five : getD (started m r v) (m + 5) 0 ≡ 1
+    unfolding started
+    started-five = getD-set-same (set (set (set r m v) (m + 3) v) (m + 4) 1) (m + 5) 1 0 (simp length-set (omega arith))
+
+-- ---- lists that begin with zeros
+
+abbrev zeros : ℕ → List ℕ
+zeros k = replicate k 0
+
+zero-at : (k j : ℕ) → getD (zeros k) j 0 ≡ 0
+zero-at zero j = refl
+zero-at (suc k) zero = refl
+zero-at (suc k) (suc j) = zero-at k j
+
+-- Zeros written where zeros stood.
+zeros-again : (k : ℕ) (r s : List ℕ) → length s ≡ length r → k ≤ length r → ((j : ℕ) → j < k → getD r j 0 ≡ 0)
+    → ((j : ℕ) → k ≤ j → getD s j 0 ≡ getD r j 0) → zeros (min k (length s)) ++ drop k s ≡ r
+zeros-again k r s same fits none kept =
+    let all : min k (length s) ≡ k = omega arith in
+    let front : length (zeros k) ≡ k = length-replicate k 0 in
+    let sizes : length (zeros k ++ drop k s) ≡ length r = simp (length-append, length-drop, length-replicate) (omega arith) in
+    rw all (ext-getD 0 (zeros k ++ drop k s) r sizes (λ j h. elim (decLt j k) [
+      | yes before ↦ List·getD-append (zeros k) (drop k s) 0 j (omega arith) ∙ zero-at k j ∙ sym (none j before)
+      | no after ↦
+          let place : length (zeros k) + (j - k) ≡ j = omega arith in
+          let back : k + (j - k) ≡ j = omega arith in
+          ap (λ (i : ℕ). getD (zeros k ++ drop k s) i 0) (sym place)
+          ∙ getD-append-add (zeros k) (drop k s) (j - k) 0
+          ∙ getD-drop k s (j - k) 0
+          ∙ ap (λ (i : ℕ). getD s i 0) back
+          ∙ kept j (omega arith)
+    ]))
+
+-- ---- the whole
+
+module _ {w r out : List ℕ} {n v : ℕ} (a : Lent w r out n v) {m : ℕ} (is-m : m ≡ max n 2) where
+  most : m ≡ max (size w) 2
+  most = is-m ∙ ap (λ (k : ℕ). max k 2) (a .is-size)
+
+  pub lent-few : m ≤ maxNodes
+  lent-few = let e = most in let few = a .ordered .formed .few in omega arith
+
+  pub lent-some : 0 < n
+  lent-some = let e = a .is-size in let some = a .ordered .formed .some in omega arith
+
+  on-start : {s : List ℕ} → s ≡ started m r v → On w m (terminals (vars w)) s
+  on-start e =
+      let is-most = most in
+      let long = a .long in
+      let none = a .zero in
+      let var = a .is-vars in
+      rw e (record {
+        ordered = a .ordered;
+        most = most;
+        long = let l = started-length m r v in omega arith;
+        bench = bench-start w (vars w) (size w) (keyOf m) m (memoIn (started m r v)) (headIn m (started m r v)) (nextIn m (started m r v)) (wordIn m (started m r v))
+            (λ p h. started-other m r v p (λ e. omega arith) (λ e. omega arith) (λ e. omega arith) (λ e. omega arith) ∙ none p (omega arith))
+            (λ x h. started-other m r v (5 * m + x) (λ e. omega arith) (λ e. omega arith) (λ e. omega arith) (λ e. omega arith) ∙ none (5 * m + x) (omega arith))
+            (let at-m : m + 0 ≡ m = omega arith in ap (λ (j : ℕ). getD (started m r v) j 0) at-m ∙ started-zero m r v (omega arith) ∙ var)
+            (started-other m r v (m + 1) (λ e. omega arith) (λ e. omega arith) (λ e. omega arith) (λ e. omega arith) ∙ none (m + 1) (omega arith))
+            (started-other m r v (m + 2) (λ e. omega arith) (λ e. omega arith) (λ e. omega arith) (λ e. omega arith) ∙ none (m + 2) (omega arith))
+            (started-three m r v (omega arith) ∙ var)
+            (started-four m r v (omega arith))
+            (started-five m r v (omega arith));
+      })
+
+  module _ {s : List ℕ} (is-s : s ≡ started m r v) where
+    first-store : storeIn m s 2 ≡ terminals (vars w)
+    first-store = stands w m (terminals (vars w)) s (on-start is-s) 2 refl
+
+    pub walk-start : {p : ℕ} → p ≡ n - 1 → Walking w m s 2 p
+    walk-start {p} e =
+        let at-root : p ≡ root w = e ∙ ap (λ (k : ℕ). k - 1) (a .is-size) in
+        rw at-root (record {
+          on = rw first-store (on-start is-s);
+          node = root-in w (a .ordered);
+          fits = rw first-store (let fits = store-fits w (a .ordered) in let e = most in omega arith);
+        })
+
+    module _ {p : ℕ} (is-p : p ≡ n - 1) {t : List ℕ} {x k : ℕ} (walked : Walked w m s 2 p t x k) where
+      made : own w (vars w) p (storeIn m s 2) ≡ own w (vars w) (root w) (terminals (vars w))
+      made =
+          let at-root : p ≡ root w = is-p ∙ ap (λ (k : ℕ). k - 1) (a .is-size) in
+          rw (at-root, first-store) refl
+
+      pub answer-small : x < m
+      answer-small = let place = walk-place (walk-start is-p) in let e = walked .is-pointer in omega arith
+
+      pub answer-fits : 3 * (x + 1) ≤ length out
+      answer-fits = let small = answer-small in let e = most in let fits = a .output in omega arith
+
+      -- c nodes are copied, and the tables cleared.
+      module _ {c : ℕ} (is-c : c ≡ x + 1) {out′ : List ℕ} (kept : length out′ ≡ length out) (copied : Copied t m out out′ (3 * c)) where
+        store : List Node
+        store = own w (vars w) p (storeIn m s 2) .store
+
+        in-store : c ≤ length store
+        unfolding store
+        in-store =
+            let inside = own-means w (vars w) (size w) (layered w (a .ordered)) p (walk-start is-p .node) (storeIn m s 2) (walk-start is-p .on .bench .sound) .place in
+            let e = walked .is-pointer in
+            omega arith
+
+        result : words (take c store) ≡ reduce w
+        unfolding store
+        result =
+            let pointer : c ≡ suc (own w (vars w) p (storeIn m s 2) .pointer) = let e = walked .is-pointer in omega arith in
+            ap (λ (k : ℕ). words (take k (own w (vars w) p (storeIn m s 2) .store))) pointer
+            ∙ ap (λ (b : Built). words (take (suc (b .pointer)) (b .store))) made
+            ∙ sym (reduce-is w (a .ordered))
+
+        result-nodes : size (reduce w) ≡ c
+        result-nodes = ap (λ (l : List ℕ). size l) (sym result) ∙ size-words (take c store) ∙ length-take-le c store in-store
+
+        result-length : length (reduce w) ≡ 3 * c
+        result-length = ap length (sym result) ∙ length-words (take c store) ∙ ap (λ (k : ℕ). 3 * k) (length-take-le c store in-store)
+
+        front : take (3 * c) out′ ≡ reduce w
+        unfolding store
+        front =
+            let fits = answer-fits in
+            take-words (own w (vars w) p (storeIn m s 2) .store) (wordIn m t) (walked .on .bench .held) out′ c in-store (omega arith) (copied .first)
+            ∙ result
+
+        pub answer-ends : length t ≡ length r → {u : List ℕ} → u ≡ replicate (min (6 * m) (length t)) 0 ++ drop (6 * m) t → Answered w r out u out′ c
+        answer-ends same e =
+            let is-most = most in
+            let long = a .long in
+            record {
+              count = sym result-nodes;
+              room = e ∙ zeros-again (6 * m) r t same (omega arith) (λ j h. a .zero j (omega arith)) (λ j far.
+                  walked .beyond j far ∙ ap (λ (l : List ℕ). getD l j 0) is-s
+                  ∙ started-other m r v j (λ z. omega arith) (λ z. omega arith) (λ z. omega arith) (λ z. omega arith));
+              output = sym (take-append-drop (3 * c) out′) ∙ (rw (front, copied .rest, result-length) refl);
+            }
+
+-- ---- after the check
+
+-- An acceptance has left the room cleared.
+lengths-too : {A : Type 0} (x y : Outcome) (n v : ℕ) (yes-case no-case : A) → andThen x y ≡ accepted n v → ifAccepted x yes-case no-case ≡ yes-case
+lengths-too (accepted n′ v′) y n v a b e = refl
+lengths-too (refused k p) y n v a b e = let z : _≡_ {A = ℕ} 0 1 = cc in absurd (omega arith)
+
+room-cleared : (w : List ℕ) (o : Output) (before : List ℕ) (n v : ℕ) → verdictOf w o (length before) ≡ accepted n v → roomAfter w o before ≡ cleared w before
+unfolding verdictOf
+room-cleared w o before n v e = lengths-too (lengthsOf w o (length before)) (contentsOf w) n v (cleared w before) before e
+
+lent-enough : (w : List ℕ) (lent : ℕ) → short w (Diagram lent) ≡ false → 3 * most-of w ≤ lent
+unfolding short
+lent-enough w lent e = ltb-false lent (3 * most-of w) e
+
+module _ {w before after : List ℕ} (out : List ℕ) {r : Verdict} (checked : Checked w (Diagram (length out)) before after r) where
+  pub answer-refused : {k p : ℕ} → r ≡ Refused k p → Answer w before after out out (record { verdict = r; nodes = 0 })
+  answer-refused {k} {p} e =
+      let told : verdictOf w (Diagram (length out)) (length before) ≡ refused k p = sym (checked .verdict) ∙ ap said e in
+      record { checked = checked; nodes = rw told refl; output = rw told refl }
+
+  module _ {n v : ℕ} (e : r ≡ Accepted n v) where
+    told-accepted : verdictOf w (Diagram (length out)) (length before) ≡ accepted n v
+    told-accepted = sym (checked .verdict) ∙ ap said e
+
+    told : Admitted w (Diagram (length out)) (length before) n v
+    told = verdict-accepted w (Diagram (length out)) (length before) n v told-accepted
+
+    pub lent-of : Lent w after out n v
+    lent-of =
+        let left : after ≡ cleared w before = checked .left ∙ room-cleared w (Diagram (length out)) before n v told-accepted in
+        let fits = told .fits in
+        rw left (record {
+          ordered = accepted-ordered w (told .accepted);
+          is-size = told .nodes;
+          is-vars = told .variables;
+          long = simp (length-append, length-drop, length-replicate) (omega arith);
+          zero = λ j h. List·getD-append (replicate (roomOf w) 0) (drop (roomOf w) before) 0 j (simp length-replicate (omega arith)) ∙ zero-at (roomOf w) j;
+          output = lent-enough w (length out) (told .lent);
+        })
+
+    pub answer-accepted : {after′ out′ : List ℕ} {k : ℕ} → Answered w after out after′ out′ k
+        → Answer w before after′ out out′ (record { verdict = Accepted n v; nodes = k })
+    answer-accepted a = record {
+      checked = record { verdict = sym told-accepted; left = a .room ∙ checked .left };
+      nodes = rw told-accepted (a .count);
+      output = rw told-accepted (a .output);
+    }

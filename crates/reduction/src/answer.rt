@@ -1,0 +1,55 @@
+// The reduced diagram of an accepted one: built in the working room, copied to the output, and cleared away.
+use crate::walk::build;
+use diagram::lengths::most;
+use diagram::node::BddPointer;
+use diagram::node::word;
+use diagram::room::clear;
+use diagram::room::put;
+ghost use mathlib.Core.Path.{_≡_};
+ghost use Prim.Native.Nat.{_+_, _*_, _≤_};
+ghost use lib.ListN.{length};
+ghost use Rattle.diagram.specs.Limits.{maxNodes};
+ghost use Rattle.reduction.specs.Room.{started, Copied, Lent, Answered};
+
+// Writes the terminals' words to a room that is zero.
+fn start(room: &mut [u32], most: usize, vars: u32)
+    requires { ⌜ most ≤ maxNodes ⌝ }
+    ensures { λ _. ⌜ now (room .exit) ≡ started most (now (room .entry)) vars ⌝ }
+{
+    put(room, most, vars);
+    put(room, most + 3, vars);
+    put(room, most + 4, 1);
+    put(room, most + 5, 1);
+}
+
+// Copies `count` words of the room, from a place on, to the output.
+fn copy(room: &[u32], from: usize, output: &mut [u32], count: usize)
+    requires { ⌜ (from ≤ maxNodes) × (count ≤ length (now output)) ⌝ }
+    ensures { λ _. ⌜ Copied (now (room .entry)) from (now (output .entry)) (now (output .exit)) count ⌝ }
+{
+    let mut i = 0;
+    while i < count {
+        output[i] = word(room, from + i);
+        i += 1;
+    }
+}
+
+// Reduces an accepted diagram in a room that is zero, and gives the number of nodes.
+pub(crate) fn answer(
+    words: &[u32],
+    room: &mut [u32],
+    output: &mut [u32],
+    nodes: usize,
+    vars: u32,
+) -> usize
+    requires { ⌜ Lent (now words) (now room) (now output) nodes vars ⌝ }
+    ensures { λ r. ⌜ Answered (now (words .entry)) (now (room .entry)) (now (output .entry)) (now (room .exit)) (now (output .exit)) r ⌝ }
+{
+    let most = most(nodes);
+    start(room, most, vars);
+    let made = build(words, room, most, 2, BddPointer((nodes - 1) as u32));
+    let count = made.pointer.to_index() + 1;
+    copy(room, most, output, 3 * count);
+    clear(room, 6 * most);
+    count
+}
