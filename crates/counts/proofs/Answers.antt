@@ -1,12 +1,12 @@
 -- What the public functions answer.
 use Prim.Native.Nat.{ℕ, _*_, _≤_}
-use mathlib.Core.Path.{_≡_, refl, sym, ap}
+use mathlib.Core.Path.{_≡_, refl, sym}
 use mathlib.Core.List.{List, _++_}
 use native.Mathlib.Omega.{arith}
 use lib.ListN.{length, drop, take, replicate}
 use Rattle.naturals.specs.Natural.{Holds}
 use Rattle.naturals.proofs.Answer.{holds-as}
-use Rattle.diagram.specs.Diagram.{size, vars, Ordered}
+use Rattle.diagram.specs.Diagram.{size, Ordered}
 use Rattle.diagram.specs.Verdict.{Outcome, accepted, refused, ifAccepted, roomOf, verdictOf, Checked}
 use Rattle.diagram.specs.declared.verdict.Verdict.{Verdict}
 use Rattle.diagram.specs.declared.verdict.Verdict.the-variants.{Accepted as Yes, Refused as No}

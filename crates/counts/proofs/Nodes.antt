@@ -1,20 +1,18 @@
 -- A node's worth from its children's, for valuations and for paths alike, and its bound.
 use Prim.Native.Nat.{ℕ, zero, suc, _+_, _-_, _*_, _^_, _≤_, _<_}
 use mathlib.Core.Path.{_≡_, refl, sym, ap, _∙_}
-use mathlib.Core.Logic.{⊎-elim}
 use mathlib.Core.Bool.{Bool, true, false, cond}
-use mathlib.Core.List.{List, [], _∷_}
+use mathlib.Core.List.{List, _∷_}
 use native.Mathlib.Omega.{arith}
 use native.Mathlib.Nat.{pow-suc, mul-one, mul-assoc, mul-le-mul, sub-zero, le-trans, lt-of-le-of-lt}
 use lib.Pow.{pow-pos, pow-add, pow-mono, pow-lt}
-use lib.ListN.{length}
 use lib.Dec.{eqb}
 use borrow.Author.Tests.{lt-ltb, le-ltb}
 use Rattle.naturals.specs.Natural.{limit}
 use Rattle.diagram.specs.Diagram.{varOf, lowOf, highOf, size, vars, root, holds, Ordered}
 use Rattle.diagram.specs.Reading.{eval, pass}
 use Rattle.diagram.specs.Valuations.{tally, countOf}
-use Rattle.diagram.proofs.Reading.{Layered, Layer, layered, root-in, by-two, pass-tests, pass-skips, eval-nil, eval-cons, at-end, var-most, holds-is-eval}
+use Rattle.diagram.proofs.Reading.{Layered, layered, root-in, by-two, pass-tests, pass-skips, eval-nil, eval-cons, at-end, var-most, holds-is-eval}
 use Rattle.counts.specs.Paths.{paths, pathCountOf}
 use Rattle.counts.specs.Worth.{worthOf, doublings, partOf, totalOf}
 use Rattle.diagram.proofs.Tally.{tally-zero, tally-suc, tally-same, tally-most}

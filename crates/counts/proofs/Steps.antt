@@ -1,10 +1,10 @@
 -- What each step of the walk over the nodes gives.
-use Prim.Native.Nat.{ℕ, _+_, _-_, _*_, _^_, _≤_, _<_, min}
-use mathlib.Core.Path.{_≡_, refl, sym, ap, _∙_}
+use Prim.Native.Nat.{ℕ, _+_, _-_, _*_, _^_, _≤_, _<_}
+use mathlib.Core.Path.{_≡_, sym, ap, _∙_}
 use mathlib.Core.Bool.{Bool, true, false, cond}
-use mathlib.Core.List.{List, _++_}
+use mathlib.Core.List.{List}
 use native.Mathlib.Omega.{arith}
-use lib.ListN.{length, getD, set, take, drop, replicate, length-replicate}
+use lib.ListN.{length, getD, set, take, drop, replicate}
 use lib.Dec.{ltb, leb}
 use borrow.Author.Tests.{ltb-true, ltb-false, lt-ltb, le-ltb, le-leb}
 use Rattle.naturals.specs.Natural.{value, limit, wordCount, Holds, Answers, Fitted, Stores}
@@ -13,8 +13,7 @@ use Rattle.naturals.proofs.Answer.{fit, given, holds-as, answers-yes, answers-s
 use Rattle.diagram.specs.Diagram.{varOf, lowOf, highOf, size, vars, root, Ordered}
 use Rattle.diagram.proofs.Reading.{layered, root-in}
 use Rattle.diagram.proofs.Tests.{by-test, not-both}
-use Rattle.diagram.proofs.Words.{zeros-whole}
-use Rattle.counts.specs.Worth.{worthOf, doublings, partOf, totalOf, entry, isKnown, known, Noted, withNote, Walking, Worked, Joining}
+use Rattle.counts.specs.Worth.{worthOf, doublings, partOf, totalOf, entry, isKnown, known, withNote, Walking, Worked, Joining}
 use Rattle.counts.proofs.Nodes.{worth-node, worth-fits, part-fits, total-fits}
 use Rattle.counts.proofs.Noting.{known-end, known-node, noted-start, noted-on}
 

@@ -1,16 +1,16 @@
 -- The number of paths is the number of the paths: there is a list of all of them, each once, of that length.
 use Prim.Native.Nat.{ℕ, zero, suc, _+_, _≤_, _<_}
-use mathlib.Core.Path.{_≡_, refl, sym, ap, _∙_, subst}
+use mathlib.Core.Path.{_≡_, refl, sym, _∙_, subst}
 use mathlib.Core.Logic.{_⊎_, inl, inr, ⊎-elim}
 use mathlib.Core.Bool.{Bool, true, false, cond}
 use mathlib.Core.List.{List, [], _∷_, _++_, map}
 use native.Mathlib.Omega.{arith}
 use lib.ListN.{length, length-append, length-map}
 use lib.Dec.{ltb, eqb}
-use borrow.Author.Tests.{lt-ltb, le-ltb, eq-eqb, ne-eqb}
+use borrow.Author.Tests.{lt-ltb, le-ltb}
 use Rattle.diagram.specs.Diagram.{varOf, lowOf, highOf, size, vars, root, Ordered}
 use Rattle.diagram.proofs.Tests.{not-both}
-use Rattle.diagram.proofs.Reading.{layered, root-in, by-two, at-end, child-in, child-above}
+use Rattle.diagram.proofs.Reading.{layered, root-in, by-two, at-end}
 use Rattle.counts.specs.Paths.{paths, pathCountOf, Path, arrived, turn}
 use Rattle.counts.proofs.Nodes.{paths-ends, paths-node}
 

@@ -13,7 +13,7 @@ ghost use mathlib.Core.Path.{_≡_};
 ghost use Prim.Native.Nat.{_<_};
 ghost use Rattle.naturals.specs.Natural.{value, limit, Holds};
 ghost use Rattle.diagram.specs.Diagram.{varOf};
-ghost use Rattle.counts.specs.Worth.{worthOf, doublings as doublingsOf, partOf, Walking, Joining, Worked};
+ghost use Rattle.counts.specs.Worth.{doublings as doublingsOf, partOf, Walking, Joining, Worked};
 
 // How often a link that skips variables doubles a worth.
 pub(crate) fn doublings(valuations: bool, skipped: u32) -> u32

@@ -1,12 +1,12 @@
 -- What the check that every operation begins with tells: of a refusal, and of an acceptance.
-use Prim.Native.Nat.{ℕ, _+_, _-_, _*_, _≤_, _<_, max}
+use Prim.Native.Nat.{ℕ, _+_, _-_, _≤_}
 use mathlib.Core.Path.{_≡_, refl, sym, ap, _∙_}
 use mathlib.Core.List.{List, _++_, append-assoc}
 use native.Mathlib.Omega.{arith}
 use lib.ListN.{length, take, drop, replicate, length-replicate, replicate-append-replicate, take-append-drop, length-append, length-drop}
 use lib.Seq.{length-take-le, take-at}
-use Rattle.diagram.specs.Diagram.{size, vars, Ordered, Accepted}
-use Rattle.diagram.specs.Verdict.{Outcome, accepted, refused, said, andThen, ifAccepted, most, roomOf, cleared, roomAfter, lengthsOf, contentsOf, verdictOf, Checked}
+use Rattle.diagram.specs.Diagram.{Ordered}
+use Rattle.diagram.specs.Verdict.{Outcome, accepted, refused, said, andThen, ifAccepted, roomOf, cleared, lengthsOf, contentsOf, verdictOf, Checked}
 use Rattle.diagram.specs.declared.verdict.Verdict.{Verdict}
 use Rattle.diagram.specs.declared.verdict.Verdict.the-variants.{Accepted as Yes, Refused as No}
 use Rattle.diagram.specs.declared.verdict.Output.{Output}

@@ -1,17 +1,14 @@
 -- The words of the result, one by one.
-use Prim.Native.Nat.{ℕ, zero, suc, _+_, _-_, _*_, _/_, _%_, _≤_, _<_, max}
+use Prim.Native.Nat.{ℕ, zero, suc, _+_, _-_, _*_, _/_, _%_, _≤_, _<_}
 use mathlib.Core.Path.{_≡_, refl, sym, ap, _∙_}
-use mathlib.Core.Bool.{Bool, true, false, cond}
 use mathlib.Core.List.{List, [], _∷_, _++_}
 use native.Mathlib.Omega.{arith}
 use native.Mathlib.Nat.{zero-add}
 use native.Mathlib.Numerals.{add-one}
-use native.Mathlib.Decide.{ℕ-discrete, decLt}
 use lib.ListN.{length, getD, set, take, drop, length-set, length-append, length-drop, List·getD-append}
 use lib.Seq.{take-length, paste-suc, length-take-le, getD-append-add, getD-take, getD-drop, ext-getD}
-use lib.Dec.{ltb, eqb}
 use borrow.Author.Tests.{lt-ltb, le-ltb, eq-eqb, ne-eqb}
-use Rattle.diagram.specs.Diagram.{varOf, lowOf, highOf, size, vars, Formed}
+use Rattle.diagram.specs.Diagram.{size, vars, Formed}
 use Rattle.diagram.proofs.Tests.{by-eq}
 use Rattle.negation.specs.Negation.{exchanged, exchangedLinks, negated, nodesOf, Ready}
 

@@ -1,13 +1,13 @@
 -- The nodes of each variable: after node p the output has how many below p test each.
-use Prim.Native.Nat.{ℕ, zero, suc, _+_, _-_, _*_, _≤_, _<_, min, max}
+use Prim.Native.Nat.{ℕ, zero, suc, _+_, _≤_, _<_, min, max}
 use mathlib.Core.Path.{_≡_, refl, sym, ap, _∙_}
 use mathlib.Core.Bool.{Bool, true, false, and-false}
 use mathlib.Core.List.{List, [], _∷_, _++_}
 use native.Mathlib.Omega.{arith}
 use native.Mathlib.Numerals.{add-one}
-use native.Mathlib.Decide.{ℕ-discrete, decLt}
-use lib.ListN.{length, getD, set, take, drop, replicate, length-set, length-append, length-replicate, length-drop, getD-replicate, List·getD-append, take-append-drop}
-use lib.Seq.{getD-set-same, getD-set-other, drop-set-lt, drop-at, getD-append-add, getD-at, getD-take, ext-getD, length-take-le}
+use native.Mathlib.Decide.{ℕ-discrete}
+use lib.ListN.{length, getD, set, take, drop, replicate, length-set, length-append, length-replicate, getD-replicate, List·getD-append, take-append-drop}
+use lib.Seq.{getD-set-same, getD-set-other, drop-set-lt, drop-at, getD-at, getD-take, ext-getD, length-take-le}
 use borrow.Author.Tests.{le-leb, lt-leb, eq-eqb, ne-eqb}
 use Rattle.diagram.specs.Diagram.{varOf, size, vars, Formed}
 use Rattle.diagram.specs.Reading.{tests}

@@ -3,7 +3,7 @@
 use Prim.Native.Nat.{ℕ, zero, suc, _+_, _-_, _*_, _^_, _≤_, _<_}
 use mathlib.Core.Path.{_≡_, refl, sym, ap, _∙_}
 use mathlib.Core.Logic.{_↔_, _≢_}
-use mathlib.Core.Bool.{Bool, true, false, cond, _&&_}
+use mathlib.Core.Bool.{true}
 use mathlib.Core.List.{List}
 use native.Mathlib.Omega.{arith}
 use native.Mathlib.Nat.{pow-suc, mul-one, mul-assoc, le-mul-of-pos-right, sub-zero}
@@ -12,12 +12,11 @@ use lib.Dec.{eqb}
 use borrow.Author.Tests.{eqb-true, eq-eqb}
 use Rattle.diagram.specs.Diagram.{varOf, lowOf, highOf, size, vars, root, Ordered}
 use Rattle.diagram.specs.Valuations.{countOf}
-use Rattle.diagram.proofs.Tests.{by-eq, by-test, not-both, and-both, both-and}
-use Rattle.diagram.proofs.Reading.{layered, root-in, by-two, at-end, var-most, accepted-ordered}
-use Rattle.counts.specs.Worth.{worthOf, doublings, partOf, totalOf}
+use Rattle.diagram.proofs.Tests.{by-eq, and-both, both-and}
+use Rattle.diagram.proofs.Reading.{layered, root-in, by-two, at-end, accepted-ordered}
+use Rattle.counts.specs.Worth.{worthOf, doublings}
 use Rattle.counts.proofs.Nodes.{worth-end, worth-node, total-valuations}
 use Rattle.reduction.specs.Reduce.{reduce}
-use Rattle.reduction.specs.Demand3.{Demand3}
 use Rattle.reduction.proofs.Canonical.{demand3}
 use Rattle.queries.specs.Queries.{onlyChild, due, soleFrom, isValuation}
 use Rattle.queries.proofs.SoleWalk.{only-low, only-high, only-none, sole-end, sole-node, only-in}

@@ -1,15 +1,15 @@
 -- The walk of clauses and valuations.
-use Prim.Native.Nat.{ℕ, zero, suc, _+_, _-_, _*_, _≤_, _<_}
+use Prim.Native.Nat.{ℕ, zero, suc, _+_, _-_, _≤_, _<_}
 use mathlib.Core.Path.{_≡_, refl, sym, ap, _∙_}
-use mathlib.Core.Bool.{Bool, true, false, cond, not, _&&_}
+use mathlib.Core.Bool.{Bool, true, false, not, _&&_}
 use mathlib.Core.List.{List}
 use native.Mathlib.Omega.{arith}
 use native.Mathlib.Numerals.{add-one}
-use lib.Dec.{ltb, eqb}
+use lib.Dec.{eqb}
 use borrow.Author.Tests.{lt-ltb, le-ltb, eq-eqb, ne-eqb, not-true, not-false}
 use Rattle.diagram.specs.Diagram.{varOf, lowOf, highOf, size, vars, root, Ordered}
 use Rattle.diagram.proofs.Tests.{by-eq}
-use Rattle.diagram.proofs.Reading.{Layered, Layer, layered, root-in, by-two, at-end, var-most}
+use Rattle.diagram.proofs.Reading.{Layered, layered, root-in, by-two, at-end, var-most}
 use Rattle.queries.specs.Queries.{onlyChild, due, soleFrom, isSole}
 
 pub only-low : (w : List ℕ) (p : ℕ) → lowOf w p ≡ 0 → onlyChild w p ≡ highOf w p

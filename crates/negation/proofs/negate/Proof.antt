@@ -1,5 +1,4 @@
-use denote.Ref.{now}
-use mathlib.Core.Path.{refl, sym, _∙_, ap}
+-- `negation::negate` meets its contract.
 use Rattle.negation.proofs.Words.{Written, written-starts, written-on, written-ends}
 use Prim.Native.Nat.{_-_}
 use Rattle.negation.specs.Negation.{negated}
@@ -8,10 +7,6 @@ use borrow.Author.Needs.{needs}
 use native.Mathlib.Omega.{arith}
 use Rattle.negation.proofs.negate.Statement.{statement}
 use Rattle.negation.proofs.negate.Tie as tie
-use Rattle.negation.proofs.negate.Reads as reads
-use Rattle.negation.proofs.negate.Lts as lts
-use Rattle.negation.proofs.nodes_of.Reads as nodes-of-reads
-use Rattle.negation.proofs.word_of.Reads as word-of-reads
 
 abbrev Inv-loop : tie.InvT-loop
 Inv-loop words output₀ nodes vars made end i₀ output i = Written (negated words) output₀ i output
@@ -19,51 +14,40 @@ Inv-loop words output₀ nodes vars made end i₀ output i = Written (negated wo
 abbrev μ-loop : tie.MeasureT-loop
 μ-loop words output₀ nodes vars made end i₀ output i = end - i
 
--- src/lib.rt:61:9
 nodes-of-requires : tie.Need-nodes-of-requires Inv-loop μ-loop
 nodes-of-requires c κs = search needs
 
--- src/lib.rt:62:15
 mul-end : tie.Need-mul-end Inv-loop μ-loop
 mul-end c =
     omega (arith, end-is (c .before .before .before .pre .1) (c .before .before .before .args .nodes) (c .before .before .before .pre .0) (c .nodes-of .result) (c .nodes-of .ensures), c .before .before .before .pre .2)
 
--- src/lib.rt:64:5
 loop-holds : tie.Need-loop-holds Inv-loop μ-loop
 loop-holds c = written-starts _ _
 
--- src/lib.rt:65:21
 word-of-requires : tie.Need-word-of-requires Inv-loop μ-loop
 word-of-requires c κs =
     (c .before .before .before .before .before .pre .1, omega (arith, end-is (c .before .before .before .before .before .pre .1) (c .before .before .before .before .before .args .nodes) (c .before .before .before .before .before .pre .0) (c .before .before .nodes-of .result) (c .before .before .nodes-of .ensures)))
 
--- src/lib.rt:65:9
 mul-output : tie.Need-mul-output Inv-loop μ-loop
 mul-output c = search needs
 
--- src/lib.rt:65:9
 slice-write-output : tie.Need-slice-write-output Inv-loop μ-loop
 slice-write-output c =
     omega (arith, end-is (c .before .before .before .before .before .before .pre .1) (c .before .before .before .before .before .before .args .nodes) (c .before .before .before .before .before .before .pre .0) (c .before .before .before .nodes-of .result) (c .before .before .before .nodes-of .ensures), c .before .before .before .before .before .before .pre .2, c .before .before .loop .inv .size)
 
--- src/lib.rt:66:9
 add-i : tie.Need-add-i Inv-loop μ-loop
 add-i c = search needs
 
--- src/lib.rt:64:5
 loop-less : tie.Need-loop-less Inv-loop μ-loop
 loop-less c = search needs
 
--- src/lib.rt:64:5
 loop-again : tie.Need-loop-again Inv-loop μ-loop
 loop-again c =
     written-on (c .before .before .loop .inv) (omega (arith, end-is (c .before .before .before .before .before .before .pre .1) (c .before .before .before .before .before .before .args .nodes) (c .before .before .before .before .before .before .pre .0) (c .before .before .before .nodes-of .result) (c .before .before .before .nodes-of .ensures))) (c .before .before .before .before .before .before .pre .2) (c .word-of .result) (c .word-of .ensures)
 
--- src/lib.rt:57:1
 same-length : tie.Need-same-length Inv-loop μ-loop
 same-length c = c .before .loop .inv .size
 
--- src/lib.rt:57:1
 returns : tie.Need-returns Inv-loop μ-loop
 returns c =
     (made-is (c .before .before .before .before .before .pre .1) (c .before .before .before .before .before .args .nodes) (c .before .before .before .before .before .pre .0) (c .before .before .nodes-of .result) (c .before .before .nodes-of .ensures), written-ends (c .before .loop .inv) (omega (arith, end-is (c .before .before .before .before .before .pre .1) (c .before .before .before .before .before .args .nodes) (c .before .before .before .before .before .pre .0) (c .before .before .nodes-of .result) (c .before .before .nodes-of .ensures))))

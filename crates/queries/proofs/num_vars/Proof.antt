@@ -1,43 +1,30 @@
-use denote.Ref.{now}
-use mathlib.Core.Path.{refl, sym, _∙_, ap}
+-- `queries::num_vars` meets its contract.
 use Rattle.queries.proofs.Answers.{tell-refused, tell-counts, tell-accepted}
-use native.Mathlib.Omega.{arith}
 use borrow.Author.Needs.{needs}
 use Rattle.queries.proofs.num_vars.Statement.{statement}
 use Rattle.queries.proofs.num_vars.Tie as tie
-use Rattle.queries.proofs.num_vars.Reads as reads
-use Rattle.queries.proofs.num_vars.Lts as lts
-use Rattle.diagram.proofs.validate.admit.Reads as admit-reads
 
--- src/lib.rt:44:9
 admit-requires : tie.Need-admit-requires
 admit-requires c κs = search needs
 
--- src/lib.rt:45:39
 enum-known-verdict : tie.Need-enum-known-verdict
 enum-known-verdict c = search needs
 
--- src/lib.rt:46:9
 enum-told : tie.Need-enum-told
 enum-told c = search needs
 
--- src/lib.rt:46:9
 same-length : tie.Need-same-length
 same-length c = search needs
 
--- src/lib.rt:46:9
 returns : tie.Need-returns
 returns c = tell-refused (c .before .before .before .before .admit .ensures) (c .enum-told .given .1) _ _
 
--- src/lib.rt:50:17
 cast-t8 : tie.Need-cast-t8
 cast-t8 c = search needs
 
--- src/lib.rt:41:1
 same-length-2 : tie.Need-same-length-2
 same-length-2 c = search needs
 
--- src/lib.rt:41:1
 returns-2 : tie.Need-returns-2
 returns-2 c =
     tell-accepted (c .before .before .before .before .before .admit .ensures) (c .before .verdict .given .1) _ _ _ (tell-counts (c .before .before .before .before .before .admit .ensures) (c .before .verdict .given .1) .1)

@@ -1,39 +1,27 @@
-use denote.Ref.{now}
-use mathlib.Core.Path.{refl, sym, _∙_, ap}
+-- `queries::size` meets its contract.
 use Rattle.queries.proofs.Answers.{tell-refused, tell-counts, tell-accepted}
-use native.Mathlib.Omega.{arith}
 use borrow.Author.Needs.{needs}
 use Rattle.queries.proofs.size.Statement.{statement}
 use Rattle.queries.proofs.size.Tie as tie
-use Rattle.queries.proofs.size.Reads as reads
-use Rattle.queries.proofs.size.Lts as lts
-use Rattle.diagram.proofs.validate.admit.Reads as admit-reads
 
--- src/lib.rt:30:9
 admit-requires : tie.Need-admit-requires
 admit-requires c κs = search needs
 
--- src/lib.rt:31:29
 enum-known-verdict : tie.Need-enum-known-verdict
 enum-known-verdict c = search needs
 
--- src/lib.rt:32:9
 enum-told : tie.Need-enum-told
 enum-told c = search needs
 
--- src/lib.rt:32:9
 same-length : tie.Need-same-length
 same-length c = search needs
 
--- src/lib.rt:32:9
 returns : tie.Need-returns
 returns c = tell-refused (c .before .before .before .before .admit .ensures) (c .enum-told .given .1) _ _
 
--- src/lib.rt:27:1
 same-length-2 : tie.Need-same-length-2
 same-length-2 c = search needs
 
--- src/lib.rt:27:1
 returns-2 : tie.Need-returns-2
 returns-2 c =
     tell-accepted (c .before .before .before .before .before .admit .ensures) (c .before .verdict .given .1) _ _ _ (tell-counts (c .before .before .before .before .before .admit .ensures) (c .before .verdict .given .1) .0)

@@ -1,44 +1,30 @@
-use denote.Ref.{now}
-use mathlib.Core.Path.{refl, sym, _∙_, ap}
+-- `queries::walk_answers` meets its contract.
 use Rattle.queries.proofs.Answers.{tell-refused, tell-counts, tell-accepted}
-use native.Mathlib.Omega.{arith}
 use borrow.Author.Needs.{needs}
 use Rattle.queries.proofs.walk_answers.Statement.{statement}
 use Rattle.queries.proofs.walk_answers.Tie as tie
-use Rattle.queries.proofs.walk_answers.Reads as reads
-use Rattle.queries.proofs.walk_answers.Lts as lts
-use Rattle.diagram.proofs.validate.admit.Reads as admit-reads
-use Rattle.queries.proofs.sole.is_sole.Reads as is-sole-reads
 
--- src/lib.rt:91:9
 admit-requires : tie.Need-admit-requires
 admit-requires c κs = search needs
 
--- src/lib.rt:92:29
 enum-known-verdict : tie.Need-enum-known-verdict
 enum-known-verdict c = search needs
 
--- src/lib.rt:93:9
 enum-told : tie.Need-enum-told
 enum-told c = search needs
 
--- src/lib.rt:93:9
 same-length : tie.Need-same-length
 same-length c = search needs
 
--- src/lib.rt:93:9
 returns : tie.Need-returns
 returns c = tell-refused (c .before .before .before .before .admit .ensures) (c .enum-told .given .1) _ _
 
--- src/lib.rt:98:9
 is-sole-requires : tie.Need-is-sole-requires
 is-sole-requires c κs = tell-counts (c .before .before .before .before .before .admit .ensures) (c .before .verdict .given .1)
 
--- src/lib.rt:88:1
 same-length-2 : tie.Need-same-length-2
 same-length-2 c = search needs
 
--- src/lib.rt:88:1
 returns-2 : tie.Need-returns-2
 returns-2 c = tell-accepted (c .before .before .before .before .before .before .admit .ensures) (c .before .before .verdict .given .1) _ _ _ (c .is-sole .ensures)
 

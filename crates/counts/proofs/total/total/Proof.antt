@@ -1,53 +1,37 @@
+-- `counts::total::total` meets its contract.
 use denote.Ref.{now}
-use mathlib.Core.Path.{refl, sym, _∙_, ap}
+use mathlib.Core.Path.{_∙_}
 use Rattle.counts.proofs.Steps.{total-walks, total-done}
 use Rattle.diagram.proofs.Words.{zeros-whole}
-use native.Mathlib.Omega.{arith}
 use borrow.Author.Needs.{needs}
 use Rattle.counts.proofs.total.total.Statement.{statement}
 use Rattle.counts.proofs.total.total.Tie as tie
-use Rattle.counts.proofs.total.total.Reads as reads
-use Rattle.counts.proofs.total.total.Lts as lts
-use Rattle.counts.proofs.worth.doublings.Reads as doublings-reads
-use Rattle.counts.proofs.worth.worth.Reads as worth-reads
-use Rattle.diagram.proofs.node.var_of.Reads as var-of-reads
-use Rattle.diagram.proofs.room.clear.Reads as clear-reads
-use Rattle.naturals.proofs.shift_left.Reads as shift-left-reads
 
--- src/total.rt:21:28
 sub-shift-left : tie.Need-sub-shift-left
 sub-shift-left c = search needs
 
--- src/total.rt:21:27
 cast-shift-left : tie.Need-cast-shift-left
 cast-shift-left c = search needs
 
--- src/total.rt:22:9
 worth-requires : tie.Need-worth-requires
 worth-requires c κs =
     total-walks (c .before .before .before .args .valuations) (now (c .before .before .before .args .words)) (now (c .before .before .before .args .room)) (c .before .before .before .args .nodes) (c .before .before .before .pre .0) (c .before .before .before .pre .1) (c .before .before .before .pre .2)
 
--- src/total.rt:23:9
 var-of-requires : tie.Need-var-of-requires
 var-of-requires c κs = search needs
 
--- src/total.rt:24:36
 doublings-requires : tie.Need-doublings-requires
 doublings-requires c κs = search needs
 
--- src/total.rt:24:9
 shift-left-requires : tie.Need-shift-left-requires
 shift-left-requires c κs = search needs
 
--- src/total.rt:26:5
 clear-requires : tie.Need-clear-requires
 clear-requires c κs = search needs
 
--- src/total.rt:17:1
 same-length : tie.Need-same-length
 same-length c = search needs
 
--- src/total.rt:17:1
 returns : tie.Need-returns
 returns c =
     (total-done (c .before .before .before .before .before .before .before .before .before .before .before .before .before .before .args .valuations) (now (c .before .before .before .before .before .before .before .before .before .before .before .before .before .before .args .words)) (now (c .before .before .before .before .before .before .before .before .before .before .before .before .before .before .args .room)) (c .before .before .before .before .before .before .before .before .before .before .before .before .before .before .args .nodes) (c .before .before .before .before .before .before .before .before .before .before .before .before .before .before .pre .0) (c .before .before .before .before .before .before .before .before .before .before .before .before .before .before .pre .1) (c .before .before .before .before .before .before .before .before .before .before .worth .ensures) (c .before .before .before .before .before .before .before .var-of .result .0) (c .before .before .before .before .before .before .doublings .result) (c .before .before .before .before .before .before .before .var-of .ensures) (c .before .before .before .before .before .before .doublings .ensures) (c .before .before .before .before .before .shift-left .ensures), c .before .before .before .clear .ensures ∙ zeros-whole (c .before .before .before .before .before .before .before .before .before .before .worth .last .1 .0) (now (c .before .before .before .before .before .before .before .before .before .before .before .before .before .before .args .room)) (c .before .before .before .before .before .before .before .before .before .before .worth .kept .1 .0))

@@ -1,47 +1,30 @@
-use denote.Ref.{now}
-use mathlib.Core.Path.{refl, sym, _∙_, ap}
+-- `counts::worth::join` meets its contract.
 use Rattle.counts.proofs.Steps.{join-low, join-high, join-done}
-use native.Mathlib.Omega.{arith}
 use borrow.Author.Needs.{needs}
 use Rattle.counts.proofs.worth.join.Statement.{statement}
 use Rattle.counts.proofs.worth.join.Tie as tie
-use Rattle.counts.proofs.worth.join.Reads as reads
-use Rattle.counts.proofs.worth.join.Lts as lts
-use Rattle.counts.proofs.notes.note.Reads as note-reads
-use Rattle.counts.proofs.worth.part.Reads as part-reads
-use Rattle.diagram.proofs.node.high_link_of.Reads as high-link-of-reads
-use Rattle.diagram.proofs.node.low_link_of.Reads as low-link-of-reads
-use Rattle.naturals.proofs.add.Reads as add-reads
 
--- src/worth.rt:41:35
 low-link-of-requires : tie.Need-low-link-of-requires
 low-link-of-requires c κs = search needs
 
--- src/worth.rt:41:9
 part-requires : tie.Need-part-requires
 part-requires c κs = join-low (c .before .before .before .pre) (c .low-link-of .result .0) (c .low-link-of .ensures)
 
--- src/worth.rt:42:35
 high-link-of-requires : tie.Need-high-link-of-requires
 high-link-of-requires c κs = search needs
 
--- src/worth.rt:42:9
 part-requires-2 : tie.Need-part-requires-2
 part-requires-2 c κs = join-high (c .before .before .before .before .before .pre) (c .high-link-of .result .0) (c .high-link-of .ensures)
 
--- src/worth.rt:43:9
 add-requires : tie.Need-add-requires
 add-requires c κs = search needs
 
--- src/worth.rt:45:5
 note-requires : tie.Need-note-requires
 note-requires c κs = search needs
 
--- src/worth.rt:37:1
 same-length : tie.Need-same-length
 same-length c = search needs
 
--- src/worth.rt:37:1
 returns : tie.Need-returns
 returns c =
     join-done (c .before .before .before .before .before .before .before .before .before .before .before .before .pre) (c .before .before .before .before .before .before .before .before .before .low-link-of .result .0) (c .before .before .before .before .before .before .before .before .before .low-link-of .ensures) _ (c .before .before .before .before .before .before .before .before .part .ensures) (c .before .before .before .before .before .before .before .high-link-of .result .0) (c .before .before .before .before .before .before .before .high-link-of .ensures) _ (c .before .before .before .before .before .before .part2 .ensures) (c .before .before .before .before .before .add .ensures) _ (c .before .before .note .ensures)

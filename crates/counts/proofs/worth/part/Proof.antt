@@ -1,41 +1,28 @@
+-- `counts::worth::part` meets its contract.
 use denote.Ref.{now}
-use mathlib.Core.Path.{refl, sym, _∙_, ap}
 use Rattle.counts.proofs.Steps.{part-done}
-use native.Mathlib.Omega.{arith}
 use borrow.Author.Needs.{needs}
 use Rattle.counts.proofs.worth.part.Statement.{statement}
 use Rattle.counts.proofs.worth.part.Tie as tie
-use Rattle.counts.proofs.worth.part.Reads as reads
-use Rattle.counts.proofs.worth.part.Lts as lts
-use Rattle.counts.proofs.worth.doublings.Reads as doublings-reads
-use Rattle.diagram.proofs.node.var_of.Reads as var-of-reads
-use Rattle.naturals.proofs.shift_left.Reads as shift-left-reads
 
--- src/worth.rt:30:9
 var-of-requires : tie.Need-var-of-requires
 var-of-requires c κs = search needs
 
--- src/worth.rt:31:9
 var-of-requires-2 : tie.Need-var-of-requires-2
 var-of-requires-2 c κs = search needs
 
--- src/worth.rt:32:58
 sub-doublings : tie.Need-sub-doublings
 sub-doublings c = search needs
 
--- src/worth.rt:32:58
 sub-doublings-2 : tie.Need-sub-doublings-2
 sub-doublings-2 c = search needs
 
--- src/worth.rt:32:36
 doublings-requires : tie.Need-doublings-requires
 doublings-requires c κs = search needs
 
--- src/worth.rt:32:9
 shift-left-requires : tie.Need-shift-left-requires
 shift-left-requires c κs = search needs
 
--- src/worth.rt:26:1
 returns : tie.Need-returns
 returns c =
     part-done (c .before .before .before .before .before .before .before .before .args .valuations) (now (c .before .before .before .before .before .before .before .before .args .words)) (c .before .before .before .before .before .before .before .before .args .node .0) (c .before .before .before .before .before .before .before .before .args .child .0) _ (c .before .before .before .before .before .before .var-of .result .0) (c .before .before .before .before .before .var-of2 .result .0) (c .before .before .doublings .result) (c .before .before .before .before .before .before .var-of .ensures) (c .before .before .before .before .before .var-of2 .ensures) (c .before .before .doublings .ensures) (c .before .shift-left .ensures) (c .before .before .before .before .before .before .before .before .pre .1)

@@ -1,5 +1,5 @@
+-- `queries::sole::is_sole` meets its contract.
 use denote.Ref.{now}
-use mathlib.Core.Path.{refl, sym, _∙_, ap}
 use Prim.Native.Nat.{_-_}
 use Rattle.diagram.specs.Diagram.{varOf, vars as varsOf}
 use Rattle.queries.proofs.SoleWalk.{Along, along-starts, along-small, along-no, along-on, along-one, along-zero}
@@ -7,11 +7,6 @@ use borrow.Author.Needs.{needs}
 use native.Mathlib.Omega.{arith}
 use Rattle.queries.proofs.sole.is_sole.Statement.{statement}
 use Rattle.queries.proofs.sole.is_sole.Tie as tie
-use Rattle.queries.proofs.sole.is_sole.Reads as reads
-use Rattle.queries.proofs.sole.is_sole.Lts as lts
-use Rattle.diagram.proofs.node.var_of.Reads as var-of-reads
-use Rattle.queries.proofs.sole.due.Reads as due-reads
-use Rattle.queries.proofs.sole.only_child.Reads as only-child-reads
 
 abbrev Inv-loop : tie.InvT-loop
 Inv-loop words nodes vars every node₀ expected₀ node expected = Along every words expected node
@@ -19,61 +14,48 @@ Inv-loop words nodes vars every node₀ expected₀ node expected = Along every 
 abbrev μ-loop : tie.MeasureT-loop
 μ-loop words nodes vars every node₀ expected₀ node expected = varsOf words - varOf words node
 
--- src/sole.rt:36:21
 sub-node : tie.Need-sub-node Inv-loop μ-loop
 sub-node c = omega (arith, c .before .pre .0, c .before .pre .2 .formed .some)
 
--- src/sole.rt:36:20
 cast-node : tie.Need-cast-node Inv-loop μ-loop
 cast-node c = omega (arith, c .before .pre .0, c .before .pre .2 .formed .few)
 
--- src/sole.rt:38:5
 loop-holds : tie.Need-loop-holds Inv-loop μ-loop
 loop-holds c =
     along-starts (c .before .args .every) (now (c .before .args .words)) (c .before .pre .2) (c .before .args .nodes) (c .before .pre .0)
 
--- src/sole.rt:39:13
 var-of-requires : tie.Need-var-of-requires Inv-loop μ-loop
 var-of-requires c κs = search needs
 
--- src/sole.rt:40:13
 due-requires : tie.Need-due-requires Inv-loop μ-loop
 due-requires c κs = search needs
 
--- src/sole.rt:41:13
 returns : tie.Need-returns Inv-loop μ-loop
 returns c =
     along-no (c .before .before .before .before .before .before .args .every) (now (c .before .before .before .before .before .before .args .words)) (c .before .before .before .before .before .before .pre .2) (c .before .before .before .before .loop .expected) (c .before .before .before .before .loop .node) (c .before .before .before .before .loop .inv) (c .before .before .before .loop-test .taken) (c .before .before .var-of .result .0) (c .before .before .var-of .ensures) (c .before .due .result) (c .before .due .ensures) (c .if1 .taken)
 
--- src/sole.rt:43:13
 only-child-requires : tie.Need-only-child-requires Inv-loop μ-loop
 only-child-requires c κs = search needs
 
--- src/sole.rt:45:9
 add-expected : tie.Need-add-expected Inv-loop μ-loop
 add-expected c =
     omega (arith, along-small (c .before .before .before .before .before .before .before .args .every) (now (c .before .before .before .before .before .before .before .args .words)) (c .before .before .before .before .before .before .before .pre .2) (c .before .before .before .before .before .loop .expected) (c .before .before .before .before .before .loop .node) (c .before .before .before .before .before .loop .inv), c .before .before .before .before .before .loop .inv .passed)
 
--- src/sole.rt:38:5
 loop-less : tie.Need-loop-less Inv-loop μ-loop
 loop-less c =
     along-on (c .before .before .before .before .before .before .before .args .every) (now (c .before .before .before .before .before .before .before .args .words)) (c .before .before .before .before .before .before .before .pre .2) (c .before .before .before .before .before .loop .expected) (c .before .before .before .before .before .loop .node) (c .before .before .before .before .before .loop .inv) (c .before .before .before .before .loop-test .taken) (c .before .before .before .var-of .result .0) (c .before .before .before .var-of .ensures) (c .before .before .due .result) (c .before .before .due .ensures) (c .before .if1 .left) (c .only-child .result .0) (c .only-child .ensures) .1
 
--- src/sole.rt:38:5
 loop-again : tie.Need-loop-again Inv-loop μ-loop
 loop-again c =
     along-on (c .before .before .before .before .before .before .before .args .every) (now (c .before .before .before .before .before .before .before .args .words)) (c .before .before .before .before .before .before .before .pre .2) (c .before .before .before .before .before .loop .expected) (c .before .before .before .before .before .loop .node) (c .before .before .before .before .before .loop .inv) (c .before .before .before .before .loop-test .taken) (c .before .before .before .var-of .result .0) (c .before .before .before .var-of .ensures) (c .before .before .due .result) (c .before .before .due .ensures) (c .before .if1 .left) (c .only-child .result .0) (c .only-child .ensures) .0
 
--- src/sole.rt:48:9
 due-requires-2 : tie.Need-due-requires-2 Inv-loop μ-loop
 due-requires-2 c κs = search needs
 
--- src/sole.rt:48:9
 returns-2 : tie.Need-returns-2 Inv-loop μ-loop
 returns-2 c =
     along-one (c .before .before .before .before .before .args .every) (now (c .before .before .before .before .before .args .words)) (c .before .before .before .before .before .pre .2) (c .before .before .before .loop .expected) (c .before .before .before .loop .node) (c .before .before .before .loop .inv) (c .before .before .loop-test .left) (c .before .if2 .taken) (c .before .before .before .before .before .args .vars) (c .before .before .before .before .before .pre .1) (c .due2 .result) (c .due2 .ensures)
 
--- src/sole.rt:32:1
 returns-3 : tie.Need-returns-3 Inv-loop μ-loop
 returns-3 c =
     along-zero (c .before .before .before .before .args .every) (now (c .before .before .before .before .args .words)) (c .before .before .before .before .pre .2) (c .before .before .loop .expected) (c .before .before .loop .node) (c .before .before .loop .inv) (c .before .loop-test .left) (c .if2 .left)

@@ -1,34 +1,25 @@
+-- `queries::sole::only_child` meets its contract.
 use denote.Ref.{now}
-use mathlib.Core.Path.{refl, sym, _∙_, ap}
+use mathlib.Core.Path.{sym, _∙_}
 use Rattle.queries.proofs.SoleWalk.{only-low, only-high, only-none}
-use native.Mathlib.Omega.{arith}
 use borrow.Author.Needs.{needs}
 use Rattle.queries.proofs.sole.only_child.Statement.{statement}
 use Rattle.queries.proofs.sole.only_child.Tie as tie
-use Rattle.queries.proofs.sole.only_child.Reads as reads
-use Rattle.queries.proofs.sole.only_child.Lts as lts
-use Rattle.diagram.proofs.node.high_link_of.Reads as high-link-of-reads
-use Rattle.diagram.proofs.node.low_link_of.Reads as low-link-of-reads
 
--- src/sole.rt:14:9
 low-link-of-requires : tie.Need-low-link-of-requires
 low-link-of-requires c κs = search needs
 
--- src/sole.rt:15:9
 high-link-of-requires : tie.Need-high-link-of-requires
 high-link-of-requires c κs = search needs
 
--- src/sole.rt:17:9
 returns : tie.Need-returns
 returns c =
     c .before .before .high-link-of .ensures ∙ sym (only-low (now (c .before .before .before .before .before .args .words)) (c .before .before .before .before .before .args .node .0) (sym (c .before .before .before .low-link-of .ensures) ∙ c .if1 .taken))
 
--- src/sole.rt:20:9
 returns-2 : tie.Need-returns-2
 returns-2 c =
     c .before .before .before .before .before .low-link-of .ensures ∙ sym (only-high (now (c .before .before .before .before .before .before .before .args .words)) (c .before .before .before .before .before .before .before .args .node .0) (λ e. c .before .before .if1 .left (c .before .before .before .before .before .low-link-of .ensures ∙ e)) (sym (c .before .before .before .before .high-link-of .ensures) ∙ c .if2 .taken))
 
--- src/sole.rt:11:1
 returns-3 : tie.Need-returns-3
 returns-3 c =
     sym (only-none (now (c .before .before .before .before .before .before .before .args .words)) (c .before .before .before .before .before .before .before .args .node .0) (λ e. c .before .before .if1 .left (c .before .before .before .before .before .low-link-of .ensures ∙ e)) (λ e. c .if2 .left (c .before .before .before .before .high-link-of .ensures ∙ e)))
