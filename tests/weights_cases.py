@@ -1,0 +1,120 @@
+"""Writes crates/weights_run/stdin and stdout: the cases of the weights, and what document 01 says of each. Weights come
+from all paths where there are few variables, and else from chances: half of what comes to a node goes on by each link,
+so that skipped variables need no factor."""
+import os
+import random
+from fractions import Fraction
+from itertools import product
+
+from diagram_cases import D, layered, terminals
+from reading import COUNT, ROOM, most, nodes, room_after, verdict
+
+HERE = os.path.dirname(os.path.abspath(__file__))
+FOLDER = os.path.join(HERE, '..', 'crates', 'weights_run')
+
+
+def by_paths(words):
+    ns = nodes(words)
+    weights = [0] * len(ns)
+    for bits in product((0, 1), repeat=ns[0][0]):
+        path = [len(ns) - 1]
+        while path[-1] >= 2:
+            var, low, high = ns[path[-1]]
+            path.append(high if bits[var] else low)
+        if path[-1] == 1:
+            for p in path:
+                weights[p] += 1
+    return weights
+
+
+def by_chances(words):
+    ns = nodes(words)
+    n, v = len(ns), ns[0][0]
+    order = sorted(range(2, n), key=lambda p: ns[p][0])
+    ends = {0: Fraction(0), 1: Fraction(1)}             # the chance to end at node 1, from each node
+    for p in reversed(order):
+        ends[p] = (ends[ns[p][1]] + ends[ns[p][2]]) / 2
+    comes = [Fraction(0)] * n                           # the chance to come to each node
+    comes[n - 1] = Fraction(1)
+    for p in order:
+        for child in ns[p][1:]:
+            comes[child] += comes[p] / 2
+    return [int(comes[p] * ends[p] * 2 ** v) for p in range(n)]
+
+
+def weights_of(words):
+    weights = by_chances(words)
+    if words[0] <= 8:
+        assert weights == by_paths(words)
+    return weights
+
+
+def answer(words, room, lent):
+    kind, a, b = verdict(words, room, ('weights', lent))
+    if kind == 'accepted' and a == 1:
+        kind, a, b = 'refused', 15, 0
+    zero = room_after(words, room, ('weights', lent))
+    said = f'accepted nodes {a} vars {b}' if kind == 'accepted' else f'refused {a} at {b}'
+    said += f', room zero {zero} kept {room - zero}'
+    if kind == 'refused':
+        return f'{said}, output kept {lent}\n'
+    return f'{said}, output kept {lent - COUNT * a}, weights ' + ' '.join(f'{x:x}' for x in weights_of(words)) + '\n'
+
+
+def cases():
+    """(words, room length, output length)"""
+    rng = random.Random(1986)
+
+    def exact(words, room=0, output=0):
+        n = len(words) // 3
+        return words, ROOM * most(n) + room, COUNT * n + output
+
+    yield exact(D)                                      # C1: 0 5 3 3 5
+    yield exact(D, 5, 3)                                # more than is asked for is as it was
+    yield exact(D, 0, -1)                               # 4
+    yield exact(D, -1, 0)                               # 5
+    yield exact(D, -1, -1)                              # 4 comes before 5
+    yield exact([3, 0, 0])                              # 15
+    yield exact([3, 0, 0], 2, 2)
+    yield exact([3, 0, 0], 0, -1)                       # 4 and 5 come before it
+    yield exact([3, 0, 0], -1, 0)
+    yield exact([256, 0, 0])                            # and so does 7
+    for v in (0, 1, 31, 32, 254, 255):
+        yield exact(terminals(v))
+    yield exact(terminals(256))
+    yield [], 128, 8                                    # 1
+    yield exact([3] * 4)                                # 2
+    yield [9] * 12291, 262144, 32776                    # 3
+    yield exact([1, 0, 0, 0, 1, 1])                     # 6
+    yield exact([3, 0, 0, 3, 1, 1, 3, 0, 1])            # 8, 9, 10
+    yield exact([3, 0, 0, 3, 1, 1, 2, 3, 1])
+    yield exact([3, 0, 0, 3, 1, 1, 2, 0, 3])
+    yield exact([1, 0, 0, 1, 1, 1, 0, 2, 1])            # 11
+    yield exact([2, 0, 0, 2, 1, 1, 1, 0, 1, 1, 0, 1])   # 12
+    for links in ((0, 1), (1, 0), (1, 1), (0, 0)):      # one node, first and last variable of 255, low = high among them
+        yield exact(terminals(255) + [0, *links])
+        yield exact(terminals(255) + [254, *links])
+    yield exact([2, 0, 0, 2, 1, 1, 1, 0, 1, 1, 0, 1, 0, 2, 3])
+    for v in (8, 255):                                  # conjunctions: every weight is 1, but node 0's
+        chain = [(v - 1 - i, 0, 1 + i) for i in range(v)]
+        yield exact(terminals(v) + [x for node in chain for x in node])
+    for order in ('children first', 'children last', 'random'):
+        for n, v in ((10, 255), (60, 33), (60, 255), (200, 64), (300, 12)):
+            yield exact(layered(rng, n, v, order), rng.choice((0, 1)), rng.choice((0, 2)))
+    yield exact(layered(rng, 4096, 40))
+    for _ in range(250):                                # few variables: every path is followed
+        n = rng.choice((3, 4, 5, 6, 9, 14, 30))
+        order = rng.choice(('children first', 'children last', 'random'))
+        yield exact(layered(rng, n, rng.choice((1, 2, 3, 5, 8)), order), 0, rng.choice((0, 0, 5)))
+
+
+def main():
+    lines, answers = [], []
+    for words, room, lent in cases():
+        lines.append(' '.join(str(x) for x in [room, 7, lent, 9] + words) + '\n')
+        answers.append(answer(words, room, lent))
+    open(os.path.join(FOLDER, 'stdin'), 'w').writelines(lines)
+    open(os.path.join(FOLDER, 'stdout'), 'w').writelines(answers)
+
+
+main()
