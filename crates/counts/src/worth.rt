@@ -23,7 +23,13 @@ pub(crate) fn doublings(valuations: bool, skipped: u32) -> u32
 }
 
 // A child's worth as it counts at its parent.
-fn part(words: &[u32], node: BddPointer, child: BddPointer, worth: Natural, valuations: bool) -> Natural
+fn part(
+    words: &[u32],
+    node: BddPointer,
+    child: BddPointer,
+    worth: Natural,
+    valuations: bool,
+) -> Natural
     requires { ⌜ (varOf (now words) (node .0) < varOf (now words) (child .0)) × (partOf valuations (now words) (node .0) (child .0) (value (worth .words)) < limit) ⌝ }
     ensures { λ r. ⌜ Holds (partOf valuations (now (words .entry)) (node .0) (child .0) (value (worth .words))) (r .words) ⌝ }
 {
@@ -34,7 +40,14 @@ fn part(words: &[u32], node: BddPointer, child: BddPointer, worth: Natural, valu
 }
 
 // The worth of a node whose children's are given, noted.
-fn join(words: &[u32], room: &mut [u32], node: BddPointer, low: Natural, high: Natural, valuations: bool) -> Natural
+fn join(
+    words: &[u32],
+    room: &mut [u32],
+    node: BddPointer,
+    low: Natural,
+    high: Natural,
+    valuations: bool,
+) -> Natural
     requires { ⌜ Joining valuations (now words) (now room) (node .0) (low .words) (high .words) ⌝ }
     ensures { λ r. ⌜ Worked valuations (now (words .entry)) (node .0) (now (room .exit)) (r .words) ⌝ }
 {

@@ -101,12 +101,14 @@ module _ (b : Bool) (w : List ℕ) (o : Ordered w) where
             let c = only-in w o p two (a .inside) in
             let x : due b (varOf w p) i ≡ true = ap (λ (y : ℕ). due b y i) (sym ev) ∙ sym ed ∙ not-false d n in
             let s : soleFrom b w (vars w - varOf w p - 1) (suc i) (onlyChild w p) ≡ isSole b w = sym (split ∙ rw x) ∙ a .rest in
-            rw (ec, add-one)
-            (record {
-              inside = c .0;
-              passed = omega (arith, c .1, a .passed);
-              rest = sole-enough w o b (vars w - varOf w (onlyChild w p)) (vars w - varOf w p - 1) (suc i) (onlyChild w p) (c .0) (omega arith) (omega (arith, c .1)) ∙ s;
-            }, omega (arith, c .1, l .var))
+            rw (ec, add-one) (
+              record {
+                inside = c .0;
+                passed = omega (arith, c .1, a .passed);
+                rest = sole-enough w o b (vars w - varOf w (onlyChild w p)) (vars w - varOf w p - 1) (suc i) (onlyChild w p) (c .0) (omega arith) (omega (arith, c .1)) ∙ s;
+              },
+              omega (arith, c .1, l .var),
+            )
 
     module _ (end : p ≤ 1) where
       ended : (eqb p 1 && due b (vars w) i) ≡ isSole b w
