@@ -17,7 +17,7 @@ use Rattle.diagram.specs.Valuations.{tally, countOf}
 use Rattle.diagram.proofs.Reading.{Layered, Layer, layered, root-in, by-two, pass-tests, pass-skips, eval-nil, eval-cons, at-end, var-most, holds-is-eval}
 use Rattle.counts.specs.Paths.{paths, pathCountOf}
 use Rattle.counts.specs.Worth.{worthOf, doublings, partOf, totalOf}
-use Rattle.counts.proofs.Tally.{tally-zero, tally-suc, tally-same, tally-most}
+use Rattle.diagram.proofs.Tally.{tally-zero, tally-suc, tally-same, tally-most}
 
 -- ---- paths
 

@@ -3,6 +3,8 @@
 --     Tests       by cases on a test
 --     Count       counting the numbers that pass a test; some number does; the first that does
 --     Reading     the path level by level
+--     Tally       counting the lists of bits that pass a test
+--     Meeting     the nodes that a path meets, level by level
 --     Reaching    the test `reaches` says `Reach`
 --     Marking     the search for reachable nodes
 --     Breaks      the tests of check 11
@@ -15,6 +17,8 @@ pub mod Words
 pub mod Tests
 pub mod Count
 pub mod Reading
+pub mod Tally
+pub mod Meeting
 pub mod Reaching
 pub mod Marking
 pub mod Breaks

@@ -33,3 +33,6 @@ pub const BROKEN_ORDER: u32 = 11;
 
 // A node is unreachable.
 pub const UNREACHABLE: u32 = 12;
+
+// The weights of the diagram of one node.
+pub const WEIGHTS_OF_FALSE: u32 = 15;

@@ -1,5 +1,5 @@
 -- What the result means: it holds exactly where the diagram doesn't, is accepted again, and negates to the diagram.
-use Prim.Native.Nat.{ℕ, zero, suc, _+_, _-_, _*_, _/_, _%_, _^_, _≤_, _<_}
+use Prim.Native.Nat.{ℕ, zero, suc, _+_, _-_, _*_, _%_, _^_, _≤_, _<_, max}
 use mathlib.Core.Path.{_≡_, refl, sym, ap, _∙_, subst}
 use mathlib.Core.Bool.{Bool, true, false, cond, not}
 use mathlib.Core.List.{List, [], _∷_}
@@ -7,13 +7,13 @@ use native.Mathlib.Omega.{arith}
 use native.Mathlib.Decide.{decLt}
 use lib.ListN.{length, getD}
 use lib.Seq.{ext-getD, getD-take}
-use lib.Dec.{ltb, eqb}
+use lib.Dec.{eqb}
 use borrow.Author.Tests.{lt-ltb, le-ltb}
-use Rattle.diagram.specs.Diagram.{varOf, lowOf, highOf, size, vars, root, step, walk, holds, Terminal, InRange, Above, Formed, Ordered, Accepted, Reach, start, by-low, by-high}
-use Rattle.diagram.specs.Valuations.{tally, countOf}
+use Rattle.diagram.specs.Diagram.{varOf, lowOf, highOf, size, vars, root, step, walk, holds, Formed, Ordered, Accepted, Reach, start, by-low, by-high}
+use Rattle.diagram.specs.Valuations.{countOf}
 use Rattle.diagram.proofs.Tests.{by-eq}
 use Rattle.diagram.proofs.Reading.{by-two, accepted-ordered, path-ends, root-in}
-use Rattle.counts.proofs.Tally.{tally-same, tally-not}
+use Rattle.diagram.proofs.Tally.{tally-same, tally-not}
 use Rattle.negation.specs.Negation.{exchanged, negated}
 use Rattle.negation.proofs.Words.{exchanged-low, exchanged-high, ends, negated-false, negated-true, front, more-length, word-end, word-var, word-link, by-size}
 
@@ -276,3 +276,16 @@ module _ (w : List ℕ) (a : Accepted w) where
   negated-count =
       rw (negated-vars, tally-same (vars w) (holds (negated w)) (λ bs. not (holds w bs)) (λ bs l. negated-holds bs))
       (tally-not (vars w) (holds w))
+
+  -- how many nodes there are
+  pub negated-most : size (negated w) ≤ max (size w) 2
+  negated-most = by-size w f
+      (λ e. rw (negated-false w e) (omega arith))
+      (λ e. rw (negated-true w e) (omega arith))
+      (λ m. omega (arith, same-size w f m))
+
+  pub negated-is-two : size (negated w) ≡ 2 → size w ≡ 1
+  negated-is-two h = by-size w f
+      (λ e. e)
+      (λ e. let x : size (vars w ∷ 0 ∷ 0 ∷ []) ≡ 2 = rw (negated-true w e) at h in absurd (omega arith))
+      (λ m. omega (arith, same-size w f m))

@@ -48,7 +48,8 @@ fn word_of(words: &[u32], vars: u32, at: usize) -> u32
         return (at / 3) as u32;
     }
     let same = word(words, at);
-    if at % 3 == 0 {
+    let part = at % 3;
+    if part == 0 {
         return same;
     }
     exchanged(same)

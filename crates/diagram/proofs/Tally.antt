@@ -1,12 +1,12 @@
 -- Counting the lists of k bits that pass a test.
-use Prim.Native.Nat.{ℕ, zero, suc, _+_, _-_, _*_, _^_, _≤_, _<_}
+use Prim.Native.Nat.{ℕ, zero, suc, _+_, _^_, _≤_}
 use mathlib.Core.Path.{_≡_, refl, sym, ap, _∙_}
-use mathlib.Core.Bool.{Bool, true, false, cond, not}
+use mathlib.Core.Bool.{Bool, true, false, cond, not, _||_}
 use mathlib.Core.List.{List, [], _∷_}
 use native.Mathlib.Omega.{arith}
 use native.Mathlib.Nat.{pow-suc}
 use lib.ListN.{length}
 use Rattle.diagram.specs.Valuations.{tally}
 
 pub tally-zero : (f : List Bool → Bool) → tally zero f ≡ cond (f []) 1 0
 unfolding tally
@@ -44,3 +44,23 @@ tally-not (suc k) f =
     let a = tally-not k (λ bs. f (false ∷ bs)) in
     let b = tally-not k (λ bs. f (true ∷ bs)) in
     omega (arith, tally-suc k f, tally-suc k (λ bs. not (f bs)), pow-suc 2 k)
+
+-- a test that no list passes
+pub tally-none : (k : ℕ) (f : List Bool → Bool) → ((bs : List Bool) → length bs ≡ k → f bs ≡ false) → tally k f ≡ 0
+tally-none zero f h = tally-zero f ∙ ap (λ (b : Bool). cond b 1 0) (h [] refl)
+tally-none (suc k) f h =
+    let a = tally-none k (λ bs. f (false ∷ bs)) (λ bs l. h (false ∷ bs) (ap suc l)) in
+    let b = tally-none k (λ bs. f (true ∷ bs)) (λ bs l. h (true ∷ bs) (ap suc l)) in
+    omega (arith, tally-suc k f)
+
+one-or-other : (a b : Bool) → cond (a || b) 1 0 ≤ cond a 1 0 + cond b 1 0
+one-or-other true b = omega arith
+one-or-other false b = omega arith
+
+-- those that pass one of two tests are at most those that pass the first and those that pass the second
+pub tally-or : (k : ℕ) (f g : List Bool → Bool) → tally k (λ bs. f bs || g bs) ≤ tally k f + tally k g
+tally-or zero f g = omega (arith, tally-zero f, tally-zero g, tally-zero (λ bs. f bs || g bs), one-or-other (f []) (g []))
+tally-or (suc k) f g =
+    let a = tally-or k (λ bs. f (false ∷ bs)) (λ bs. g (false ∷ bs)) in
+    let b = tally-or k (λ bs. f (true ∷ bs)) (λ bs. g (true ∷ bs)) in
+    omega (arith, tally-suc k f, tally-suc k g, tally-suc k (λ bs. f bs || g bs))

@@ -1,0 +1,108 @@
+-- What is promised of cuts, proved.
+use Prim.Native.Nat.{ℕ, _+_, _-_, _^_, _≤_, _<_}
+use mathlib.Core.Path.{_≡_, sym, _∙_}
+use mathlib.Core.Logic.{_↔_}
+use mathlib.Core.Bool.{Bool, true, false, cond}
+use mathlib.Core.List.{List, []}
+use native.Mathlib.Omega.{arith}
+use lib.ListN.{length}
+use lib.Dec.{leb, eqb}
+use borrow.Author.Tests.{le-leb}
+use Rattle.diagram.specs.Diagram.{size, vars, root, holds, Ordered, Accepted}
+use Rattle.diagram.specs.Valuations.{meets, countOf}
+use Rattle.diagram.proofs.Tests.{by-test, both-and, cond-true, cond-false}
+use Rattle.diagram.proofs.Reading.{accepted-ordered}
+use Rattle.reduction.specs.Reduce.{reduce}
+use Rattle.reduction.proofs.Count.{count-mono}
+use Rattle.approximation.specs.Cut.{listed, cut}
+use Rattle.approximation.specs.Search.{Answer, underToSize, underToCount}
+use Rattle.approximation.specs.Sorted.{Distinct}
+use Rattle.approximation.specs.Rules.{SizeRules, CountRules}
+use Rattle.approximation.specs.Demand2.{ByList, Demand2}
+use Rattle.approximation.proofs.Send.{send-is-cut}
+use Rattle.approximation.proofs.Cut.{hits, cut-root-under, cut-root-over, cut-size, cut-holds, cut-reduced, cut-under, cut-over, cut-same, cut-none}
+use Rattle.approximation.proofs.Members.{count-listed, order-sorted, order-distinct, order-listed, order-unique}
+use Rattle.approximation.proofs.Listing.{under-accepted-open, over-accepted-open, over-accepted-most}
+use Rattle.approximation.proofs.Search.{size-by-rules, size-rules-only, count-by-rules, count-rules-only}
+use Rattle.approximation.proofs.Targets.{to-size-search, to-size-under, to-size-fits, over-to-size-over, over-to-size-fits, to-count-search, search-many, to-count-under, to-count-fits, over-to-count-over, over-to-count-fits}
+
+module _ (w list : List ℕ) (o : Ordered w) where
+  list-holds : (t : ℕ) → t < 2 → (bs : List Bool) → length bs ≡ vars w
+      → holds (cut w (listed list) t) bs ≡ cond (meets w bs (listed list)) (eqb t 1) (holds w bs)
+  list-holds t h bs l = cut-holds w o (listed list) t h bs l
+
+  list-free : (t : ℕ) → t < 2 → (bs : List Bool) → length bs ≡ vars w → meets w bs (listed list) ≡ false
+      → holds (cut w (listed list) t) bs ≡ holds w bs
+  list-free t h bs l e = list-holds t h bs l ∙ cond-false (meets w bs (listed list)) (eqb t 1) (holds w bs) e
+
+  list-met : (t : ℕ) → t < 2 → (bs : List Bool) → length bs ≡ vars w → meets w bs (listed list) ≡ true
+      → holds (cut w (listed list) t) bs ≡ eqb t 1
+  list-met t h bs l e = list-holds t h bs l ∙ cond-true (meets w bs (listed list)) (eqb t 1) (holds w bs) e
+
+  -- Different non-terminals, without the root.
+  list-smaller : (t : ℕ) → t < 2 → Distinct list → ((p : ℕ) → listed list p ≡ true → (2 ≤ p) × (p < root w))
+      → size (cut w (listed list) t) + length list ≤ size w
+  list-smaller t h d nodes =
+      let some = o .formed .some in
+      let free : listed list (root w) ≡ false = by-test (listed list (root w)) (λ e. let i = nodes (root w) e in absurd (omega arith)) (λ e. e) in
+      let less = cut-size w o (listed list) t h free in
+      let found = count-listed (size w) d (λ p e. let i = nodes p e in omega arith) in
+      let all = count-mono (size w) (listed list) (hits (listed list))
+      (λ p in-w e. both-and (leb 2 p) (listed list p) (le-leb 2 p (nodes p e .0)) e) in
+      omega arith
+
+pub by-list : (w list : List ℕ) → Accepted w → ByList w list
+by-list w list a =
+    let o = accepted-ordered w a in
+    record {
+      elsewhere = λ bs l e. (list-free w list o 0 (omega arith) bs l e, list-free w list o 1 (omega arith) bs l e);
+      met = λ bs l e. (list-met w list o 0 (omega arith) bs l e, list-met w list o 1 (omega arith) bs l e);
+      under = cut-under w o (listed list);
+      over = cut-over w o (listed list);
+      reduced = (cut-reduced w o (listed list) 0 (omega arith), cut-reduced w o (listed list) 1 (omega arith));
+      sent = λ e. (sym (send-is-cut w o (listed list) 0 (omega arith) e), sym (send-is-cut w o (listed list) 1 (omega arith) e));
+      rooted = λ e. (cut-root-under w o (listed list) e, cut-root-over w o (listed list) e);
+      members = λ others same.
+          (cut-same w o (listed list) (listed others) 0 (λ p h. same p), cut-same w o (listed list) (listed others) 1 (λ p h. same p));
+      smaller = λ d nodes. (list-smaller w list o 0 (omega arith) d nodes, list-smaller w list o 1 (omega arith) d nodes);
+    }
+
+empty-list : (w : List ℕ) (t : ℕ) → cut w (listed []) t ≡ reduce w
+unfolding listed
+empty-list w t = cut-none w t
+
+size-rules : (w : List ℕ) (t : ℕ) → 2 < t → t < size w → (a : Answer) → SizeRules w t 0 (size w - t) 0 a ↔ (a ≡ underToSize w t)
+size-rules w t low high a =
+    let search = to-size-search w t low high in (
+      λ rules. size-rules-only w t rules (size w - t) (omega arith) ∙ sym search,
+      λ e. rw (e, search) (size-by-rules w t (size w - t) 0 (size w - t) 0 (omega arith)),
+    )
+
+count-rules : (w : List ℕ) (k : ℕ) → Accepted w → (size w ≡ 2 → 0 < k → k < 2 ^ vars w → ⊥) → 0 < k → k < countOf w
+    → (a : Answer) → CountRules w k 0 (countOf w - k) 0 a ↔ (a ≡ underToCount w k)
+count-rules w k accepted open-target low high a =
+    let o = accepted-ordered w accepted in
+    let many = search-many w k accepted open-target low high in
+    let search = to-count-search w k low high in (
+      λ rules. count-rules-only w k o many rules (size w - 2) (omega arith) ∙ sym search,
+      λ e. rw (e, search) (count-by-rules w k o many (size w - 2) 0 (countOf w - k) 0 (omega arith)),
+    )
+
+pub demand2 : Demand2
+demand2 = record {
+  by-list = by-list;
+  empty = λ w. (empty-list w 0, empty-list w 1);
+  priorities = λ w. record { sorted = order-sorted w; distinct = order-distinct w; nodes = order-listed w };
+  no-others = λ w list p. order-unique w list (p .sorted) (p .distinct) (p .nodes);
+  size-under = to-size-under;
+  size-over = over-to-size-over;
+  size-fits = λ w t a two. (to-size-fits w t a two, over-to-size-fits w t a two);
+  size-rules = size-rules;
+  count-under = λ w k a e.
+      (to-count-under w k a (under-accepted-open w k e), to-count-fits w k a (under-accepted-open w k e));
+  count-over = λ w k a e. (
+    over-to-count-over w k a (over-accepted-most w k e) (over-accepted-open w k e),
+    over-to-count-fits w k a (over-accepted-most w k e) (over-accepted-open w k e),
+  );
+  count-rules = λ w k a e. count-rules w k a (under-accepted-open w k e);
+}

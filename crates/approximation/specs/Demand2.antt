@@ -1,0 +1,65 @@
+-- What is promised of cuts, of any accepted array (`demand2` of proofs/Demand2.antt). Demand 2: cutting by a list changes the
+-- answer only for valuations whose path meets a listed node; under makes all of these fail, over makes all of them hold.
+use Prim.Native.Nat.{ℕ, _+_, _-_, _≤_, _<_}
+use mathlib.Core.Path.{_≡_}
+use mathlib.Core.Logic.{_↔_}
+use mathlib.Core.Bool.{Bool, true, false, _&&_}
+use mathlib.Core.List.{List, []}
+use lib.ListN.{length}
+use lib.Dec.{leb, ltb}
+use Rattle.diagram.specs.Diagram.{size, vars, root, holds, Accepted}
+use Rattle.diagram.specs.Valuations.{meets, countOf, weightOf}
+use Rattle.diagram.specs.Verdict.{accepted}
+use Rattle.reduction.specs.Reduce.{reduce}
+use Rattle.approximation.specs.Constants.{falseOf, trueOf}
+use Rattle.approximation.specs.Cut.{listed, underBy, overBy, underCountOf, overCountOf, Under, Over, send}
+use Rattle.approximation.specs.Search.{Answer, goesFirst, order, underToSize, overToSize, underToCount, overToCount}
+use Rattle.approximation.specs.Sorted.{Distinct, Sorted}
+use Rattle.approximation.specs.Rules.{SizeRules, CountRules}
+
+-- By a list.
+pub record ByList (w list : List ℕ) : Type 0 where
+  pub elsewhere : (bs : List Bool) → length bs ≡ vars w → meets w bs (listed list) ≡ false
+      → (holds (underBy w list) bs ≡ holds w bs) × (holds (overBy w list) bs ≡ holds w bs)
+  pub met : (bs : List Bool) → length bs ≡ vars w → meets w bs (listed list) ≡ true
+      → (holds (underBy w list) bs ≡ false) × (holds (overBy w list) bs ≡ true)
+  -- so one implies the input, and the input implies the other
+  pub under : Under w (underBy w list)
+  pub over : Over w (overBy w list)
+  -- reducing changes no word
+  pub reduced : (reduce (underBy w list) ≡ underBy w list) × (reduce (overBy w list) ≡ overBy w list)
+  -- document 01's way: links to listed nodes are sent to 0 or to 1, then it is reduced; a listed root gives false or true
+  pub sent : listed list (root w) ≡ false
+      → (underBy w list ≡ reduce (send (listed list) 0 w)) × (overBy w list ≡ reduce (send (listed list) 1 w))
+  pub rooted : listed list (root w) ≡ true → (underBy w list ≡ falseOf (vars w)) × (overBy w list ≡ trueOf (vars w))
+  -- repeats are harmless: only members count
+  pub members : (others : List ℕ) → ((p : ℕ) → listed list p ≡ listed others p)
+      → (underBy w list ≡ underBy w others) × (overBy w list ≡ overBy w others)
+  -- each non-terminal that is listed, the root not among them, is a node less
+  pub smaller : Distinct list → ((p : ℕ) → listed list p ≡ true → (2 ≤ p) × (p < root w))
+      → (size (underBy w list) + length list ≤ size w) × (size (overBy w list) + length list ≤ size w)
+
+-- The priorities: every non-terminal once, smallest weight first, then biggest pointer first. No other list is so.
+pub record Priorities (w list : List ℕ) : Type 0 where
+  pub sorted : Sorted (goesFirst (weightOf w)) list
+  pub distinct : Distinct list
+  pub nodes : (p : ℕ) → listed list p ≡ (leb 2 p && ltb p (size w))
+
+pub record Demand2 : Type 0 where
+  pub by-list : (w list : List ℕ) → Accepted w → ByList w list
+  pub empty : (w : List ℕ) → (underBy w [] ≡ reduce w) × (overBy w [] ≡ reduce w)
+  pub priorities : (w : List ℕ) → Priorities w (order w)
+  pub no-others : (w list : List ℕ) → Priorities w list → list ≡ order w
+  -- to a size: at most t nodes for t ≥ 2; where the search runs, its rules lead to this answer and its trials, and no other
+  pub size-under : (w : List ℕ) (t : ℕ) → Accepted w → Under w (underToSize w t .words)
+  pub size-over : (w : List ℕ) (t : ℕ) → Accepted w → Over w (overToSize w t .words)
+  pub size-fits : (w : List ℕ) (t : ℕ) → Accepted w → 2 ≤ t → (size (underToSize w t .words) ≤ t) × (size (overToSize w t .words) ≤ t)
+  pub size-rules : (w : List ℕ) (t : ℕ) → 2 < t → t < size w
+      → (a : Answer) → SizeRules w t 0 (size w - t) 0 a ↔ (a ≡ underToSize w t)
+  -- to a count that is not refused, likewise
+  pub count-under : (w : List ℕ) (k : ℕ) → Accepted w → underCountOf w k ≡ accepted (size w) (vars w)
+      → Under w (underToCount w k .words) × (countOf (underToCount w k .words) ≤ k)
+  pub count-over : (w : List ℕ) (k : ℕ) → Accepted w → overCountOf w k ≡ accepted (size w) (vars w)
+      → Over w (overToCount w k .words) × (k ≤ countOf (overToCount w k .words))
+  pub count-rules : (w : List ℕ) (k : ℕ) → Accepted w → underCountOf w k ≡ accepted (size w) (vars w) → 0 < k → k < countOf w
+      → (a : Answer) → CountRules w k 0 (countOf w - k) 0 a ↔ (a ≡ underToCount w k)

@@ -1,0 +1,1 @@
+// Cutting: smaller diagrams that imply, or are implied by, a given one.

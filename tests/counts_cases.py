@@ -1,0 +1,185 @@
+"""Writes crates/counts_run/stdin and stdout: diagrams, and what document 01 says of their counts, small queries and negation."""
+import itertools
+import os
+import random
+
+from diagram_cases import D, layered, terminals
+from reading import ROOM, most, room_after, verdict
+
+HERE = os.path.dirname(os.path.abspath(__file__))
+FOLDER = os.path.join(HERE, '..', 'crates', 'counts_run')
+OUTPUT = 12300
+
+
+def node(words, p):
+    return words[3 * p:3 * p + 3]
+
+
+def holds(words, bits):
+    p = len(words) // 3 - 1
+    while p > 1:
+        v, low, high = node(words, p)
+        p = high if bits[v] else low
+    return p == 1
+
+
+def count(words):
+    """By trying every valuation where they are few; else from the root down, a variable at a time."""
+    v, n = words[0], len(words) // 3
+    if v <= 8:
+        return sum(holds(words, bits) for bits in itertools.product([0, 1], repeat=v))
+    ways = {n - 1: 1}                                   # how many partial valuations arrive at each node
+    for i in range(v):
+        after = {}
+        for p, k in ways.items():
+            var, low, high = node(words, p)
+            for q in ((low, high) if p > 1 and var == i else (p, p)):
+                after[q] = after.get(q, 0) + k
+        ways = after
+    return ways.get(1, 0)
+
+
+def paths(words):
+    known = {0: 0, 1: 1}
+
+    def at(p):
+        if p not in known:
+            _, low, high = node(words, p)
+            known[p] = at(low) + at(high)
+        return known[p]
+    return at(len(words) // 3 - 1)
+
+
+def walk(words, every):
+    """The Rust's is_clause and, where every variable has to be tested, is_valuation."""
+    p, expected = len(words) // 3 - 1, 0
+    while p != 1:
+        if p == 0:
+            return False
+        var, low, high = node(words, p)
+        if every and var != expected:
+            return False
+        expected += 1
+        if low == 0:
+            p = high
+        elif high == 0:
+            p = low
+        else:
+            return False
+    return not every or words[3] == expected
+
+
+def negated(words):
+    v, n = words[0], len(words) // 3
+    if n == 1:
+        return terminals(v)
+    if n == 2:
+        return terminals(v)[:3]
+    swap = {0: 1, 1: 0}
+    return words[:6] + [swap.get(x, x) if i % 3 else x for i, x in enumerate(words[6:])]
+
+
+def said(answer):
+    kind, a, b = answer
+    return f'accepted nodes {a} vars {b}' if kind == 'accepted' else f'refused {a} at {b}'
+
+
+def line(words, room, word):
+    yes = {True: 'yes', False: 'no'}
+    plain, per, dia = (verdict(words, room, out) for out in (None, ('variables', OUTPUT), ('diagram', OUTPUT)))
+    ok = plain[0] == 'accepted'
+    n, v = (plain[1], plain[2]) if ok else (0, 0)
+    zeros = room_after(words, room)
+    filled = [word] * OUTPUT
+    lists = filled[:]
+    result = []
+    if ok:
+        lists[:v] = [sum(words[3 * p] == c for p in range(2, n)) for c in range(v)]
+        result = negated(words)
+    left = result + filled[len(result):]
+    return ''.join([
+        said(plain), f', count {count(words) if ok else 0:064x}', f', paths {paths(words) if ok else 0:064x}',
+        f', size {n}, vars {v}', f', true {yes[ok and n == 2]}, false {yes[ok and n == 1]}',
+        f', clause {yes[ok and walk(words, False)]}, valuation {yes[ok and walk(words, True)]}',
+        f', room zero {zeros} kept {room - zeros}',
+        f', per variable {said(per)} words', ''.join(f' {x}' for x in lists[:256]),
+        f', not {said(dia)} nodes {len(result) // 3} words', ''.join(f' {x}' for x in left[:len(words)]), '\n'])
+
+
+def chain(v, bits, skip=()):
+    """x0 or its opposite and x1 .., without the variables in `skip`: nodes from the last variable up."""
+    words, below = terminals(v), 1
+    for i in reversed(range(v)):
+        if i not in skip:
+            words += [i, 0, below] if bits[i] else [i, below, 0]
+            below = len(words) // 3 - 1
+    return words
+
+
+def parity(v):
+    words, even, odd = terminals(v), 0, 1
+    for i in reversed(range(1, v)):
+        words += [i, even, odd, i, odd, even]
+        even, odd = len(words) // 3 - 2, len(words) // 3 - 1
+    return words + [0, even, odd]
+
+
+def doubled(v):
+    """A node with low = high for each variable: true, and 2 ** v paths."""
+    words, below = terminals(v), 1
+    for i in reversed(range(v)):
+        words += [i, below, below]
+        below = len(words) // 3 - 1
+    return words
+
+
+def cases():
+    rng = random.Random(2019)
+
+    def exact(words, more=0):
+        return words, ROOM * most(len(words) // 3) + more, 7
+
+    yield exact(D)
+    yield exact(D, 5)
+    yield D, ROOM * 5 - 1, 7
+    yield exact([])
+    yield exact(D[:-1])
+    yield exact([0, 0, 0, 0, 0, 0])
+    yield exact([1, 0, 0, 1, 1, 1, 0, 2, 0, 0, 2, 1])
+    yield exact([256, 0, 0])
+    for v in (0, 1, 2, 5, 254, 255):
+        yield exact(terminals(v)[:3])
+        yield exact(terminals(v))
+    for v in (1, 2, 3, 8, 32, 33, 64, 255):
+        bits = [rng.randrange(2) for _ in range(v)]
+        yield exact(chain(v, bits))
+        yield exact(doubled(v))
+        yield exact(terminals(v) + [rng.randrange(v), 0, 1])
+        yield exact(terminals(v) + [v - 1, 0, 0])
+        if v > 1:
+            yield exact(chain(v, bits, {v - 1}))
+            yield exact(chain(v, bits, {0}))
+            yield exact(chain(v, bits, {v // 2}))
+            yield exact(parity(v))
+    for v in (1, 2, 3, 4):
+        words = terminals(v) + [0, 1, 1]
+        yield exact(words)
+    yield exact([2, 0, 0, 2, 1, 1, 1, 0, 1, 1, 0, 1, 0, 2, 3])                  # two equal nodes
+    yield exact([1, 0, 0, 1, 1, 1, 0, 0, 0])                                     # false in three nodes
+    for k in range(160):
+        v = rng.choice([1, 2, 3, 4, 5, 6, 7, 8])
+        yield exact(layered(rng, rng.randrange(3, 30), v, rng.choice(['random', 'children first', 'children last'])))
+    for k in range(30):
+        v = rng.choice([20, 63, 64, 100, 200, 255])
+        yield exact(layered(rng, rng.randrange(20, 200), v, rng.choice(['random', 'children first', 'children last'])))
+
+
+def main():
+    with open(os.path.join(FOLDER, 'stdin'), 'w') as given, open(os.path.join(FOLDER, 'stdout'), 'w') as wanted:
+        for words, room, word in cases():
+            given.write(' '.join(map(str, [room, word] + words)) + '\n')
+            wanted.write(line(words, room, word))
+
+
+if __name__ == '__main__':
+    main()
