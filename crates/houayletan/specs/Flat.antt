@@ -6,7 +6,8 @@ use lib.ListN.{length, drop}
 use Rattle.naturals.specs.Natural.{Holds}
 use Rattle.diagram.specs.Diagram.{size}
 use Rattle.diagram.specs.Verdict.{Outcome, accepted, refused, verdictOf, roomAfter, ifAccepted}
-use Rattle.diagram.specs.declared.verdict.Output.the-variants.{Nothing, Diagram}
+use Rattle.diagram.specs.declared.verdict.Output.the-variants.{Nothing, Diagram, Weights}
+use Rattle.weights.specs.Weighed.{weightsVerdict, Weighed}
 use Rattle.houayletan.specs.declared.HouayletanCount.{HouayletanCount}
 use Rattle.houayletan.specs.declared.HouayletanDiagram.{HouayletanDiagram}
 use Rattle.houayletan.specs.declared.HouayletanVerdict.{HouayletanVerdict}
@@ -29,3 +30,11 @@ pub record FlatDiagram (w made before after out out′ : List ℕ) (r : Houaylet
   pub nodes : r .nodes ≡ ifAccepted (verdictOf w (Diagram (length out)) (length before)) (size made) 0
   pub left : after ≡ roomAfter w (Diagram (length out)) before
   pub output : out′ ≡ ifAccepted (verdictOf w (Diagram (length out)) (length before)) (made ++ drop (length made) out) out
+
+-- Weights in the output: the verdict; the weights where it accepts, the output as it was where it refuses; the working
+-- room afterwards.
+pub record FlatWeights (w before after out out′ : List ℕ) (r : HouayletanVerdict) : Type 0 where
+  pub verdict : r ≡ flatOf (weightsVerdict w (length out) (length before))
+  pub weighed : (n v : ℕ) → weightsVerdict w (length out) (length before) ≡ accepted n v → Weighed w out out′
+  pub untouched : (k p : ℕ) → weightsVerdict w (length out) (length before) ≡ refused k p → out′ ≡ out
+  pub left : after ≡ roomAfter w (Weights (length out)) before

@@ -8,6 +8,7 @@ use diagram::validate::validate;
 use diagram::verdict::Verdict;
 use reduction::reduce::Reduced;
 use reduction::reduce::reduce;
+use weights::node_valuation_weights;
 ghost use mathlib.Core.Path.{_≡_};
 ghost use Prim.Native.Nat.{min};
 ghost use mathlib.Core.List.{_++_};
@@ -17,7 +18,7 @@ ghost use Rattle.diagram.specs.Verdict.{said, verdictOf, roomAfter};
 ghost use Rattle.diagram.specs.Valuations.{countOf};
 ghost use Rattle.counts.specs.Paths.{pathCountOf};
 ghost use Rattle.reduction.specs.Reduce.{reduce as reducedOf};
-ghost use Rattle.houayletan.specs.Flat.{flatOf, FlatCount, FlatDiagram};
+ghost use Rattle.houayletan.specs.Flat.{flatOf, FlatCount, FlatDiagram, FlatWeights};
 
 // A verdict without an enum: number 0 where it is accepted, and all else zero where it is refused.
 #[repr(C)]
@@ -97,6 +98,18 @@ pub extern "C" fn houayletan_exact_clause_cardinality(
     ensures { λ r. ⌜ FlatCount (now (words .entry)) (pathCountOf (now (words .entry))) (now (room .entry)) (now (room .exit)) r ⌝ }
 {
     flat_count(exact_clause_cardinality(words, room))
+}
+
+// For each node, in eight words of the output, how many valuations that the diagram holds for have a path that visits it.
+#[no_mangle]
+pub extern "C" fn houayletan_node_valuation_weights(
+    words: &[u32],
+    room: &mut [u32],
+    output: &mut [u32],
+) -> HouayletanVerdict
+    ensures { λ r. ⌜ FlatWeights (now (words .entry)) (now (room .entry)) (now (room .exit)) (now (output .entry)) (now (output .exit)) r ⌝ }
+{
+    flat(node_valuation_weights(words, output, room))
 }
 
 fn flat_diagram(reduced: Reduced) -> HouayletanDiagram
