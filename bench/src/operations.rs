@@ -4,14 +4,16 @@ use num_bigint::BigUint;
 use rust_text::Bdd;
 use std::hint::black_box;
 
-/// What the caller lends to ours: made once, zero at the start, and left zero by every call.
+/// What the caller lends to ours, made once. The room is zero at the start and left zero by every call; the output is
+/// not cleared between calls.
 pub struct Lent {
     pub room: Vec<u32>,
+    pub output: Vec<u32>,
 }
 
 impl Lent {
     pub fn new(nodes: usize) -> Lent {
-        Lent { room: vec![0; 64 * nodes] }
+        Lent { room: vec![0; 64 * nodes], output: vec![0; 8 * nodes] }
     }
 }
 
@@ -31,9 +33,12 @@ impl Case {
     pub fn nodes(&self) -> usize {
         self.words.len() / 3
     }
-    /// Our working room: exactly the words that are asked for, so that no call clears more.
+    /// Our working room and an output: exactly the words that are asked for.
     fn room<'a>(&self, lent: &'a mut Lent) -> &'a mut [u32] {
         &mut lent.room[..64 * self.nodes()]
+    }
+    fn lent<'a>(&self, lent: &'a mut Lent, output: usize) -> (&'a mut [u32], &'a mut [u32]) {
+        (&mut lent.room[..64 * self.nodes()], &mut lent.output[..output * self.nodes()])
     }
 }
 
@@ -63,15 +68,21 @@ pub const OPERATIONS: [Operation; 8] = [
         name: "exact_cardinality",
         targets: false,
         rust: |c| _ = black_box(c.bdd.exact_cardinality()),
-        ours: None,
-        compare: |_, _| (),
+        ours: Some(|c, lent| _ = black_box(ours::exact_cardinality(&c.words, c.room(lent)))),
+        compare: |c, lent| {
+            let ours = ours::exact_cardinality(&c.words, c.room(lent));
+            assert_eq!(BigUint::from_slice(&ours.count), c.bdd.exact_cardinality());
+        },
     },
     Operation {
         name: "exact_clause_cardinality",
         targets: false,
         rust: |c| _ = black_box(c.bdd.exact_clause_cardinality()),
-        ours: None,
-        compare: |_, _| (),
+        ours: Some(|c, lent| _ = black_box(ours::exact_clause_cardinality(&c.words, c.room(lent)))),
+        compare: |c, lent| {
+            let ours = ours::exact_clause_cardinality(&c.words, c.room(lent));
+            assert_eq!(BigUint::from_slice(&ours.count), c.bdd.exact_clause_cardinality());
+        },
     },
     Operation {
         name: "cardinality",
@@ -84,15 +95,30 @@ pub const OPERATIONS: [Operation; 8] = [
         name: "node_valuation_weights",
         targets: false,
         rust: |c| _ = black_box(c.bdd.node_valuation_weights()),
-        ours: None,
-        compare: |_, _| (),
+        ours: Some(|c, lent| {
+            let (room, output) = c.lent(lent, 8);
+            _ = black_box(ours::node_valuation_weights(&c.words, room, output));
+        }),
+        compare: |c, lent| {
+            let (room, output) = c.lent(lent, 8);
+            assert_eq!(ours::node_valuation_weights(&c.words, room, output).number, 0);
+            let ours: Vec<BigUint> = output.chunks(8).map(BigUint::from_slice).collect();
+            assert_eq!(ours, c.bdd.node_valuation_weights());
+        },
     },
     Operation {
         name: "reduce",
         targets: false,
         rust: |c| _ = black_box(c.bdd.and(&c.bdd)),
-        ours: None,
-        compare: |c, _| assert!(c.bdd.and(&c.bdd).validate().is_ok()),
+        ours: Some(|c, lent| {
+            let (room, output) = c.lent(lent, 3);
+            _ = black_box(ours::reduce(&c.words, room, output));
+        }),
+        compare: |c, lent| {
+            let (room, output) = c.lent(lent, 3);
+            let made = ours::reduce(&c.words, room, output);
+            assert_eq!(&output[..3 * made.nodes], c.bdd.and(&c.bdd).to_words());
+        },
     },
     Operation {
         name: "underapproximate_to_size, half",

@@ -8,9 +8,25 @@ pub struct Verdict {
     pub vars: u32,
 }
 
+#[repr(C)]
+pub struct Count {
+    pub verdict: Verdict,
+    pub count: [u32; 8],
+}
+
+#[repr(C)]
+pub struct Diagram {
+    pub verdict: Verdict,
+    pub nodes: usize,
+}
+
 extern "C" {
     fn houayletan_validate(words: *const u32, words_len: usize, room: *mut u32, room_len: usize) -> Verdict;
     fn houayletan_clear(room: *mut u32, room_len: usize, count: usize);
+    fn houayletan_exact_cardinality(words: *const u32, words_len: usize, room: *mut u32, room_len: usize) -> Count;
+    fn houayletan_exact_clause_cardinality(words: *const u32, words_len: usize, room: *mut u32, room_len: usize) -> Count;
+    fn houayletan_node_valuation_weights(words: *const u32, words_len: usize, room: *mut u32, room_len: usize, output: *mut u32, output_len: usize) -> Verdict;
+    fn houayletan_reduce(words: *const u32, words_len: usize, room: *mut u32, room_len: usize, output: *mut u32, output_len: usize) -> Diagram;
 }
 
 pub fn validate(words: &[u32], room: &mut [u32]) -> Verdict {
@@ -19,4 +35,22 @@ pub fn validate(words: &[u32], room: &mut [u32]) -> Verdict {
 
 pub fn clear(room: &mut [u32], count: usize) {
     unsafe { houayletan_clear(room.as_mut_ptr(), room.len(), count) }
+}
+
+pub fn exact_cardinality(words: &[u32], room: &mut [u32]) -> Count {
+    unsafe { houayletan_exact_cardinality(words.as_ptr(), words.len(), room.as_mut_ptr(), room.len()) }
+}
+
+pub fn exact_clause_cardinality(words: &[u32], room: &mut [u32]) -> Count {
+    unsafe { houayletan_exact_clause_cardinality(words.as_ptr(), words.len(), room.as_mut_ptr(), room.len()) }
+}
+
+pub fn node_valuation_weights(words: &[u32], room: &mut [u32], output: &mut [u32]) -> Verdict {
+    let (out, out_len) = (output.as_mut_ptr(), output.len());
+    unsafe { houayletan_node_valuation_weights(words.as_ptr(), words.len(), room.as_mut_ptr(), room.len(), out, out_len) }
+}
+
+pub fn reduce(words: &[u32], room: &mut [u32], output: &mut [u32]) -> Diagram {
+    let (out, out_len) = (output.as_mut_ptr(), output.len());
+    unsafe { houayletan_reduce(words.as_ptr(), words.len(), room.as_mut_ptr(), room.len(), out, out_len) }
 }

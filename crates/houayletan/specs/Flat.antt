@@ -1,8 +1,40 @@
 -- The answers as C and Rust see them: document 01's number and values for each case of an answer.
-use Rattle.diagram.specs.Verdict.{Outcome, accepted, refused}
+use Prim.Native.Nat.{ℕ}
+use mathlib.Core.Path.{_≡_}
+use mathlib.Core.List.{List, _++_}
+use lib.ListN.{length, drop}
+use Rattle.naturals.specs.Natural.{Holds}
+use Rattle.diagram.specs.Diagram.{size}
+use Rattle.diagram.specs.Verdict.{Outcome, accepted, refused, verdictOf, roomAfter, ifAccepted}
+use Rattle.diagram.specs.declared.verdict.Output.the-variants.{Nothing, Diagram, Weights}
+use Rattle.weights.specs.Weighed.{weightsVerdict, Weighed}
+use Rattle.houayletan.specs.declared.HouayletanCount.{HouayletanCount}
+use Rattle.houayletan.specs.declared.HouayletanDiagram.{HouayletanDiagram}
 use Rattle.houayletan.specs.declared.HouayletanVerdict.{HouayletanVerdict}
 
 -- Number 0 says accepted, with the counts n and v; a refusal has its number and place, and all else is 0.
 abbrev pub flatOf : Outcome → HouayletanVerdict
 flatOf (accepted n v) = record { number = 0; place = 0; nodes = n; vars = v }
 flatOf (refused number place) = record { number = number; place = place; nodes = 0; vars = 0 }
+
+-- A count: the verdict, the number n or 0 where the words are refused, and the working room afterwards.
+pub record FlatCount (w : List ℕ) (n : ℕ) (before after : List ℕ) (r : HouayletanCount) : Type 0 where
+  pub verdict : r .verdict ≡ flatOf (verdictOf w Nothing (length before))
+  pub count : Holds (ifAccepted (verdictOf w Nothing (length before)) n 0) (r .count)
+  pub left : after ≡ roomAfter w Nothing before
+
+-- A diagram in the output: the verdict, the number of nodes that were made, which is 0 where the words are refused, the
+-- working room afterwards, and the output, which is as it was beyond what was made and, at a refusal, throughout.
+pub record FlatDiagram (w made before after out out′ : List ℕ) (r : HouayletanDiagram) : Type 0 where
+  pub verdict : r .verdict ≡ flatOf (verdictOf w (Diagram (length out)) (length before))
+  pub nodes : r .nodes ≡ ifAccepted (verdictOf w (Diagram (length out)) (length before)) (size made) 0
+  pub left : after ≡ roomAfter w (Diagram (length out)) before
+  pub output : out′ ≡ ifAccepted (verdictOf w (Diagram (length out)) (length before)) (made ++ drop (length made) out) out
+
+-- Weights in the output: the verdict; the weights where it accepts, the output as it was where it refuses; the working
+-- room afterwards.
+pub record FlatWeights (w before after out out′ : List ℕ) (r : HouayletanVerdict) : Type 0 where
+  pub verdict : r ≡ flatOf (weightsVerdict w (length out) (length before))
+  pub weighed : (n v : ℕ) → weightsVerdict w (length out) (length before) ≡ accepted n v → Weighed w out out′
+  pub untouched : (k p : ℕ) → weightsVerdict w (length out) (length before) ≡ refused k p → out′ ≡ out
+  pub left : after ≡ roomAfter w (Weights (length out)) before

@@ -1,15 +1,24 @@
 // The operations for C and Rust: numbers, slices as pointer and length, and structs by value.
 // include/houayletan.h declares the same for C.
+use counts::Counted;
+use counts::exact_cardinality;
+use counts::exact_clause_cardinality;
 use diagram::room::clear;
 use diagram::validate::validate;
 use diagram::verdict::Verdict;
+use reduction::reduce::Reduced;
+use reduction::reduce::reduce;
+use weights::node_valuation_weights;
 ghost use mathlib.Core.Path.{_≡_};
 ghost use Prim.Native.Nat.{min};
 ghost use mathlib.Core.List.{_++_};
 ghost use lib.ListN.{length, drop, replicate};
 ghost use Rattle.diagram.specs.declared.verdict.Output.{Output};
 ghost use Rattle.diagram.specs.Verdict.{said, verdictOf, roomAfter};
-ghost use Rattle.houayletan.specs.Flat.{flatOf};
+ghost use Rattle.diagram.specs.Valuations.{countOf};
+ghost use Rattle.counts.specs.Paths.{pathCountOf};
+ghost use Rattle.reduction.specs.Reduce.{reduce as reducedOf};
+ghost use Rattle.houayletan.specs.Flat.{flatOf, FlatCount, FlatDiagram, FlatWeights};
 
 // A verdict without an enum: number 0 where it is accepted, and all else zero where it is refused.
 #[repr(C)]
@@ -18,6 +27,20 @@ pub struct HouayletanVerdict {
     pub place: usize,
     pub nodes: usize,
     pub vars: u32,
+}
+
+// A verdict with a number of eight words, least first, which is zero where the words are refused.
+#[repr(C)]
+pub struct HouayletanCount {
+    pub verdict: HouayletanVerdict,
+    pub count: [u32; 8],
+}
+
+// A verdict with the number of nodes in the output, which is zero where the words are refused.
+#[repr(C)]
+pub struct HouayletanDiagram {
+    pub verdict: HouayletanVerdict,
+    pub nodes: usize,
 }
 
 fn flat(verdict: Verdict) -> HouayletanVerdict
@@ -45,6 +68,70 @@ pub extern "C" fn houayletan_validate(words: &[u32], room: &mut [u32]) -> Houayl
     ensures { λ r. ⌜ (r ≡ flatOf (verdictOf (now (words .entry)) Output.Nothing (length (now (room .entry))))) × (now (room .exit) ≡ roomAfter (now (words .entry)) Output.Nothing (now (room .entry))) ⌝ }
 {
     flat(validate(words, room))
+}
+
+fn flat_count(counted: Counted) -> HouayletanCount
+    ensures { λ r. ⌜ (r .verdict ≡ flatOf (said (counted .verdict))) × (r .count ≡ counted .count .words) ⌝ }
+{
+    let verdict = counted.verdict;
+    let count = counted.count.words;
+    HouayletanCount {
+        verdict: flat(verdict),
+        count,
+    }
+}
+
+// How many valuations the diagram holds for.
+#[no_mangle]
+pub extern "C" fn houayletan_exact_cardinality(words: &[u32], room: &mut [u32]) -> HouayletanCount
+    ensures { λ r. ⌜ FlatCount (now (words .entry)) (countOf (now (words .entry))) (now (room .entry)) (now (room .exit)) r ⌝ }
+{
+    flat_count(exact_cardinality(words, room))
+}
+
+// How many paths lead from the root to node 1.
+#[no_mangle]
+pub extern "C" fn houayletan_exact_clause_cardinality(
+    words: &[u32],
+    room: &mut [u32],
+) -> HouayletanCount
+    ensures { λ r. ⌜ FlatCount (now (words .entry)) (pathCountOf (now (words .entry))) (now (room .entry)) (now (room .exit)) r ⌝ }
+{
+    flat_count(exact_clause_cardinality(words, room))
+}
+
+// For each node, in eight words of the output, how many valuations that the diagram holds for have a path that visits it.
+#[no_mangle]
+pub extern "C" fn houayletan_node_valuation_weights(
+    words: &[u32],
+    room: &mut [u32],
+    output: &mut [u32],
+) -> HouayletanVerdict
+    ensures { λ r. ⌜ FlatWeights (now (words .entry)) (now (room .entry)) (now (room .exit)) (now (output .entry)) (now (output .exit)) r ⌝ }
+{
+    flat(node_valuation_weights(words, output, room))
+}
+
+fn flat_diagram(reduced: Reduced) -> HouayletanDiagram
+    ensures { λ r. ⌜ (r .verdict ≡ flatOf (said (reduced .verdict))) × (r .nodes ≡ reduced .nodes) ⌝ }
+{
+    let verdict = reduced.verdict;
+    HouayletanDiagram {
+        verdict: flat(verdict),
+        nodes: reduced.nodes,
+    }
+}
+
+// The reduced diagram of the same function.
+#[no_mangle]
+pub extern "C" fn houayletan_reduce(
+    words: &[u32],
+    room: &mut [u32],
+    output: &mut [u32],
+) -> HouayletanDiagram
+    ensures { λ r. ⌜ FlatDiagram (now (words .entry)) (reducedOf (now (words .entry))) (now (room .entry)) (now (room .exit)) (now (output .entry)) (now (output .exit)) r ⌝ }
+{
+    flat_diagram(reduce(words, room, output))
 }
 
 // Makes the first `count` words zero, or all where there are fewer: what every answer does to its working room.

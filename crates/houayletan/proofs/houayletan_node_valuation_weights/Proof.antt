@@ -1,0 +1,32 @@
+-- `houayletan::houayletan_node_valuation_weights` meets its contract.
+use mathlib.Core.Path.{ap, _∙_}
+use borrow.Author.Needs.{needs}
+use Rattle.houayletan.specs.Flat.{flatOf}
+use Rattle.houayletan.proofs.houayletan_node_valuation_weights.Statement.{statement}
+use Rattle.houayletan.proofs.houayletan_node_valuation_weights.Tie as tie
+
+node-valuation-weights-requires : tie.Need-node-valuation-weights-requires
+node-valuation-weights-requires c κs = search needs
+
+flat-requires : tie.Need-flat-requires
+flat-requires c κs = search needs
+
+same-length : tie.Need-same-length
+same-length c = search needs
+
+same-length-2 : tie.Need-same-length-2
+same-length-2 c = search needs
+
+returns : tie.Need-returns
+returns c =
+    let answer = c .before .before .before .before .before .node-valuation-weights .ensures in
+    record {
+      verdict = c .flat .ensures ∙ ap flatOf (answer .verdict);
+      weighed = answer .weighed;
+      untouched = answer .untouched;
+      left = answer .left;
+    }
+
+pub houayletan-node-valuation-weights-spec : {M : Type 1} → statement M
+houayletan-node-valuation-weights-spec =
+    tie.close (tie.spec node-valuation-weights-requires flat-requires same-length same-length-2 returns)
