@@ -194,7 +194,10 @@ fn say_weights(output: &[u32], nodes: usize)
 fn say_output(output: &[u32], word: u32, nodes: usize)
     requires { ⌜ nodes ≤ 4096 ⌝ }
 {
-    say(b", output kept ", run_of(output, naturals::WORDS * nodes, word) as u64);
+    say(
+        b", output kept ",
+        run_of(output, naturals::WORDS * nodes, word) as u64,
+    );
     if 0 < nodes {
         say_weights(output, nodes);
     }
@@ -206,7 +209,10 @@ fn weighed(verdict: Verdict) -> usize
 {
     match verdict {
         Verdict::Accepted { nodes, vars: _ } => least(nodes, 4096),
-        Verdict::Refused { number: _, place: _ } => 0,
+        Verdict::Refused {
+            number: _,
+            place: _,
+        } => 0,
     }
 }
 
@@ -220,7 +226,13 @@ fn run_case(words: &[u32], output: &mut [u32], room: &mut [u32], filled: u32, ma
 }
 
 // One line of the text; the place after it.
-fn one_line(text: &[u8], from: usize, words: &mut [u32], output: &mut [u32], room: &mut [u32]) -> usize
+fn one_line(
+    text: &[u8],
+    from: usize,
+    words: &mut [u32],
+    output: &mut [u32],
+    room: &mut [u32],
+) -> usize
     requires { ⌜ from < length (now text) ⌝ }
     ensures { λ r. ⌜ (from < r) × (r ≤ length (now (text .entry))) ⌝ }
 {
@@ -234,7 +246,13 @@ fn one_line(text: &[u8], from: usize, words: &mut [u32], output: &mut [u32], roo
     let marked = word(words, 0);
     let lent_output = least(word(words, 1) as usize, output.len());
     let filled = word(words, 2);
-    run_case(&words[3..count], &mut output[..lent_output], &mut room[..lent_room], filled, marked);
+    run_case(
+        &words[3..count],
+        &mut output[..lent_output],
+        &mut room[..lent_room],
+        filled,
+        marked,
+    );
     found.next
 }
 

@@ -5,99 +5,70 @@ use native.Mathlib.Omega.{arith}
 use borrow.Author.Needs.{needs}
 use Rattle.weights_run.proofs.one_line.Statement.{statement}
 use Rattle.weights_run.proofs.one_line.Tie as tie
-use Rattle.weights_run.proofs.one_line.Reads as reads
-use Rattle.weights_run.proofs.one_line.Lts as lts
-use Rattle.diagram.proofs.node.word.Reads as word-reads
-use Rattle.weights_run.proofs.least.Reads as least-reads
-use Rattle.weights_run.proofs.number.Reads as number-reads
-use Rattle.weights_run.proofs.run_case.Reads as run-case-reads
-use Rattle.weights_run.proofs.words_of.Reads as words-of-reads
 
--- src/main.rt:227:9
 number-requires : tie.Need-number-requires
 number-requires c κs = search needs
 
--- src/main.rt:228:9
 words-of-requires : tie.Need-words-of-requires
 words-of-requires c κs = search needs
 
--- src/main.rt:231:9
 same-length : tie.Need-same-length
 same-length c = search needs
 
--- src/main.rt:231:9
 returns : tie.Need-returns
 returns c = search needs
 
--- src/main.rt:233:27
 cast-least : tie.Need-cast-least
 cast-least c = search needs
 
--- src/main.rt:233:9
 least-requires : tie.Need-least-requires
 least-requires c κs = search needs
 
--- src/main.rt:234:9
 word-requires : tie.Need-word-requires
 word-requires c κs = search needs
 
--- src/main.rt:235:29
 word-requires-2 : tie.Need-word-requires-2
 word-requires-2 c κs = search needs
 
--- src/main.rt:235:29
 cast-least-2 : tie.Need-cast-least-2
 cast-least-2 c = search needs
 
--- src/main.rt:235:9
 least-requires-2 : tie.Need-least-requires-2
 least-requires-2 c κs = search needs
 
--- src/main.rt:236:9
 word-requires-3 : tie.Need-word-requires-3
 word-requires-3 c κs = search needs
 
--- src/main.rt:237:14
 part-run-case-start : tie.Need-part-run-case-start
 part-run-case-start c = search needs
 
--- src/main.rt:237:14
 part-run-case-end : tie.Need-part-run-case-end
 part-run-case-end c = search needs
 
--- src/main.rt:237:32
 slice-relend-prefix-run-case : tie.Need-slice-relend-prefix-run-case
 slice-relend-prefix-run-case c = search needs
 
--- src/main.rt:237:32
 slice-aggregate-run-case : tie.Need-slice-aggregate-run-case
 slice-aggregate-run-case c = sym (length-take-le (c .before .before .before .before .before .least2 .result) (now (c .before .before .before .before .before .before .before .before .before .before .before .before .before .before .before .before .before .before .before .before .before .before .args .output)) (c .before .before .before .before .before .least2 .ensures .1))
 
--- src/main.rt:237:60
 slice-relend-prefix-run-case-2 : tie.Need-slice-relend-prefix-run-case-2
 slice-relend-prefix-run-case-2 c = search needs
 
--- src/main.rt:237:60
 slice-aggregate-run-case-2 : tie.Need-slice-aggregate-run-case-2
 slice-aggregate-run-case-2 c = sym (length-take-le (c .before .before .before .before .before .before .before .before .before .before .before .least .result) (now (c .before .before .before .before .before .before .before .before .before .before .before .before .before .before .before .before .before .before .before .before .before .before .before .args .room)) (c .before .before .before .before .before .before .before .before .before .before .before .least .ensures .1))
 
--- src/main.rt:237:5
 run-case-requires : tie.Need-run-case-requires
 run-case-requires c κs = search needs
 
--- src/main.rt:223:1
 same-length-2 : tie.Need-same-length-2
 same-length-2 c = search needs
 
--- src/main.rt:223:1
 same-length-3 : tie.Need-same-length-3
 same-length-3 c = search needs
 
--- src/main.rt:223:1
 same-length-4 : tie.Need-same-length-4
 same-length-4 c = search needs
 
--- src/main.rt:223:1
 returns-2 : tie.Need-returns-2
 returns-2 c = search needs
 

@@ -5,9 +5,6 @@ use borrow.Author.Needs.{needs}
 use native.Mathlib.Omega.{arith}
 use Rattle.weights_run.proofs.run.Statement.{statement}
 use Rattle.weights_run.proofs.run.Tie as tie
-use Rattle.weights_run.proofs.run.Reads as reads
-use Rattle.weights_run.proofs.run.Lts as lts
-use Rattle.weights_run.proofs.one_line.Reads as one-line-reads
 
 abbrev Inv-loop : tie.InvT-loop
 Inv-loop text words₀ output₀ room₀ at₀ words output room at = (length words ≡ length words₀) × (length output ≡ length output₀) × (length room ≡ length room₀) × (at ≤ length text)
@@ -15,35 +12,27 @@ Inv-loop text words₀ output₀ room₀ at₀ words output room at = (length wo
 abbrev μ-loop : tie.MeasureT-loop
 μ-loop text words₀ output₀ room₀ at₀ words output room at = length text - at
 
--- src/main.rt:260:5
 loop-holds : tie.Need-loop-holds Inv-loop μ-loop
 loop-holds c = (refl, refl, refl, omega arith)
 
--- src/main.rt:261:9
 one-line-requires : tie.Need-one-line-requires Inv-loop μ-loop
 one-line-requires c κs = search needs
 
--- src/main.rt:260:5
 loop-less : tie.Need-loop-less Inv-loop μ-loop
 loop-less c = omega (arith, c .before .before .before .before .before .before .one-line .ensures)
 
--- src/main.rt:260:5
 loop-again : tie.Need-loop-again Inv-loop μ-loop
 loop-again c = (c .before .before .before .before .before .before .one-line .kept .1 .1 .0 ∙ c .before .before .before .before .before .before .before .before .before .before .before .loop .inv .0, c .before .before .before .before .before .before .one-line .kept .1 .1 .1 .0 ∙ c .before .before .before .before .before .before .before .before .before .before .before .loop .inv .1, c .before .before .before .before .before .before .one-line .kept .1 .1 .1 .1 .0 ∙ c .before .before .before .before .before .before .before .before .before .before .before .loop .inv .2, c .before .before .before .before .before .before .one-line .ensures .1)
 
--- src/main.rt:258:1
 same-length : tie.Need-same-length Inv-loop μ-loop
 same-length c = c .before .loop .inv .0
 
--- src/main.rt:258:1
 same-length-2 : tie.Need-same-length-2 Inv-loop μ-loop
 same-length-2 c = c .before .loop .inv .1
 
--- src/main.rt:258:1
 same-length-3 : tie.Need-same-length-3 Inv-loop μ-loop
 same-length-3 c = c .before .loop .inv .2
 
--- src/main.rt:258:1
 returns : tie.Need-returns Inv-loop μ-loop
 returns c = search needs
 
