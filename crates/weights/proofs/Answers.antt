@@ -2,14 +2,13 @@
 use Prim.Native.Nat.{ℕ, _+_, _*_, _≤_}
 use mathlib.Core.Path.{_≡_, refl, sym, ap, _∙_}
 use mathlib.Core.Logic.{_≢_}
-use mathlib.Core.Bool.{false}
 use mathlib.Core.List.{List, _++_}
 use native.Mathlib.Omega.{arith}
 use lib.ListN.{length, drop, take, replicate}
 use lib.Seq.{length-take-le}
 use borrow.Author.Tests.{ltb-false, eq-eqb, ne-eqb}
 use Rattle.naturals.specs.Natural.{wordCount}
-use Rattle.diagram.specs.Limits.{countWords}
+use Rattle.diagram.specs.Limits.{maxNodes, countWords}
 use Rattle.diagram.specs.Diagram.{size, vars}
 use Rattle.diagram.specs.Verdict.{Outcome, accepted, refused, said, row, roomOf, short, verdictOf, Checked}
 use Rattle.diagram.specs.declared.verdict.Verdict.{Verdict}
@@ -59,7 +58,7 @@ module _ {w : List ℕ} (out : List ℕ) {room after : List ℕ} {r : Verdict} (
         let v = of-false w (length out) (length room) is-accepted (omega (arith, admitted c e .nodes)) in
         record { verdict = sym v; weighed = λ n′ u′ x. absurd (not-both v x); untouched = λ k p x. refl; left = c .left }
 
-    pub weights-few : n ≤ 4096
+    pub weights-few : n ≤ maxNodes
     weights-few = omega (arith, admitted c e .nodes, admitted c e .accepted .formed .few)
 
     used-fits : (1 + wordCount) * n ≤ roomOf w

@@ -4,7 +4,7 @@ use mathlib.Core.Path.{_≡_, refl, sym, ap, _∙_}
 use mathlib.Core.Logic.{_≢_}
 use mathlib.Core.List.{List, _++_}
 use native.Mathlib.Omega.{arith}
-use native.Mathlib.Nat.{mul-one, mul-zero, zero-mul, le-mul-of-pos-right, le-trans}
+use native.Mathlib.Nat.{mul-one, mul-zero, zero-mul, le-mul-of-pos-right}
 use lib.Pow.{pow-pos, pow-mono}
 use lib.ListN.{length, getD, take, drop, replicate}
 use Rattle.naturals.specs.Natural.{value, limit, wordCount, Holds, Fitted}
@@ -15,8 +15,8 @@ use Rattle.diagram.specs.Valuations.{weightOf}
 use Rattle.diagram.proofs.Tests.{by-eq}
 use Rattle.diagram.proofs.Reading.{Layer, layered, root-in, var-most, by-two}
 use Rattle.weights.specs.Weighed.{Weighed}
-use Rattle.weights.specs.Chains.{Last, Given, Node}
-use Rattle.weights.specs.Passes.{entry, num, In, Noted, satOf, skip, scaled, Sated, throughOf, dot, Todo, Passing, Passed, Turning, Ascending, AtUp, Giving, Rising}
+use Rattle.weights.specs.Chains.{Last, Given}
+use Rattle.weights.specs.Passes.{entry, num, In, Noted, satOf, skip, scaled, throughOf, dot, Todo, Passing, Passed, Turning, Ascending, AtUp, Giving, Rising}
 use Rattle.weights.proofs.Dots.{bump, bump-here, bump-other, bump-least, without, without-here, without-other, dot-least, dot-only, dot-moved}
 use Rattle.weights.proofs.Levels.{Shared, sat-end, through-node, through-self, through-none, weight-through, all-node, all-root, weight-most, under-limit}
 use Rattle.weights.proofs.Entries.{zero-entry, zero-rest}

@@ -1,5 +1,5 @@
 -- The chains of each variable's nodes: how they are made, and how the two passes go along them.
-use Prim.Native.Nat.{ℕ, zero, suc, _+_, _≤_, _<_}
+use Prim.Native.Nat.{ℕ, suc, _+_, _≤_, _<_}
 use mathlib.Core.Path.{_≡_, refl, sym, ap, _∙_}
 use mathlib.Core.Logic.{_≢_}
 use mathlib.Core.List.{List}
@@ -10,8 +10,8 @@ use lib.ListN.{length, getD, set, replicate, getD-replicate}
 use lib.Seq.{getD-set-same, getD-set-other}
 use Rattle.diagram.specs.Diagram.{varOf, size, vars, Ordered}
 use Rattle.diagram.proofs.Tests.{by-eq}
-use Rattle.diagram.proofs.Reading.{Layered, layered, by-two}
-use Rattle.weights.specs.Chains.{Last, Linked, Given}
+use Rattle.diagram.proofs.Reading.{layered, by-two}
+use Rattle.weights.specs.Chains.{chainCount, Last, Linked, Given}
 use Rattle.weights.specs.Passes.{Known, Todo}
 
 -- ---- how they are made
@@ -113,14 +113,14 @@ by-todo w c b q f g = elim (decLe c (varOf w q)) [
 
 -- ---- the loop that makes them
 
-pub link-begins : (w heads nexts : List ℕ) (n : ℕ) → Given w n → heads ≡ replicate 256 0 → Linked w heads nexts 2
+pub link-begins : (w heads nexts : List ℕ) (n : ℕ) → Given w n → heads ≡ replicate chainCount 0 → Linked w heads nexts 2
 link-begins w heads nexts n given z =
     linked-start w heads nexts
     (λ c h.
     let few = given .ordered .formed .variables in
-    ap (λ (s : List ℕ). getD s c 0) z ∙ getD-replicate {A = ℕ} 256 c 0 0 (omega arith))
+    ap (λ (s : List ℕ). getD s c 0) z ∙ getD-replicate {A = ℕ} chainCount c 0 0 (omega arith))
 
-pub link-on : {w heads nexts : List ℕ} {n p : ℕ} → Given w n → 2 ≤ p → p < n → length heads ≡ 256 → n ≤ length nexts → Linked w heads nexts p
+pub link-on : {w heads nexts : List ℕ} {n p : ℕ} → Given w n → 2 ≤ p → p < n → length heads ≡ chainCount → n ≤ length nexts → Linked w heads nexts p
     → (v h : ℕ) → v ≡ varOf w p → h ≡ getD heads v 0 → {heads′ nexts′ : List ℕ} → nexts′ ≡ set nexts p h → heads′ ≡ set heads v p
     → Linked w heads′ nexts′ (p + 1)
 link-on {w} {heads} {nexts} {n} {p} given two below long room l v h ev eh {heads′} {nexts′} en eheads =

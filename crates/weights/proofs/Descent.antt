@@ -1,11 +1,9 @@
 -- The first pass: how many satisfying valuations go on from each node.
-use Prim.Native.Nat.{ℕ, zero, suc, _+_, _-_, _*_, _^_, _≤_, _<_}
-use mathlib.Core.Path.{_≡_, refl, sym, ap, _∙_}
+use Prim.Native.Nat.{ℕ, zero, suc, _+_, _-_, _*_, _≤_, _<_}
+use mathlib.Core.Path.{_≡_, sym, ap, _∙_}
 use mathlib.Core.Logic.{_≢_}
 use mathlib.Core.List.{List}
 use native.Mathlib.Omega.{arith}
-use native.Mathlib.Nat.{le-mul-of-pos-right}
-use lib.Pow.{pow-pos}
 use lib.ListN.{length, getD}
 use Rattle.naturals.specs.Natural.{value, limit, wordCount, Holds, Fitted}
 use Rattle.naturals.specs.declared.Fit.{Fit}
@@ -14,7 +12,7 @@ use Rattle.diagram.specs.Diagram.{varOf, lowOf, highOf, size, vars, Ordered}
 use Rattle.diagram.proofs.Tests.{by-eq}
 use Rattle.diagram.proofs.Reading.{Layer, layered, at-end}
 use Rattle.weights.specs.Chains.{Last, Linked, Given, Node}
-use Rattle.weights.specs.Passes.{entry, num, In, Noted, satOf, skip, scaled, Known, Sated, Joining, Descending, AtDown, Parting}
+use Rattle.weights.specs.Passes.{entry, num, In, Noted, satOf, scaled, Known, Sated, Joining, Descending, AtDown, Parting}
 use Rattle.weights.proofs.Levels.{sat-node, sat-end, sat-most, under-limit}
 use Rattle.weights.proofs.Chaining.{known-from, known-begins, known-ends}
 

@@ -1,13 +1,13 @@
 -- Tables of counts in lent words.
 use Prim.Native.Nat.{ℕ, _+_, _-_, _*_, _^_, _≤_, _<_, min}
-use mathlib.Core.Path.{_≡_, refl, sym, ap, _∙_}
+use mathlib.Core.Path.{_≡_, sym, ap, _∙_}
 use mathlib.Core.Logic.{_≢_, _⊎_, inl, inr}
 use mathlib.Core.Bool.{Bool}
 use mathlib.Core.List.{List, _++_, append-assoc}
 use native.Mathlib.Omega.{arith}
 use native.Mathlib.Decide.{decLt}
-use lib.ListN.{length, getD, take, drop, replicate, length-append, length-drop, length-replicate, replicate-append-replicate}
-use lib.Seq.{ext-getD, getD-drop, take-append-le, drop-at, take-at}
+use lib.ListN.{length, take, drop, replicate, length-append, length-drop, length-replicate, replicate-append-replicate}
+use lib.Seq.{ext-getD, getD-drop, drop-at, take-at}
 use lib.Dec.{leb}
 use Rattle.naturals.specs.Natural.{value, limit, wordCount, Holds, Answers, Fitted, Stores}
 use Rattle.naturals.specs.declared.Fit.{Fit}

@@ -9,7 +9,8 @@ use native.Mathlib.Nat.{pow-suc, mul-one, mul-assoc, mul-comm, sub-zero, le-tran
 use lib.Pow.{pow-add, pow-mono, pow-lt}
 use lib.Dec.{eqb}
 use borrow.Author.Tests.{eq-eqb, ne-eqb}
-use Rattle.naturals.specs.Natural.{limit}
+use Rattle.naturals.specs.Natural.{limit, wordCount}
+use Rattle.diagram.specs.Limits.{maxVariables}
 use Rattle.diagram.specs.Diagram.{varOf, lowOf, highOf, size, vars, root, holds, Ordered}
 use Rattle.diagram.specs.Reading.{eval}
 use Rattle.diagram.specs.Valuations.{tally, meets, weightOf}
@@ -161,9 +162,9 @@ module _ (w : List ℕ) (o : Ordered w) where
 
 -- ---- nothing overflows
 
-pub under-limit : (x k : ℕ) → x ≤ 2 ^ k → k ≤ 255 → x < limit
+pub under-limit : (x k : ℕ) → x ≤ 2 ^ k → k ≤ maxVariables → x < limit
 unfolding limit
 under-limit x k a b =
     let m = pow-mono b in
-    let l : 2 ^ 255 < 2 ^ 256 = pow-lt {i = 255} {j = 256} (omega arith) in
+    let l : 2 ^ maxVariables < 2 ^ (32 * wordCount) = pow-lt {i = maxVariables} {j = 32 * wordCount} (omega arith) in
     lt-of-le-of-lt (le-trans a m) l

@@ -1,11 +1,10 @@
 -- What weights say: of node 0, of node 1 and of the root; and of several nodes together.
-use Prim.Native.Nat.{ℕ, zero, suc, _+_, _-_, _≤_, _<_}
+use Prim.Native.Nat.{ℕ, suc, _+_, _-_, _≤_, _<_}
 use mathlib.Core.Path.{_≡_, refl, sym, ap, _∙_}
-use mathlib.Core.Bool.{Bool, true, false, _&&_, _||_, and-true, and-false, and-or-distrib-left}
+use mathlib.Core.Bool.{Bool, true, false, _&&_, _||_, and-false, and-or-distrib-left}
 use mathlib.Core.List.{List, [], _∷_}
 use native.Mathlib.Omega.{arith}
-use lib.ListN.{length}
-use lib.Dec.{eqb, ltb}
+use lib.Dec.{eqb}
 use borrow.Author.Tests.{eq-eqb, eqb-true}
 use Rattle.diagram.specs.Diagram.{vars, root, step, walk, holds}
 use Rattle.diagram.specs.Verdict.{any}

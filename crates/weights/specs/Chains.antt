@@ -6,6 +6,10 @@ use mathlib.Core.List.{List}
 use lib.ListN.{getD}
 use Rattle.diagram.specs.Diagram.{varOf, size, vars, Ordered}
 
+-- How many chains there are: at least one for each variable. The code has the same number in src/chains.rt.
+abbrev pub chainCount : ℕ
+chainCount = 256
+
 -- q is the last node below b that tests variable c, or 0 where there is none.
 pub record Last (w : List ℕ) (c b q : ℕ) : Type 0 where
   pub node : q ≢ 0 → (2 ≤ q) × (q < b) × (varOf w q ≡ c)

@@ -8,9 +8,9 @@ use diagram::room::put;
 ghost use mathlib.Core.Path.{_≡_};
 ghost use Prim.Native.Nat.{_≤_};
 ghost use lib.ListN.{length, getD, replicate};
-ghost use Rattle.weights.specs.Chains.{Linked, Given};
+ghost use Rattle.weights.specs.Chains.{chainCount, Linked, Given};
 
-// As many chains as a diagram may have variables, and one more, so that the number is even.
+// At least as many chains as a diagram may have variables.
 pub(crate) const CHAINS: usize = 256;
 
 // The last node that tests a variable; node 0 where there is none.
@@ -29,7 +29,7 @@ pub(crate) fn next_of(room: &[u32], node: BddPointer) -> BddPointer
 
 // Makes the chains: `heads` is zero before.
 pub(crate) fn link(words: &[u32], heads: &mut [u32], room: &mut [u32], nodes: usize)
-    requires { ⌜ Given (now words) nodes × (now heads ≡ replicate 256 0) × (nodes ≤ length (now room)) ⌝ }
+    requires { ⌜ Given (now words) nodes × (now heads ≡ replicate chainCount 0) × (nodes ≤ length (now room)) ⌝ }
     ensures { λ _. ⌜ Linked (now (words .entry)) (now (heads .exit)) (now (room .exit)) nodes ⌝ }
 {
     let mut p = 2;

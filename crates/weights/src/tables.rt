@@ -1,12 +1,10 @@
 // Tables of counts in lent words: one for each node, from a base on.
 use diagram::node::BddPointer;
-use diagram::node::BddVariable;
 use diagram::node::var_of;
 use naturals::Natural;
 use naturals::load;
 use naturals::shift_left;
 use naturals::store;
-ghost use mathlib.Core.Path.{_≡_};
 ghost use Prim.Native.Nat.{ℕ, _<_};
 ghost use Rattle.naturals.specs.Natural.{value, limit, Holds};
 ghost use Rattle.diagram.specs.Diagram.{varOf};

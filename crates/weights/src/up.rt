@@ -16,11 +16,10 @@ use naturals::Natural;
 use naturals::add;
 use naturals::multiply;
 use naturals::power_of_two;
-ghost use mathlib.Core.Path.{_≡_};
 ghost use Prim.Native.Nat.{_+_, _*_, _≤_, suc};
-ghost use lib.ListN.{length, getD};
+ghost use lib.ListN.{length};
 ghost use Rattle.naturals.specs.Natural.{value, wordCount};
-ghost use Rattle.diagram.specs.Diagram.{varOf, size, vars as varsOf};
+ghost use Rattle.diagram.specs.Diagram.{varOf, size};
 ghost use Rattle.weights.specs.Chains.{Given};
 ghost use Rattle.weights.specs.Passes.{num, Noted, scaled as scaledBy, Giving, Turning, Ascending, Rising, Passed};
 

@@ -1,5 +1,5 @@
 use denote.Ref.{now}
-use mathlib.Core.Path.{refl, sym, _∙_, ap}
+use mathlib.Core.Path.{sym}
 use lib.Seq.{length-take-le}
 use Rattle.weights.proofs.Answers.{weights-refused, weights-of-false, weights-few, weights-fits, weights-asks, weights-accepted}
 use Prim.Native.Nat.{_*_}
@@ -7,64 +7,46 @@ use native.Mathlib.Omega.{arith}
 use borrow.Author.Needs.{needs}
 use Rattle.weights.proofs.node_valuation_weights.Statement.{statement}
 use Rattle.weights.proofs.node_valuation_weights.Tie as tie
-use Rattle.weights.proofs.node_valuation_weights.Reads as reads
-use Rattle.weights.proofs.node_valuation_weights.Lts as lts
-use Rattle.diagram.proofs.validate.admit.Reads as admit-reads
-use Rattle.weights.proofs.weigh.weigh.Reads as weigh-reads
 
--- src/lib.rt:22:9
 admit-requires : tie.Need-admit-requires
 admit-requires c κs = search needs
 
--- src/lib.rt:23:29
 enum-known-verdict : tie.Need-enum-known-verdict
 enum-known-verdict c = search needs
 
--- src/lib.rt:24:9
 enum-told : tie.Need-enum-told
 enum-told c = search needs
 
--- src/lib.rt:24:9
 same-length : tie.Need-same-length
 same-length c = search needs
 
--- src/lib.rt:24:9
 returns : tie.Need-returns
 returns c = weights-refused (now (c .before .before .before .before .before .before .before .before .before .args .output)) (c .before .before .before .before .admit .ensures) (c .enum-told .given .1)
 
--- src/lib.rt:27:9
 same-length-2 : tie.Need-same-length-2
 same-length-2 c = search needs
 
--- src/lib.rt:27:9
 returns-2 : tie.Need-returns-2
 returns-2 c = weights-of-false (now (c .before .before .before .before .before .before .before .before .before .before .before .args .output)) (c .before .before .before .before .before .before .admit .ensures) (c .before .before .verdict .given .1) (c .if1 .taken)
 
--- src/lib.rt:32:16
 mul-used : tie.Need-mul-used
 mul-used c = omega (arith, weights-few (now (c .before .before .before .before .before .before .before .before .before .before .before .args .output)) (c .before .before .before .before .before .before .admit .ensures) (c .before .before .verdict .given .1))
 
--- src/lib.rt:33:26
 slice-relend-prefix-weigh : tie.Need-slice-relend-prefix-weigh
 slice-relend-prefix-weigh c = weights-fits (now (c .before .before .before .before .before .before .before .before .before .before .before .before .args .output)) (c .before .before .before .before .before .before .before .admit .ensures) (c .before .before .before .verdict .given .1)
 
--- src/lib.rt:33:26
 slice-aggregate-weigh : tie.Need-slice-aggregate-weigh
 slice-aggregate-weigh c = sym (length-take-le (9 * c .before .before .before .before .verdict .given .0 .0) (c .before .before .before .before .before .before .before .before .admit .last .1 .0) (weights-fits (now (c .before .before .before .before .before .before .before .before .before .before .before .before .before .args .output)) (c .before .before .before .before .before .before .before .before .admit .ensures) (c .before .before .before .before .verdict .given .1)))
 
--- src/lib.rt:33:5
 weigh-requires : tie.Need-weigh-requires
 weigh-requires c κs = weights-asks (now (c .before .before .before .before .before .before .before .before .before .before .before .before .before .args .output)) (c .before .before .before .before .before .before .before .before .admit .ensures) (c .before .before .before .before .verdict .given .1) (c .before .before .if1 .left)
 
--- src/lib.rt:19:1
 same-length-3 : tie.Need-same-length-3
 same-length-3 c = search needs
 
--- src/lib.rt:19:1
 same-length-4 : tie.Need-same-length-4
 same-length-4 c = search needs
 
--- src/lib.rt:19:1
 returns-3 : tie.Need-returns-3
 returns-3 c = weights-accepted (now (c .before .before .before .before .before .before .before .before .before .before .before .before .before .before .before .before .before .before .args .output)) (c .before .before .before .before .before .before .before .before .before .before .before .before .before .admit .ensures) (c .before .before .before .before .before .before .before .before .before .verdict .given .1) (c .before .before .before .before .before .before .before .if1 .left) (c .before .before .before .before .weigh .ensures .0) (c .before .before .before .before .weigh .ensures .1)
 

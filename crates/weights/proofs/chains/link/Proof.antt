@@ -1,19 +1,13 @@
 use denote.Ref.{now}
-use mathlib.Core.Path.{refl, sym, _∙_, ap}
-use mathlib.Core.Path.{_≡_}
+use mathlib.Core.Path.{refl, _∙_, ap, _≡_}
 use Prim.Native.Nat.{_≤_, _-_}
-use lib.ListN.{length, length-set, length-replicate}
+use lib.ListN.{length}
 use Rattle.weights.specs.Chains.{Linked}
 use Rattle.weights.proofs.Chaining.{link-begins, link-on}
 use borrow.Author.Needs.{needs}
 use native.Mathlib.Omega.{arith}
 use Rattle.weights.proofs.chains.link.Statement.{statement}
 use Rattle.weights.proofs.chains.link.Tie as tie
-use Rattle.weights.proofs.chains.link.Reads as reads
-use Rattle.weights.proofs.chains.link.Lts as lts
-use Rattle.diagram.proofs.node.var_of.Reads as var-of-reads
-use Rattle.diagram.proofs.room.put.Reads as put-reads
-use Rattle.weights.proofs.chains.head_of.Reads as head-of-reads
 
 abbrev Inv-loop : tie.InvT-loop
 Inv-loop words heads₀ room₀ nodes p₀ heads room p = (2 ≤ p) × (p ≤ nodes) × Linked words heads room p × (length heads ≡ length heads₀) × (length room ≡ length room₀)
@@ -21,55 +15,42 @@ Inv-loop words heads₀ room₀ nodes p₀ heads room p = (2 ≤ p) × (p ≤ no
 abbrev μ-loop : tie.MeasureT-loop
 μ-loop words heads₀ room₀ nodes p₀ heads room p = nodes - p
 
--- src/chains.rt:36:5
 loop-holds : tie.Need-loop-holds Inv-loop μ-loop
 loop-holds c = (search needs, omega (arith, c .before .before .before .pre .0 .two), link-begins (now (c .before .before .before .args .words)) (now (c .before .before .before .args .heads)) (now (c .before .before .before .args .room)) (c .before .before .before .args .nodes) (c .before .before .before .pre .0) (c .before .before .before .pre .1), refl, refl)
 
--- src/chains.rt:37:31
 cast-t10 : tie.Need-cast-t10 Inv-loop μ-loop
 cast-t10 c = search needs
 
--- src/chains.rt:38:13
 var-of-requires : tie.Need-var-of-requires Inv-loop μ-loop
 var-of-requires c κs = search needs
 
--- src/chains.rt:39:13
 head-of-requires : tie.Need-head-of-requires Inv-loop μ-loop
 head-of-requires c κs = search needs
 
--- src/chains.rt:40:9
 put-requires : tie.Need-put-requires Inv-loop μ-loop
 put-requires c κs = search needs
 
--- src/chains.rt:41:20
 cast-put : tie.Need-cast-put Inv-loop μ-loop
 cast-put c = search needs
 
--- src/chains.rt:41:9
 put-requires-2 : tie.Need-put-requires-2 Inv-loop μ-loop
 put-requires-2 c κs = search needs
 
--- src/chains.rt:42:9
 add-p : tie.Need-add-p Inv-loop μ-loop
 add-p c = search needs
 
--- src/chains.rt:36:5
 loop-less : tie.Need-loop-less Inv-loop μ-loop
 loop-less c = search needs
 
--- src/chains.rt:36:5
 loop-again : tie.Need-loop-again Inv-loop μ-loop
 loop-again c = (search needs, search needs, link-on (c .before .before .before .before .before .before .before .before .before .before .before .before .before .before .before .before .before .pre .0) (c .before .before .before .before .before .before .before .before .before .before .before .before .before .loop .inv .0) (c .before .before .before .before .before .before .before .before .before .before .before .before .loop-test .taken) (c .before .before .before .before .before .before .before .before .before .before .before .before .before .loop .inv .3 ∙ ap length (c .before .before .before .before .before .before .before .before .before .before .before .before .before .before .before .before .before .pre .1)) (omega (arith, c .before .before .before .before .before .before .before .before .before .before .before .before .before .before .before .before .before .pre .2, c .before .before .before .before .before .before .before .before .before .before .before .before .before .loop .inv .4)) (c .before .before .before .before .before .before .before .before .before .before .before .before .before .loop .inv .2) (c .before .before .before .before .before .before .before .before .before .before .before .var-of .result .0) (c .before .before .before .before .before .before .before .before .before .head-of .result .0) (c .before .before .before .before .before .before .before .before .before .before .before .var-of .ensures) (c .before .before .before .before .before .before .before .before .before .head-of .ensures) (c .before .before .before .before .before .before .before .put .ensures) (c .before .before .put2 .ensures), c .before .before .put2 .kept .0 ∙ c .before .before .before .before .before .before .before .before .before .before .before .before .before .loop .inv .3, c .before .before .before .before .before .before .before .put .kept .0 ∙ c .before .before .before .before .before .before .before .before .before .before .before .before .before .loop .inv .4)
 
--- src/chains.rt:31:1
 same-length : tie.Need-same-length Inv-loop μ-loop
 same-length c = c .before .loop .inv .3
 
--- src/chains.rt:31:1
 same-length-2 : tie.Need-same-length-2 Inv-loop μ-loop
 same-length-2 c = c .before .loop .inv .4
 
--- src/chains.rt:31:1
 returns : tie.Need-returns Inv-loop μ-loop
 returns c =
     let e : c .before .loop .p ≡ c .before .before .before .before .before .args .nodes = omega arith in

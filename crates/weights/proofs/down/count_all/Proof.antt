@@ -1,6 +1,4 @@
-use denote.Ref.{now}
-use mathlib.Core.Path.{refl, sym, _∙_, ap}
-use mathlib.Core.Path.{_≡_}
+use mathlib.Core.Path.{refl, _∙_, _≡_}
 use Prim.Native.Nat.{_≤_}
 use lib.ListN.{length}
 use Rattle.weights.specs.Passes.{Sated}
@@ -9,10 +7,6 @@ use borrow.Author.Needs.{needs}
 use native.Mathlib.Omega.{arith}
 use Rattle.weights.proofs.down.count_all.Statement.{statement}
 use Rattle.weights.proofs.down.count_all.Tie as tie
-use Rattle.weights.proofs.down.count_all.Reads as reads
-use Rattle.weights.proofs.down.count_all.Lts as lts
-use Rattle.weights.proofs.down.level.Reads as level-reads
-use Rattle.weights.proofs.down.terminals.Reads as terminals-reads
 
 abbrev Inv-loop : tie.InvT-loop
 Inv-loop words heads room₀ nodes vars c₀ room c = Sated words room c 0 × (c ≤ vars) × (length room ≡ length room₀)
@@ -20,39 +14,30 @@ Inv-loop words heads room₀ nodes vars c₀ room c = Sated words room c 0 × (c
 abbrev μ-loop : tie.MeasureT-loop
 μ-loop words heads room₀ nodes vars c₀ room c = c
 
--- src/down.rt:69:5
 terminals-requires : tie.Need-terminals-requires Inv-loop μ-loop
 terminals-requires c κs = (c .before .before .before .before .pre .0, c .before .before .before .before .pre .1, c .before .before .before .before .pre .2)
 
--- src/down.rt:71:5
 loop-holds : tie.Need-loop-holds Inv-loop μ-loop
 loop-holds c = (rw (c .before .before .before .before .before .before .before .pre .3) (c .before .before .terminals .ensures), omega arith, refl)
 
--- src/down.rt:72:42
 sub-level : tie.Need-sub-level Inv-loop μ-loop
 sub-level c = search needs
 
--- src/down.rt:72:9
 level-requires : tie.Need-level-requires Inv-loop μ-loop
 level-requires c κs = all-down (c .before .before .before .before .before .before .before .before .before .before .pre .0) (c .before .before .before .before .before .before .before .before .before .before .pre .1) (c .before .before .before .before .before .before .before .before .before .before .pre .3) (c .before .before .loop .inv .1) (c .before .loop-test .taken) (c .before .before .loop .inv .0)
 
--- src/down.rt:73:9
 sub-c : tie.Need-sub-c Inv-loop μ-loop
 sub-c c = search needs
 
--- src/down.rt:71:5
 loop-less : tie.Need-loop-less Inv-loop μ-loop
 loop-less c = search needs
 
--- src/down.rt:71:5
 loop-again : tie.Need-loop-again Inv-loop μ-loop
 loop-again c = (c .before .before .level .ensures, omega (arith, c .before .before .before .before .before .loop .inv .1), c .before .before .level .kept .1 .1 .0 ∙ c .before .before .before .before .before .loop .inv .2)
 
--- src/down.rt:65:1
 same-length : tie.Need-same-length Inv-loop μ-loop
 same-length c = c .before .loop .inv .2 ∙ c .before .before .before .before .terminals .kept .1 .1 .0
 
--- src/down.rt:65:1
 returns : tie.Need-returns Inv-loop μ-loop
 returns c =
     let e : c .before .loop .c ≡ 0 = omega arith in

@@ -1,37 +1,25 @@
 use denote.Ref.{now}
-use mathlib.Core.Path.{refl, sym, _∙_, ap}
 use Rattle.weights.proofs.Descent.{sated-start}
 use native.Mathlib.Omega.{arith}
 use borrow.Author.Needs.{needs}
 use Rattle.weights.proofs.down.terminals.Statement.{statement}
 use Rattle.weights.proofs.down.terminals.Tie as tie
-use Rattle.weights.proofs.down.terminals.Reads as reads
-use Rattle.weights.proofs.down.terminals.Lts as lts
-use Rattle.naturals.proofs.from_word.Reads as from-word-reads
-use Rattle.naturals.proofs.zero.Reads as zero-reads
-use Rattle.weights.proofs.tables.note.Reads as note-reads
 
--- src/down.rt:60:38
 zero-requires : tie.Need-zero-requires
 zero-requires c κs = search needs
 
--- src/down.rt:60:5
 note-requires : tie.Need-note-requires
 note-requires c κs = omega (arith, c .before .before .before .before .before .pre .2, c .before .before .before .before .before .pre .0 .two)
 
--- src/down.rt:61:38
 from-word-requires : tie.Need-from-word-requires
 from-word-requires c κs = search needs
 
--- src/down.rt:61:5
 note-requires-2 : tie.Need-note-requires-2
 note-requires-2 c κs = omega (arith, c .before .before .before .before .before .before .before .before .before .before .pre .2, c .before .before .before .before .before .before .before .before .before .before .pre .0 .two, c .before .before .before .before .note .kept .0)
 
--- src/down.rt:56:1
 same-length : tie.Need-same-length
 same-length c = search needs
 
--- src/down.rt:56:1
 returns : tie.Need-returns
 returns c = sated-start (now (c .before .before .before .before .before .before .before .before .before .before .before .before .before .args .words)) (now (c .before .before .before .before .before .before .before .before .before .before .before .before .before .args .heads)) (c .before .before .before .before .before .before .before .before .before .before .before .before .before .args .nodes) (c .before .before .before .before .before .before .before .before .before .before .before .before .before .pre .0) (c .before .before .before .before .before .before .before .before .before .before .before .before .before .pre .1) (c .before .before .before .before .before .before .before .before .before .before .before .before .before .pre .2) (c .before .before .before .before .before .before .before .note .ensures 0 (c .before .before .before .before .before .before .before .before .zero .ensures)) (c .before .before .note2 .ensures 1 (c .before .before .before .from-word .ensures))
 

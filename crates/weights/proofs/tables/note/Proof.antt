@@ -1,36 +1,25 @@
 use denote.Ref.{now}
-use mathlib.Core.Path.{refl, sym, _∙_, ap}
 use Rattle.weights.proofs.Entries.{note-done}
 use native.Mathlib.Omega.{arith}
 use borrow.Author.Needs.{needs}
 use Rattle.weights.proofs.tables.note.Statement.{statement}
 use Rattle.weights.proofs.tables.note.Tie as tie
-use Rattle.weights.proofs.tables.note.Reads as reads
-use Rattle.weights.proofs.tables.note.Lts as lts
-use Rattle.diagram.proofs.node.BddPointer.to_index.Reads as to-index-reads
-use Rattle.naturals.proofs.store.Reads as store-reads
 
--- src/tables.rt:29:43
 to-index-requires : tie.Need-to-index-requires
 to-index-requires c κs = search needs
 
--- src/tables.rt:29:25
 mul-store : tie.Need-mul-store
 mul-store c = search needs
 
--- src/tables.rt:29:18
 add-store : tie.Need-add-store
 add-store c = search needs
 
--- src/tables.rt:29:5
 store-requires : tie.Need-store-requires
 store-requires c κs = search needs
 
--- src/tables.rt:25:1
 same-length : tie.Need-same-length
 same-length c = search needs
 
--- src/tables.rt:25:1
 returns : tie.Need-returns
 returns c = note-done (c .before .before .before .before .before .before .args .base) (now (c .before .before .before .before .before .before .args .table)) (c .before .before .before .before .before .before .args .node .0) (c .before .before .before .to-index .result) (c .before .before .before .to-index .ensures) (c .before .before .before .before .before .before .pre) (c .before .before .store .ensures)
 

@@ -1,6 +1,4 @@
-use denote.Ref.{now}
-use mathlib.Core.Path.{refl, sym, _∙_, ap}
-use mathlib.Core.Path.{_≡_}
+use mathlib.Core.Path.{refl, _∙_, _≡_}
 use lib.ListN.{length}
 use Rattle.weights.specs.Passes.{AtUp}
 use Rattle.weights.proofs.Ascent.{up-begins, up-turns, up-on, up-ends}
@@ -8,11 +6,6 @@ use borrow.Author.Needs.{needs}
 use native.Mathlib.Omega.{arith}
 use Rattle.weights.proofs.up.level.Statement.{statement}
 use Rattle.weights.proofs.up.level.Tie as tie
-use Rattle.weights.proofs.up.level.Reads as reads
-use Rattle.weights.proofs.up.level.Lts as lts
-use Rattle.weights.proofs.chains.head_of.Reads as head-of-reads
-use Rattle.weights.proofs.chains.next_of.Reads as next-of-reads
-use Rattle.weights.proofs.up.pass_on.Reads as pass-on-reads
 
 abbrev Inv-loop : tie.InvT-loop
 Inv-loop words heads room output₀ nodes variable node₀ output node = AtUp words output₀ output variable (node .0) × (length output ≡ length output₀)
@@ -20,35 +13,27 @@ Inv-loop words heads room output₀ nodes variable node₀ output node = AtUp wo
 abbrev μ-loop : tie.MeasureT-loop
 μ-loop words heads room output₀ nodes variable node₀ output node = node .0
 
--- src/up.rt:55:9
 head-of-requires : tie.Need-head-of-requires Inv-loop μ-loop
 head-of-requires c κs = search needs
 
--- src/up.rt:56:5
 loop-holds : tie.Need-loop-holds Inv-loop μ-loop
 loop-holds c = (up-begins (c .before .before .before .before .before .pre) (c .head-of .result .0) (c .head-of .ensures), refl)
 
--- src/up.rt:57:9
 pass-on-requires : tie.Need-pass-on-requires Inv-loop μ-loop
 pass-on-requires c κs = up-turns (c .before .before .before .before .before .before .before .before .before .pre) (c .before .before .before .loop .inv .0) (c .before .if1 .taken)
 
--- src/up.rt:58:9
 next-of-requires : tie.Need-next-of-requires Inv-loop μ-loop
 next-of-requires c κs = search needs
 
--- src/up.rt:56:5
 loop-less : tie.Need-loop-less Inv-loop μ-loop
 loop-less c = up-on (c .before .before .before .before .before .before .before .before .before .before .before .before .before .pre) (c .before .before .before .before .before .before .before .loop .inv .0) (c .before .before .before .before .before .if1 .taken) (c .before .before .before .pass-on .ensures) (c .next-of .result .0) (c .next-of .ensures) .1
 
--- src/up.rt:56:5
 loop-again : tie.Need-loop-again Inv-loop μ-loop
 loop-again c = (up-on (c .before .before .before .before .before .before .before .before .before .before .before .before .before .pre) (c .before .before .before .before .before .before .before .loop .inv .0) (c .before .before .before .before .before .if1 .taken) (c .before .before .before .pass-on .ensures) (c .next-of .result .0) (c .next-of .ensures) .0, c .before .before .before .pass-on .kept .1 .1 .0 ∙ c .before .before .before .before .before .before .before .loop .inv .1)
 
--- src/up.rt:51:1
 same-length : tie.Need-same-length Inv-loop μ-loop
 same-length c = c .before .before .loop .inv .1
 
--- src/up.rt:51:1
 returns : tie.Need-returns Inv-loop μ-loop
 returns c = up-ends (c .before .before .before .before .before .before .before .before .pre) (c .before .before .loop .inv .0) (c .if1 .left)
 

@@ -1,6 +1,4 @@
-use denote.Ref.{now}
-use mathlib.Core.Path.{refl, sym, _∙_, ap}
-use mathlib.Core.Path.{_≡_}
+use mathlib.Core.Path.{refl, _∙_, _≡_}
 use Prim.Native.Nat.{_≤_, _-_}
 use native.Mathlib.Numerals.{add-one}
 use lib.ListN.{length}
@@ -11,10 +9,6 @@ use borrow.Author.Needs.{needs}
 use native.Mathlib.Omega.{arith}
 use Rattle.weights.proofs.up.pass_all.Statement.{statement}
 use Rattle.weights.proofs.up.pass_all.Tie as tie
-use Rattle.weights.proofs.up.pass_all.Reads as reads
-use Rattle.weights.proofs.up.pass_all.Lts as lts
-use Rattle.weights.proofs.up.begin.Reads as begin-reads
-use Rattle.weights.proofs.up.level.Reads as level-reads
 
 abbrev Inv-loop : tie.InvT-loop
 Inv-loop words heads room output₀ nodes vars c₀ output c = Passed words output₀ output c (size words) × (c ≤ vars) × (length output ≡ length output₀)
@@ -22,35 +16,27 @@ Inv-loop words heads room output₀ nodes vars c₀ output c = Passed words outp
 abbrev μ-loop : tie.MeasureT-loop
 μ-loop words heads room output₀ nodes vars c₀ output c = vars - c
 
--- src/up.rt:79:5
 begin-requires : tie.Need-begin-requires Inv-loop μ-loop
 begin-requires c κs = (c .before .before .before .before .before .pre .given, c .before .before .before .before .before .pre .long)
 
--- src/up.rt:81:5
 loop-holds : tie.Need-loop-holds Inv-loop μ-loop
 loop-holds c = (passed-self (c .before .before .begin .ensures), omega arith, refl)
 
--- src/up.rt:82:9
 level-requires : tie.Need-level-requires Inv-loop μ-loop
 level-requires c κs = all-up (c .before .before .before .before .before .before .before .before .before .before .before .pre) (c .before .loop-test .taken) (c .before .before .loop .inv .0)
 
--- src/up.rt:83:9
 add-c : tie.Need-add-c Inv-loop μ-loop
 add-c c = search needs
 
--- src/up.rt:81:5
 loop-less : tie.Need-loop-less Inv-loop μ-loop
 loop-less c = search needs
 
--- src/up.rt:81:5
 loop-again : tie.Need-loop-again Inv-loop μ-loop
 loop-again c = (rw add-one (passed-join (c .before .before .before .before .before .loop .inv .0) (c .before .before .level .ensures)), omega arith, c .before .before .level .kept .1 .1 .1 .0 ∙ c .before .before .before .before .before .loop .inv .2)
 
--- src/up.rt:75:1
 same-length : tie.Need-same-length Inv-loop μ-loop
 same-length c = c .before .loop .inv .2 ∙ c .before .before .before .before .begin .kept .1 .0
 
--- src/up.rt:75:1
 returns : tie.Need-returns Inv-loop μ-loop
 returns c =
     let e : c .before .loop .c ≡ c .before .before .before .before .before .before .before .before .before .before .args .vars = omega (arith, c .before .loop .inv .1) in

@@ -1,56 +1,36 @@
-use denote.Ref.{now}
-use mathlib.Core.Path.{refl, sym, _∙_, ap}
 use Rattle.weights.proofs.Ascent.{turn-in, turn-weight, turn-low, turn-high, turn-done}
 use native.Mathlib.Omega.{arith}
 use borrow.Author.Needs.{needs}
 use Rattle.weights.proofs.up.pass_on.Statement.{statement}
 use Rattle.weights.proofs.up.pass_on.Tie as tie
-use Rattle.weights.proofs.up.pass_on.Reads as reads
-use Rattle.weights.proofs.up.pass_on.Lts as lts
-use Rattle.diagram.proofs.node.high_link_of.Reads as high-link-of-reads
-use Rattle.diagram.proofs.node.low_link_of.Reads as low-link-of-reads
-use Rattle.naturals.proofs.multiply.Reads as multiply-reads
-use Rattle.weights.proofs.tables.count_at.Reads as count-at-reads
-use Rattle.weights.proofs.tables.note.Reads as note-reads
-use Rattle.weights.proofs.up.give.Reads as give-reads
 
--- src/up.rt:43:9
 count-at-requires : tie.Need-count-at-requires
 count-at-requires c κs = turn-in (c .before .before .before .before .pre) .0
 
--- src/up.rt:44:37
 count-at-requires-2 : tie.Need-count-at-requires-2
 count-at-requires-2 c κs = turn-in (c .before .before .before .before .before .pre) .1
 
--- src/up.rt:44:9
 multiply-requires : tie.Need-multiply-requires
 multiply-requires c κs = search needs
 
--- src/up.rt:45:5
 note-requires : tie.Need-note-requires
 note-requires c κs = turn-in (c .before .before .before .before .before .before .before .before .pre) .0
 
--- src/up.rt:46:9
 low-link-of-requires : tie.Need-low-link-of-requires
 low-link-of-requires c κs = search needs
 
--- src/up.rt:47:9
 high-link-of-requires : tie.Need-high-link-of-requires
 high-link-of-requires c κs = search needs
 
--- src/up.rt:48:5
 give-requires : tie.Need-give-requires
 give-requires c κs = turn-low (c .before .before .before .before .before .before .before .before .before .before .before .before .before .before .pre) (c .before .before .before .before .before .note .ensures _ (turn-weight (c .before .before .before .before .before .before .before .before .before .before .before .before .before .before .pre) (c .before .before .before .before .before .before .before .before .before .count-at .ensures) (c .before .before .before .before .before .before .before .before .count-at2 .ensures) (c .before .before .before .before .before .before .before .multiply .ensures))) (c .before .before .before .before .before .before .before .before .before .count-at .ensures) (c .before .before .low-link-of .result .0) (c .before .before .low-link-of .ensures)
 
--- src/up.rt:49:5
 give-requires-2 : tie.Need-give-requires-2
 give-requires-2 c κs = turn-high (c .before .before .before .before .before .before .before .before .before .before .before .before .before .before .before .before .before .before .pre) (c .before .before .before .before .before .before .before .before .before .note .ensures _ (turn-weight (c .before .before .before .before .before .before .before .before .before .before .before .before .before .before .before .before .before .before .pre) (c .before .before .before .before .before .before .before .before .before .before .before .before .before .count-at .ensures) (c .before .before .before .before .before .before .before .before .before .before .before .before .count-at2 .ensures) (c .before .before .before .before .before .before .before .before .before .before .before .multiply .ensures))) (c .before .before .before .before .before .before .before .before .before .before .before .before .before .count-at .ensures) (c .before .before .before .before .before .before .low-link-of .result .0) (c .before .before .before .before .before .before .low-link-of .ensures) (c .before .before .before .give .ensures) (c .before .before .before .before .before .high-link-of .result .0) (c .before .before .before .before .before .high-link-of .ensures)
 
--- src/up.rt:39:1
 same-length : tie.Need-same-length
 same-length c = search needs
 
--- src/up.rt:39:1
 returns : tie.Need-returns
 returns c = turn-done (c .before .before .before .before .before .before .before .before .before .before .before .before .before .before .before .before .before .before .before .before .before .pre) (c .before .before .before .before .before .before .before .before .before .before .before .before .note .ensures _ (turn-weight (c .before .before .before .before .before .before .before .before .before .before .before .before .before .before .before .before .before .before .before .before .before .pre) (c .before .before .before .before .before .before .before .before .before .before .before .before .before .before .before .before .count-at .ensures) (c .before .before .before .before .before .before .before .before .before .before .before .before .before .before .before .count-at2 .ensures) (c .before .before .before .before .before .before .before .before .before .before .before .before .before .before .multiply .ensures))) (c .before .before .before .before .before .before .before .before .before .before .before .before .before .before .before .before .count-at .ensures) (c .before .before .before .before .before .before .before .before .before .low-link-of .result .0) (c .before .before .before .before .before .before .before .before .before .low-link-of .ensures) (c .before .before .before .before .before .before .give .ensures) (c .before .before .before .before .before .before .before .before .high-link-of .result .0) (c .before .before .before .before .before .before .before .before .high-link-of .ensures) (c .before .before .give2 .ensures)
 

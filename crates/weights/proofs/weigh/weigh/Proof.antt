@@ -1,5 +1,5 @@
 use denote.Ref.{now}
-use mathlib.Core.Path.{refl, sym, _∙_, ap}
+use mathlib.Core.Path.{refl, _∙_}
 use Rattle.diagram.proofs.Words.{zeros-whole}
 use Rattle.weights.proofs.Descent.{heads-all}
 use Rattle.weights.proofs.Ascent.{weigh-done}
@@ -7,60 +7,40 @@ use native.Mathlib.Omega.{arith}
 use borrow.Author.Needs.{needs}
 use Rattle.weights.proofs.weigh.weigh.Statement.{statement}
 use Rattle.weights.proofs.weigh.weigh.Tie as tie
-use Rattle.weights.proofs.weigh.weigh.Reads as reads
-use Rattle.weights.proofs.weigh.weigh.Lts as lts
-use Rattle.diagram.proofs.room.clear.Reads as clear-reads
-use Rattle.naturals.proofs.zero.Reads as zero-reads
-use Rattle.weights.proofs.chains.link.Reads as link-reads
-use Rattle.weights.proofs.down.count_all.Reads as count-all-reads
-use Rattle.weights.proofs.tables.note.Reads as note-reads
-use Rattle.weights.proofs.up.pass_all.Reads as pass-all-reads
 
--- src/weigh.rt:24:17
 slice-aggregate-link : tie.Need-slice-aggregate-link
 slice-aggregate-link c = search needs
 
--- src/weigh.rt:24:5
 link-requires : tie.Need-link-requires
 link-requires c κs = (c .before .before .before .before .before .pre .0, refl, omega (arith, c .before .before .before .before .before .pre .3))
 
--- src/weigh.rt:25:22
 slice-aggregate-count-all : tie.Need-slice-aggregate-count-all
 slice-aggregate-count-all c = search needs
 
--- src/weigh.rt:25:5
 count-all-requires : tie.Need-count-all-requires
 count-all-requires c κs = (c .before .before .before .before .before .before .before .before .before .before .before .pre .0, c .before .before .before .before .before .link .ensures, omega (arith, c .before .before .before .before .before .before .before .before .before .before .before .pre .3, c .before .before .before .before .before .link .kept .1 .1 .0), c .before .before .before .before .before .before .before .before .before .before .before .pre .1)
 
--- src/weigh.rt:26:21
 slice-aggregate-pass-all : tie.Need-slice-aggregate-pass-all
 slice-aggregate-pass-all c = search needs
 
--- src/weigh.rt:26:5
 pass-all-requires : tie.Need-pass-all-requires
 pass-all-requires c κs = record { given = c .before .before .before .before .before .before .before .before .before .before .before .before .before .before .before .before .before .pre .0; variables = c .before .before .before .before .before .before .before .before .before .before .before .before .before .before .before .before .before .pre .1; head = heads-all (c .before .before .before .before .before .before .before .before .before .before .before .before .before .before .before .before .before .pre .0) (c .before .before .before .before .before .before .before .before .before .before .before .link .ensures); sated = c .before .before .before .before .before .count-all .ensures; long = c .before .before .before .before .before .before .before .before .before .before .before .before .before .before .before .before .before .pre .2 }
 
--- src/weigh.rt:27:36
 zero-requires : tie.Need-zero-requires
 zero-requires c κs = search needs
 
--- src/weigh.rt:27:5
 note-requires : tie.Need-note-requires
 note-requires c κs = omega (arith, c .before .before .before .before .before .before .before .before .before .before .before .before .before .before .before .before .before .before .before .before .before .before .pre .2, c .before .before .before .before .before .before .before .before .before .before .before .before .before .before .before .before .before .before .before .before .before .before .pre .0 .two, c .before .before .before .before .pass-all .kept .1 .1 .1 .0)
 
--- src/weigh.rt:29:5
 clear-requires : tie.Need-clear-requires
 clear-requires c κs = search needs
 
--- src/weigh.rt:19:1
 same-length : tie.Need-same-length
 same-length c = c .before .before .before .before .before .before .note .kept .0 ∙ c .before .before .before .before .before .before .before .before .before .before .before .pass-all .kept .1 .1 .1 .0
 
--- src/weigh.rt:19:1
 same-length-2 : tie.Need-same-length-2
 same-length-2 c = c .before .before .clear .kept .0 ∙ c .before .before .before .before .before .before .before .before .before .before .before .before .before .before .before .before .before .count-all .kept .1 .1 .0 ∙ c .before .before .before .before .before .before .before .before .before .before .before .before .before .before .before .before .before .before .before .before .before .before .before .link .kept .1 .1 .0
 
--- src/weigh.rt:19:1
 returns : tie.Need-returns
 returns c = (weigh-done (c .before .before .before .before .before .before .before .before .before .before .before .before .before .before .before .before .before .before .before .before .before .before .before .before .before .before .before .before .before .pre .0) (c .before .before .before .before .before .before .before .before .before .before .before .before .before .before .before .before .before .before .before .before .before .before .before .before .before .before .before .before .before .pre .1) (c .before .before .before .before .before .before .before .before .before .before .before .pass-all .ensures) (c .before .before .before .before .before .before .before .before .before .before .before .pass-all .kept .1 .1 .1 .0) (c .before .before .before .before .before .before .note .ensures 0 (c .before .before .before .before .before .before .before .zero .ensures)), c .before .before .clear .ensures ∙ zeros-whole (c .before .before .before .before .before .before .before .before .before .before .before .before .before .before .before .before .before .count-all .last .1 .1 .0) (now (c .before .before .before .before .before .before .before .before .before .before .before .before .before .before .before .before .before .before .before .before .before .before .before .before .before .before .before .before .before .args .room)) (c .before .before .before .before .before .before .before .before .before .before .before .before .before .before .before .before .before .count-all .kept .1 .1 .0 ∙ c .before .before .before .before .before .before .before .before .before .before .before .before .before .before .before .before .before .before .before .before .before .before .before .link .kept .1 .1 .0))
 
