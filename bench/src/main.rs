@@ -155,18 +155,19 @@ fn print(rows: &[Row]) {
         }
         let clear = least(row.clear);
         let first = &rows[i + 1 - SIZES.len().min(i + 1)];
-        let growth = |f: fn(&Row) -> f64| format!("{:.1}", f(row) / f(first));
-        let rust_growth = growth(|r| least(r.rust));
-        let (ours, rest, ratio, to_clear, ours_growth) = match row.ours {
-            None => ("".into(), "".into(), "".into(), "".into(), "".into()),
-            Some(x) => {
-                let x = least(x);
-                let all = growth(|r| least(r.ours.unwrap()));
-                let rest = growth(|r| least(r.ours.unwrap()) - least(r.clear));
-                (ns(x), ns(x - clear), format!("{:.2}", x / least(row.rust)), format!("{:.2}", x / clear), format!(", {all}, {rest}"))
-            }
+        let growth = |f: fn(&Row) -> f64| match row.nodes == last {
+            true => format!("{:.1}", f(row) / f(first)),
+            false => "".into(),
         };
-        let growth = if row.nodes == last { format!("{rust_growth}{ours_growth}") } else { "".into() };
+        let mut growths = vec![growth(|r| least(r.rust))];
+        let [mut ours, mut rest, mut ratio, mut to_clear] = [const { String::new() }; 4];
+        if let Some(x) = row.ours.map(least) {
+            (ours, rest) = (ns(x), ns(x - clear));
+            (ratio, to_clear) = (format!("{:.2}", x / least(row.rust)), format!("{:.2}", x / clear));
+            growths.push(growth(|r| r.ours.map_or(0.0, least)));
+            growths.push(growth(|r| r.ours.map_or(0.0, least) - least(r.clear)));
+        }
+        let growth = if row.nodes == last { growths.join(", ") } else { "".into() };
         println!(
             "| {} ({}) | {} | {} | {ours} | {} | {rest} | {ratio} | {to_clear} | {growth} |",
             row.family, row.vars, row.nodes, ns(least(row.rust)), ns(clear)

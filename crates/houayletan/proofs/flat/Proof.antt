@@ -1,11 +1,10 @@
+-- `houayletan::flat` meets its contract.
 use mathlib.Core.Path.{ap, sym}
 use borrow.Author.Needs.{needs}
 use Rattle.diagram.specs.Verdict.{said}
 use Rattle.houayletan.specs.Flat.{flatOf}
 use Rattle.houayletan.proofs.flat.Statement.{statement}
 use Rattle.houayletan.proofs.flat.Tie as tie
-use Rattle.houayletan.proofs.flat.Reads as reads
-use Rattle.houayletan.proofs.flat.Lts as lts
 
 enum-known-verdict : tie.Need-enum-known-verdict
 enum-known-verdict c = search needs

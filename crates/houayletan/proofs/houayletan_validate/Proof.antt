@@ -1,12 +1,9 @@
+-- `houayletan::houayletan_validate` meets its contract.
 use mathlib.Core.Path.{ap, _∙_}
 use borrow.Author.Needs.{needs}
 use Rattle.houayletan.specs.Flat.{flatOf}
 use Rattle.houayletan.proofs.houayletan_validate.Statement.{statement}
 use Rattle.houayletan.proofs.houayletan_validate.Tie as tie
-use Rattle.houayletan.proofs.houayletan_validate.Reads as reads
-use Rattle.houayletan.proofs.houayletan_validate.Lts as lts
-use Rattle.diagram.proofs.validate.validate.Reads as validate-reads
-use Rattle.houayletan.proofs.flat.Reads as flat-reads
 
 validate-requires : tie.Need-validate-requires
 validate-requires c κs = search needs
