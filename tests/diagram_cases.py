@@ -62,6 +62,7 @@ def cases():
     yield exact([256, 0, 0])
     yield exact(terminals(255))
     yield exact(terminals(256))
+    yield exact(terminals(256) + [300, 9, 9])           # 7 comes before 8
     yield [], 128, 7                                    # 1
     yield [], 0, 7
     for k in (1, 2, 4, 5, 13, 14, 16):                  # 2
