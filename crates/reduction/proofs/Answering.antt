@@ -8,7 +8,7 @@ use native.Mathlib.Omega.{arith}
 use native.Mathlib.Decide.{decLt}
 use borrow.Author.Tests.{ltb-false}
 use lib.ListN.{length, getD, set, take, drop, replicate, length-set, length-append, length-drop, length-replicate, take-append-drop, List·getD-append}
-use lib.Seq.{getD-set-same, getD-set-other, getD-drop, getD-append-add, ext-getD, length-take-le}
+use lib.Seq.{getD-set-same, getD-set-other, getD-take, getD-drop, getD-append-add, ext-getD, length-take-le}
 use Rattle.diagram.specs.Limits.{maxNodes}
 use Rattle.diagram.specs.Diagram.{size, vars, root}
 use Rattle.diagram.specs.Verdict.{Outcome, accepted, refused, said, andThen, ifAccepted, most as most-of, roomOf, short, lengthsOf, contentsOf, verdictOf, cleared, roomAfter, Checked}
@@ -21,7 +21,7 @@ use Rattle.diagram.proofs.Meaning.{Admitted, verdict-accepted}
 use Rattle.reduction.specs.Reduce.{Node, words, Built, terminals, reduce}
 use Rattle.reduction.specs.Build.{own}
 use Rattle.reduction.specs.Answer.{Answer}
-use Rattle.reduction.specs.Room.{keyOf, memoIn, wordIn, nextIn, headIn, storeIn, On, Walking, Walked, started, Copied, Lent, Answered}
+use Rattle.reduction.specs.Room.{keyOf, memoIn, wordIn, nextIn, headIn, storeIn, On, Walking, Walked, started, Copied, Asked, Shelved, Lent, Answered}
 use Rattle.reduction.proofs.Store.{length-words, size-words}
 use Rattle.reduction.proofs.Graph.{own-means, reduce-is}
 use Rattle.reduction.proofs.Fewest.{store-fits}
@@ -102,7 +102,7 @@ zeros-again k r s same fits none kept =
 
 -- ---- the whole
 
-module _ {w r out : List ℕ} {n v : ℕ} (a : Lent w r out n v) {m : ℕ} (is-m : m ≡ max n 2) where
+module _ {w r : List ℕ} {n v : ℕ} (a : Asked w r n v) {m : ℕ} (is-m : m ≡ max n 2) where
   most : m ≡ max (size w) 2
   most = is-m ∙ ap (λ (k : ℕ). max k 2) (a .is-size)
 
@@ -155,11 +155,8 @@ module _ {w r out : List ℕ} {n v : ℕ} (a : Lent w r out n v) {m : ℕ} (is-m
       pub answer-small : x < m
       answer-small = let place = walk-place (walk-start is-p) in let e = walked .is-pointer in omega arith
 
-      pub answer-fits : 3 * (x + 1) ≤ length out
-      answer-fits = let small = answer-small in let e = most in let fits = a .output in omega arith
-
-      -- c nodes are copied, and the tables cleared.
-      module _ {c : ℕ} (is-c : c ≡ x + 1) {out′ : List ℕ} (kept : length out′ ≡ length out) (copied : Copied t m out out′ (3 * c)) where
+      -- c nodes stand in the room.
+      module _ {c : ℕ} (is-c : c ≡ x + 1) where
         store : List Node
         store = own w (vars w) p (storeIn m s 2) .store
 
@@ -184,24 +181,71 @@ module _ {w r out : List ℕ} {n v : ℕ} (a : Lent w r out n v) {m : ℕ} (is-m
         result-length : length (reduce w) ≡ 3 * c
         result-length = ap length (sym result) ∙ length-words (take c store) ∙ ap (λ (k : ℕ). 3 * k) (length-take-le c store in-store)
 
-        front : take (3 * c) out′ ≡ reduce w
-        unfolding store
-        front =
-            let fits = answer-fits in
-            take-words (own w (vars w) p (storeIn m s 2) .store) (wordIn m t) (walked .on .bench .held) out′ c in-store (omega arith) (copied .first)
-            ∙ result
+        module _ (same : length t ≡ length r) where
+          stored : take (3 * c) (drop m t) ≡ reduce w
+          unfolding store
+          stored =
+              let small = answer-small in
+              let is-most = most in
+              let long = a .long in
+              let rest = length-drop m t in
+              take-words (own w (vars w) p (storeIn m s 2) .store) (wordIn m t) (walked .on .bench .held) (drop m t) c in-store (omega arith)
+              (λ j h. getD-drop m t j 0)
+              ∙ result
 
-        pub answer-ends : length t ≡ length r → {u : List ℕ} → u ≡ replicate (min (6 * m) (length t)) 0 ++ drop (6 * m) t → Answered w r out u out′ c
-        answer-ends same e =
-            let is-most = most in
-            let long = a .long in
-            record {
-              count = sym result-nodes;
-              room = e ∙ zeros-again (6 * m) r t same (omega arith) (λ j h. a .zero j (omega arith)) (λ j far.
-                  walked .beyond j far ∙ ap (λ (l : List ℕ). getD l j 0) is-s
-                  ∙ started-other m r v j (λ z. omega arith) (λ z. omega arith) (λ z. omega arith) (λ z. omega arith));
-              output = sym (take-append-drop (3 * c) out′) ∙ (rw (front, copied .rest, result-length) refl);
-            }
+          pub make-ends : Shelved w r t c
+          make-ends =
+              let small = answer-small in
+              let is-most = most in
+              record {
+                count = sym result-nodes;
+                words = result-length;
+                fits = omega arith;
+                kept = same;
+                store = ap (λ (k : ℕ). take (3 * c) (drop k t)) (sym most) ∙ stored;
+                beyond = λ j far.
+                    walked .beyond j (omega arith) ∙ ap (λ (l : List ℕ). getD l j 0) is-s
+                    ∙ started-other m r v j (λ z. omega arith) (λ z. omega arith) (λ z. omega arith) (λ z. omega arith);
+              }
+
+-- Words that were copied, as lists.
+pub copied-front : {r before after : List ℕ} {from k : ℕ} → Copied r from before after k → k ≤ length after → from + k ≤ length r
+    → take k after ≡ take k (drop from r)
+copied-front {r} {before} {after} {from} {k} c fits room =
+    let rest = length-drop from r in
+    let there : k ≤ length (drop from r) = omega arith in
+    ext-getD 0 (take k after) (take k (drop from r)) (length-take-le k after fits ∙ sym (length-take-le k (drop from r) there))
+    (λ j h.
+    let inside : j < k = rw (length-take-le k after fits) at h in
+    rw (getD-take k after j 0 inside, getD-take k (drop from r) j 0 inside, getD-drop from r j 0) (c .first j inside))
+
+-- The made words are copied, and the tables cleared.
+module _ {w r out : List ℕ} {n v : ℕ} (lent : Lent w r out n v) {m : ℕ} (is-m : m ≡ max n 2) {t : List ℕ} {c : ℕ} (made : Shelved w r t c) where
+  pub answer-fits : 3 * c ≤ length out
+  answer-fits = let fits = made .fits in let room = lent .output in omega arith
+
+  pub answer-few : c ≤ maxNodes
+  answer-few = let fits = made .fits in let e = most (lent .asked) is-m in let few = lent-few (lent .asked) is-m in omega arith
+
+  module _ {out′ : List ℕ} (kept : length out′ ≡ length out) (copied : Copied t m out out′ (3 * c)) where
+    front : take (3 * c) out′ ≡ reduce w
+    front =
+        let fits = answer-fits in
+        let few = made .fits in
+        let e = most (lent .asked) is-m in
+        let long = lent .asked .long in
+        let same = made .kept in
+        copied-front copied (omega arith) (omega arith) ∙ ap (λ (k : ℕ). take (3 * c) (drop k t)) e ∙ made .store
+
+    pub answer-ends : {u : List ℕ} → u ≡ replicate (min (6 * m) (length t)) 0 ++ drop (6 * m) t → Answered w r out u out′ c
+    answer-ends e =
+        let is-most = most (lent .asked) is-m in
+        let long = lent .asked .long in
+        record {
+          count = made .count;
+          room = e ∙ zeros-again (6 * m) r t (made .kept) (omega arith) (λ j h. lent .asked .zero j (omega arith)) (λ j far. made .beyond j (omega arith));
+          output = sym (take-append-drop (3 * c) out′) ∙ (rw (front, copied .rest, made .words) refl);
+        }
 
 -- ---- after the check
 
@@ -236,11 +280,13 @@ module _ {w before after : List ℕ} (out : List ℕ) {r : Verdict} (checked : C
         let left : after ≡ cleared w before = checked .left ∙ room-cleared w (Diagram (length out)) before n v told-accepted in
         let fits = told .fits in
         rw left (record {
-          ordered = accepted-ordered w (told .accepted);
-          is-size = told .nodes;
-          is-vars = told .variables;
-          long = simp (length-append, length-drop, length-replicate) (omega arith);
-          zero = λ j h. List·getD-append (replicate (roomOf w) 0) (drop (roomOf w) before) 0 j (simp length-replicate (omega arith)) ∙ zero-at (roomOf w) j;
+          asked = record {
+            ordered = accepted-ordered w (told .accepted);
+            is-size = told .nodes;
+            is-vars = told .variables;
+            long = simp (length-append, length-drop, length-replicate) (omega arith);
+            zero = λ j h. List·getD-append (replicate (roomOf w) 0) (drop (roomOf w) before) 0 j (simp length-replicate (omega arith)) ∙ zero-at (roomOf w) j;
+          };
           output = lent-enough w (length out) (told .lent);
         })
 

@@ -6,7 +6,7 @@ use Prim.Native.Nat.{ℕ, _+_, _*_, _/_, _%_, _≤_, _<_, max}
 use mathlib.Core.Path.{_≡_}
 use mathlib.Core.Logic.{_≢_}
 use mathlib.Core.List.{List, _++_}
-use lib.ListN.{length, getD, set, drop}
+use lib.ListN.{length, getD, set, take, drop}
 use Rattle.diagram.specs.Limits.{maxNodes}
 use Rattle.diagram.specs.Diagram.{size, vars, Ordered}
 use Rattle.reduction.specs.Reduce.{Node, node, find, built, join, reduce}
@@ -99,13 +99,26 @@ pub record Copied (r : List ℕ) (from : ℕ) (before after : List ℕ) (k : ℕ
   pub first : (j : ℕ) → j < k → getD after j 0 ≡ getD r (from + j) 0
   pub rest : drop k after ≡ drop k before
 
--- Everything is there to reduce an ordered array.
-pub record Lent (w r out : List ℕ) (n v : ℕ) : Type 0 where
+-- Everything is there to build the reduced diagram of an ordered array.
+pub record Asked (w r : List ℕ) (n v : ℕ) : Type 0 where
   pub ordered : Ordered w
   pub is-size : n ≡ size w
   pub is-vars : v ≡ vars w
   pub long : 6 * max (size w) 2 ≤ length r
   pub zero : (j : ℕ) → j < 6 * max (size w) 2 → getD r j 0 ≡ 0
+
+-- It stands in the room behind the memo; beyond the tables the room is as it was.
+pub record Shelved (w r after : List ℕ) (k : ℕ) : Type 0 where
+  pub count : k ≡ size (reduce w)
+  pub words : length (reduce w) ≡ 3 * k
+  pub fits : k ≤ max (size w) 2
+  pub kept : length after ≡ length r
+  pub store : take (3 * k) (drop (max (size w) 2) after) ≡ reduce w
+  pub beyond : (j : ℕ) → 6 * max (size w) 2 ≤ j → getD after j 0 ≡ getD r j 0
+
+-- Everything is there to reduce an ordered array.
+pub record Lent (w r out : List ℕ) (n v : ℕ) : Type 0 where
+  pub asked : Asked w r n v
   pub output : 3 * max (size w) 2 ≤ length out
 
 -- The reduced diagram stands in the output, and the room is as it was.

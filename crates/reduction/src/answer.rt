@@ -8,8 +8,8 @@ use diagram::room::put;
 ghost use mathlib.Core.Path.{_≡_};
 ghost use Prim.Native.Nat.{_+_, _*_, _≤_};
 ghost use lib.ListN.{length};
-ghost use Rattle.diagram.specs.Limits.{maxNodes};
-ghost use Rattle.reduction.specs.Room.{started, Copied, Lent, Answered};
+ghost use Rattle.diagram.specs.Limits.{maxNodes, roomPerNode};
+ghost use Rattle.reduction.specs.Room.{started, Copied, Asked, Shelved, Lent, Answered};
 
 // Writes the terminals' words to a room that is zero.
 fn start(room: &mut [u32], most: usize, vars: u32)
@@ -23,8 +23,8 @@ fn start(room: &mut [u32], most: usize, vars: u32)
 }
 
 // Copies `count` words of the room, from a place on, to the output.
-fn copy(room: &[u32], from: usize, output: &mut [u32], count: usize)
-    requires { ⌜ (from ≤ maxNodes) × (count ≤ length (now output)) ⌝ }
+pub fn copy(room: &[u32], from: usize, output: &mut [u32], count: usize)
+    requires { ⌜ (from ≤ roomPerNode * maxNodes) × (count ≤ length (now output)) ⌝ }
     ensures { λ _. ⌜ Copied (now (room .entry)) from (now (output .entry)) (now (output .exit)) count ⌝ }
 {
     let mut i = 0;
@@ -34,7 +34,19 @@ fn copy(room: &[u32], from: usize, output: &mut [u32], count: usize)
     }
 }
 
-// Reduces an accepted diagram in a room that is zero, and gives the number of nodes.
+// Builds the reduced diagram of an ordered array in a room that is zero, and gives its number of nodes. Its words stand
+// behind the memo.
+pub fn make(words: &[u32], room: &mut [u32], nodes: usize, vars: u32) -> usize
+    requires { ⌜ Asked (now words) (now room) nodes vars ⌝ }
+    ensures { λ r. ⌜ Shelved (now (words .entry)) (now (room .entry)) (now (room .exit)) r ⌝ }
+{
+    let most = most(nodes);
+    start(room, most, vars);
+    let made = build(words, room, most, 2, BddPointer((nodes - 1) as u32));
+    made.pointer.to_index() + 1
+}
+
+// Reduces an ordered array in a room that is zero, and gives the number of nodes.
 pub(crate) fn answer(
     words: &[u32],
     room: &mut [u32],
@@ -46,9 +58,7 @@ pub(crate) fn answer(
     ensures { λ r. ⌜ Answered (now (words .entry)) (now (room .entry)) (now (output .entry)) (now (room .exit)) (now (output .exit)) r ⌝ }
 {
     let most = most(nodes);
-    start(room, most, vars);
-    let made = build(words, room, most, 2, BddPointer((nodes - 1) as u32));
-    let count = made.pointer.to_index() + 1;
+    let count = make(words, room, nodes, vars);
     copy(room, most, output, 3 * count);
     clear(room, 6 * most);
     count

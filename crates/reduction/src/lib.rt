@@ -1,5 +1,5 @@
 // Reduction: the diagram with the fewest nodes that stands for the same function.
-mod answer;
+pub mod answer;
 pub mod reduce;
 mod shelf;
 mod walk;
