@@ -64,11 +64,15 @@ module _ (f : ℕ → ℕ) (w : List ℕ) where
   pub relinked-high : (p : ℕ) → 2 ≤ p → 3 * p + 2 < length w → highOf (relinked f w) p ≡ f (highOf w p)
   relinked-high p two h = sent (3 * p + 2) (omega arith) (omega arith) (omega arith)
 
+  -- The terminals' links stay.
+  pub relinked-ends : (p : ℕ) → p < 2 → (lowOf (relinked f w) p ≡ lowOf w p) × (highOf (relinked f w) p ≡ highOf w p)
+  relinked-ends p h = (kept (3 * p + 1) (simp (lt-ltb (3 * p + 1) 6 (omega arith))), kept (3 * p + 2) (simp (lt-ltb (3 * p + 2) 6 (omega arith))))
+
   relinked-terminal : (p : ℕ) → p < 2 → Terminal w p → Terminal (relinked f w) p
   relinked-terminal p t e = record {
     var = rw (relinked-var p, relinked-var 0) (e .var);
-    low = rw (kept (3 * p + 1) (simp (lt-ltb (3 * p + 1) 6 (omega arith)))) (e .low);
-    high = rw (kept (3 * p + 2) (simp (lt-ltb (3 * p + 2) 6 (omega arith)))) (e .high);
+    low = rw (relinked-ends p t .0) (e .low);
+    high = rw (relinked-ends p t .1) (e .high);
   }
 
   relinked-formed : Formed w → (2 < size w → (q : ℕ) → q < size w → f q < size w) → Formed (relinked f w)

@@ -34,5 +34,17 @@ pub const BROKEN_ORDER: u32 = 11;
 // A node is unreachable.
 pub const UNREACHABLE: u32 = 12;
 
+// A listed pointer names no node.
+pub const BAD_POINTER: u32 = 13;
+
+// A terminal is listed and the root isn't.
+pub const LISTED_TERMINAL: u32 = 14;
+
 // The weights of the diagram of one node.
 pub const WEIGHTS_OF_FALSE: u32 = 15;
+
+// The target count of an overapproximation is above 2^v.
+pub const COUNT_TOO_LARGE: u32 = 16;
+
+// The target count lies strictly between 0 and 2^v, and the diagram is a constant that can't be cut to it.
+pub const NOTHING_TO_CUT: u32 = 19;

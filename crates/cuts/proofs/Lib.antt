@@ -1,0 +1,7 @@
+-- Laws of the code that cuts by marks and by a list.
+--     Marking    marks in the working room
+--     Sending    the copy with sent links
+--     Steps      what the small steps of the code give
+pub mod Marking
+pub mod Sending
+pub mod Steps

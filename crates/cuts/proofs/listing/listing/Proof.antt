@@ -1,0 +1,59 @@
+use native.Mathlib.Omega.{arith}
+use borrow.Author.Needs.{needs}
+use Rattle.cuts.proofs.listing.listing.Statement.{statement}
+use Rattle.cuts.proofs.listing.listing.Tie as tie
+use Rattle.cuts.proofs.listing.listing.Reads as reads
+use Rattle.cuts.proofs.listing.listing.Lts as lts
+use Rattle.cuts.proofs.listing.first_outside.Reads as first-outside-reads
+use Rattle.cuts.proofs.listing.first_terminal.Reads as first-terminal-reads
+use Rattle.cuts.proofs.listing.lists.Reads as lists-reads
+
+-- src/listing.rt:62:9
+first-outside-requires : tie.Need-first-outside-requires
+first-outside-requires c κs = search needs
+
+-- src/listing.rt:64:9
+returns : tie.Need-returns
+returns c = ?
+
+-- src/listing.rt:69:9
+first-terminal-requires : tie.Need-first-terminal-requires
+first-terminal-requires c κs = search needs
+
+-- src/listing.rt:71:25
+cast-lists : tie.Need-cast-lists
+cast-lists c = search needs
+
+-- src/listing.rt:71:25
+sub-lists : tie.Need-sub-lists
+sub-lists c = search needs
+
+-- src/listing.rt:71:13
+lists-requires : tie.Need-lists-requires
+lists-requires c κs = search needs
+
+-- src/listing.rt:72:13
+returns-2 : tie.Need-returns-2
+returns-2 c = ?
+
+-- src/listing.rt:58:1
+returns-3 : tie.Need-returns-3
+returns-3 c = ?
+
+-- src/listing.rt:58:1
+returns-4 : tie.Need-returns-4
+returns-4 c = ?
+
+pub listing-spec : {M : Type 1} → statement M
+listing-spec =
+    tie.close
+    (tie.spec
+    first-outside-requires
+    returns
+    first-terminal-requires
+    cast-lists
+    sub-lists
+    lists-requires
+    returns-2
+    returns-3
+    returns-4)
