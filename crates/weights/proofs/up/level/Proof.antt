@@ -3,7 +3,6 @@ use lib.ListN.{length}
 use Rattle.weights.specs.Passes.{AtUp}
 use Rattle.weights.proofs.Ascent.{up-begins, up-turns, up-on, up-ends}
 use borrow.Author.Needs.{needs}
-use native.Mathlib.Omega.{arith}
 use Rattle.weights.proofs.up.level.Statement.{statement}
 use Rattle.weights.proofs.up.level.Tie as tie
 

@@ -1,5 +1,4 @@
 use Rattle.weights.proofs.Ascent.{turn-in, turn-weight, turn-low, turn-high, turn-done}
-use native.Mathlib.Omega.{arith}
 use borrow.Author.Needs.{needs}
 use Rattle.weights.proofs.up.pass_on.Statement.{statement}
 use Rattle.weights.proofs.up.pass_on.Tie as tie

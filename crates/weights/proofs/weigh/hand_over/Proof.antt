@@ -1,7 +1,6 @@
 use denote.Ref.{now}
-use mathlib.Core.Path.{_∙_, _≡_}
+use mathlib.Core.Path.{_≡_}
 use Prim.Native.Nat.{_≤_, _-_}
-use lib.ListN.{length}
 use Rattle.weights.specs.Passes.{weightsFrom, Handed}
 use Rattle.weights.proofs.Entries.{hand-begins, hand-on}
 use borrow.Author.Needs.{needs}
