@@ -14,6 +14,7 @@ use Rattle.diagram.proofs.Reading.{Layer, layered, at-end}
 use Rattle.weights.specs.Chains.{Last, Linked, Given, Node}
 use Rattle.weights.specs.Passes.{entry, num, In, Noted, satOf, scaled, Known, Sated, Joining, Descending, AtDown, Parting}
 use Rattle.weights.proofs.Levels.{sat-node, sat-end, sat-most, under-limit}
+use Rattle.weights.proofs.Entries.{entry-kept}
 use Rattle.weights.proofs.Chaining.{known-from, known-begins, known-ends}
 
 pub sated-as : {w room : List ℕ} {c b : ℕ} → Sated w room c b → (d e : ℕ) → ((q : ℕ) → q < size w → Known w d e q → Known w c b q) → Sated w room d e
@@ -25,6 +26,19 @@ sat-fits w o p = let u = o .formed .variables in under-limit (satOf w p) (vars w
 -- the table's place in the room
 pub sated-in : {w room : List ℕ} {c b n : ℕ} → Sated w room c b → n ≡ size w → (q : ℕ) → q < size w → In n room q
 sated-in s e q h = omega (arith, s .long)
+
+-- what is written behind the table leaves links and counts as they are
+pub sated-front : {w room after : List ℕ} {base c b : ℕ} → Sated w room c b → size w + wordCount * size w ≤ base → length after ≡ length room
+    → ((k : ℕ) → k < base → getD after k 0 ≡ getD room k 0) → Sated w after c b
+sated-front {w} {room} {after} s behind same front = record {
+  long = omega (arith, s .long);
+  next = λ p t h. rw (front p (omega arith)) (s .next p t h);
+  right = λ q h k. rw (entry-kept (size w) room after q same (λ i l. front i (omega arith))) (s .right q h k);
+}
+
+pub sated-kept : {w room after : List ℕ} {base q x c b : ℕ} → Sated w room c b → size w + wordCount * size w ≤ base → Noted base room q x after
+    → Sated w after c b
+sated-kept s behind m = sated-front s behind (m .size) (m .before)
 
 -- the terminals' counts are their numbers
 pub sated-start : (w heads : List ℕ) (n : ℕ) → Given w n → {r₀ r₁ r₂ : List ℕ} → Linked w heads r₀ n → n + wordCount * n ≤ length r₀

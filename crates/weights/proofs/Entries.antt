@@ -1,20 +1,21 @@
 -- Tables of counts in lent words.
 use Prim.Native.Nat.{ℕ, _+_, _-_, _*_, _^_, _≤_, _<_, min}
-use mathlib.Core.Path.{_≡_, sym, ap, _∙_}
+use mathlib.Core.Path.{_≡_, refl, sym, ap, _∙_}
 use mathlib.Core.Logic.{_≢_, _⊎_, inl, inr}
 use mathlib.Core.Bool.{Bool}
-use mathlib.Core.List.{List, _++_, append-assoc}
+use mathlib.Core.List.{List, _++_}
 use native.Mathlib.Omega.{arith}
 use native.Mathlib.Decide.{decLt}
-use lib.ListN.{length, take, drop, replicate, length-append, length-drop, length-replicate, replicate-append-replicate}
-use lib.Seq.{ext-getD, getD-drop, drop-at, take-at}
+use lib.ListN.{length, getD, take, drop, length-take, length-drop}
+use lib.Seq.{ext-getD, getD-take, getD-drop, take-append-le, drop-append-le, drop-drop}
 use lib.Dec.{leb}
 use Rattle.naturals.specs.Natural.{value, limit, wordCount, Holds, Answers, Fitted, Stores}
 use Rattle.naturals.specs.declared.Fit.{Fit}
-use Rattle.naturals.proofs.Answer.{holds-zero, fitted-below}
+use Rattle.naturals.proofs.Answer.{fitted-below}
 use Rattle.naturals.proofs.Place.{stored-after, stored-before, stores-length, stores-holds, stores-apart, loads-inside}
 use Rattle.diagram.specs.Diagram.{varOf}
-use Rattle.weights.specs.Passes.{entry, num, In, Noted, scaled}
+use Rattle.diagram.proofs.Tests.{by-eq}
+use Rattle.weights.specs.Passes.{entry, num, In, Noted, scaled, Emptied, Handed}
 
 -- two entries stand apart
 apart : (base r q : ℕ) → r ≢ q → (base + wordCount * r + wordCount ≤ base + wordCount * q) ⊎ (base + wordCount * q + wordCount ≤ base + wordCount * r)
@@ -34,32 +35,61 @@ noted base s q {words} {after} {done} inside r x h =
           (λ i k. rw (getD-drop m after i 0, getD-drop m s i 0, r .left) (stored-after s (base + wordCount * q) words e (m + i) (omega arith)));
     }
 
--- after the first n entries are cleared each of them is zero
-zeros-split : (a b : ℕ) → a ≤ b → replicate {A = ℕ} b 0 ≡ replicate a 0 ++ replicate (b - a) 0
-zeros-split a b l =
-    let e : a + (b - a) ≡ b = omega arith in
-    sym (replicate-append-replicate {A = ℕ} a (b - a) 0 ∙ ap (λ (k : ℕ). replicate k 0) e)
+-- words that are as they were, in an entry
+pub entry-kept : (base : ℕ) (s after : List ℕ) (q : ℕ) → length after ≡ length s
+    → ((k : ℕ) → k < base + wordCount * q + wordCount → getD after k 0 ≡ getD s k 0) → entry base after q ≡ entry base s q
+entry-kept base s after q same front =
+    ext-getD 0 (entry base after q) (entry base s q)
+    (long after ∙ ap (λ (n : ℕ). min wordCount (n - (base + wordCount * q))) same ∙ sym (long s))
+    (λ i h.
+    let l : i < wordCount = omega (arith, long after) in
+    at after i l ∙ front (base + wordCount * q + i) (omega arith) ∙ sym (at s i l))
+  where
+    long : (l : List ℕ) → length (entry base l q) ≡ min wordCount (length l - (base + wordCount * q))
+    long l = length-take wordCount (drop (base + wordCount * q) l) ∙ ap (λ (n : ℕ). min wordCount n) (length-drop (base + wordCount * q) l)
 
-pub zero-entry : (n : ℕ) (s after : List ℕ) → wordCount * n ≤ length s → after ≡ replicate (min (wordCount * n) (length s)) 0 ++ drop (wordCount * n) s
-    → (q : ℕ) → q < n → Holds 0 (entry 0 after q)
-zero-entry n s after l e q h =
-    let m : min (wordCount * n) (length s) ≡ wordCount * n = omega arith in
-    let z : 0 + wordCount * q ≡ wordCount * q = omega arith in
-    let front : replicate {A = ℕ} (wordCount * n) 0 ≡ replicate (wordCount * q) 0 ++ (replicate wordCount 0 ++ replicate (wordCount * n - wordCount * q - wordCount) 0) =
-    zeros-split (wordCount * q) (wordCount * n) (omega arith)
-    ∙ ap (λ (x : List ℕ). replicate (wordCount * q) 0 ++ x) (zeros-split wordCount (wordCount * n - wordCount * q) (omega arith)) in
-    let same : entry 0 after q ≡ replicate wordCount 0 =
-    rw (e, m, z, front, append-assoc, drop-at (replicate (wordCount * q) 0) ((replicate wordCount 0 ++ replicate (wordCount * n - wordCount * q - wordCount) 0) ++ drop (wordCount * n) s) (wordCount * q) (length-replicate {A = ℕ} (wordCount * q) 0))
-    (take-at (replicate wordCount 0) (replicate (wordCount * n - wordCount * q - wordCount) 0 ++ drop (wordCount * n) s) wordCount (length-replicate {A = ℕ} wordCount 0)) in
-    rw same holds-zero
+    at : (l : List ℕ) (i : ℕ) → i < wordCount → getD (entry base l q) i 0 ≡ getD l (base + wordCount * q + i) 0
+    at l i h = getD-take wordCount (drop (base + wordCount * q) l) i 0 h ∙ getD-drop (base + wordCount * q) l i 0
 
-pub zero-rest : (n : ℕ) (s after : List ℕ) → wordCount * n ≤ length s → after ≡ replicate (min (wordCount * n) (length s)) 0 ++ drop (wordCount * n) s
-    → (drop (wordCount * n) after ≡ drop (wordCount * n) s) × (length after ≡ length s)
-zero-rest n s after l e =
-    let m : min (wordCount * n) (length s) ≡ wordCount * n = omega arith in (
-      rw (e, m) (drop-at (replicate (wordCount * n) 0) (drop (wordCount * n) s) (wordCount * n) (length-replicate {A = ℕ} (wordCount * n) 0)),
-      ap length e ∙ rw (m, length-append (replicate (wordCount * n) 0) (drop (wordCount * n) s), length-replicate {A = ℕ} (wordCount * n) 0, length-drop (wordCount * n) s) (omega arith),
-    )
+-- an entry of a part that stands before another
+pub entry-front : (base q : ℕ) (part rest : List ℕ) → In base part q → entry base (part ++ rest) q ≡ entry base part q
+entry-front base q part rest inside =
+    ap (λ (l : List ℕ). take wordCount l) (drop-append-le (base + wordCount * q) part rest (omega arith))
+    ∙ take-append-le wordCount (drop (base + wordCount * q) part) rest (omega (arith, length-drop (base + wordCount * q) part))
+
+-- ---- emptying a table
+
+pub empty-begins : (base : ℕ) (s : List ℕ) → Emptied base s 0 s
+empty-begins base s = record { size = refl; none = λ q h. absurd (omega arith); before = λ k h. refl }
+
+pub empty-on : {base : ℕ} {s now : List ℕ} {p : ℕ} → Emptied base s p now → {after : List ℕ} → Noted base now p 0 after → Emptied base s (p + 1) after
+empty-on {base} {s} {now} {p} e {after} m = record {
+  size = m .size ∙ e .size;
+  none = λ q h. by-eq q p (λ x. rw x (m .here)) (λ ne. rw (m .other q ne) (e .none q (omega arith)));
+  before = λ k h. m .before k h ∙ e .before k h;
+}
+
+-- ---- copying one
+
+pub hand-begins : (base : ℕ) (room out : List ℕ) → Handed base room out 0 out
+hand-begins base room out = record { kept = refl; number = λ q h. absurd (omega arith); rest = refl }
+
+pub hand-on : {base : ℕ} {room before s : List ℕ} {p : ℕ} → Handed base room before p s → {after : List ℕ} → Noted 0 s p (num base room p) after
+    → Handed base room before (p + 1) after
+hand-on {base} {room} {before} {s} {p} e {after} m = record {
+  kept = m .size ∙ e .kept;
+  number = λ q h. by-eq q p (λ x. rw x (m .here)) (λ ne. rw (m .other q ne) (e .number q (omega arith)));
+  rest =
+      m .beyond (wordCount * (p + 1)) (omega arith)
+      ∙ sym (further s)
+      ∙ ap (λ (l : List ℕ). drop wordCount l) (e .rest)
+      ∙ further before;
+}
+  where
+    further : (l : List ℕ) → drop wordCount (drop (wordCount * p) l) ≡ drop (wordCount * (p + 1)) l
+    further l =
+        let j : wordCount * p + wordCount ≡ wordCount * (p + 1) = omega arith in
+        drop-drop wordCount (wordCount * p) l ∙ ap (λ (k : ℕ). drop k l) j
 
 -- ---- what the functions on tables give
 

@@ -91,43 +91,52 @@ pub record Todo (w : List ℕ) (c b q : ℕ) : Type 0 where
   pub level : c ≤ varOf w q
   pub turn : varOf w q ≡ c → q < b
 
+-- The counts are worked out, and behind them there is space for one more table, from a base on.
+pub record Counted (w : List ℕ) (base : ℕ) (room : List ℕ) (n : ℕ) : Type 0 where
+  pub given : Given w n
+  pub sated : Sated w room 0 0
+  pub behind : n + wordCount * n ≤ base
+  pub long : base + wordCount * n ≤ length room
+
+-- The first p entries are zero now; all before the table is as it was.
+pub record Emptied (base : ℕ) (s : List ℕ) (p : ℕ) (after : List ℕ) : Type 0 where
+  pub size : length after ≡ length s
+  pub none : (q : ℕ) → q < p → Holds 0 (entry base after q)
+  pub before : (k : ℕ) → k < base → getD after k 0 ≡ getD s k 0
+
 -- A node that is still to be weighed has received the valuations of earlier variables that lead to it; one that is weighed
--- has passed them on. What the nodes have received, each times what goes on from it, stays the same: in all, and through
--- each node that is still to be weighed.
-pub record Passing (w out : List ℕ) (c b : ℕ) : Type 0 where
-  pub long : wordCount * size w ≤ length out
+-- has passed them on, and its weight stands in their place. What the nodes have received, each times what goes on from it,
+-- stays the same: in all, and through each node that is still to be weighed. The links and the counts stand before.
+pub record Passing (w : List ℕ) (base : ℕ) (room : List ℕ) (c b : ℕ) : Type 0 where
+  pub sated : Sated w room 0 0
+  pub behind : size w + wordCount * size w ≤ base
+  pub long : base + wordCount * size w ≤ length room
   pub received : ℕ → ℕ
-  pub todo : (q : ℕ) → q < size w → Todo w c b q → Holds (received q) (entry 0 out q)
-  pub done : (q : ℕ) → q < size w → (Todo w c b q → ⊥) → (received q ≡ 0) × Holds (weightOf w q) (entry 0 out q)
+  pub todo : (q : ℕ) → q < size w → Todo w c b q → Holds (received q) (entry base room q)
+  pub done : (q : ℕ) → q < size w → (Todo w c b q → ⊥) → (received q ≡ 0) × Holds (weightOf w q) (entry base room q)
   pub all : dot (size w) received (λ q. 2 ^ (vars w - varOf w q)) ≡ 2 ^ vars w
   pub visits : (t : ℕ) → t < size w → Todo w c b t → dot (size w) received (throughOf w t) ≡ weightOf w t
 
-pub record Passed (w before out : List ℕ) (c b : ℕ) : Type 0 where
-  pub passing : Passing w out c b
-  pub rest : drop (wordCount * size w) out ≡ drop (wordCount * size w) before
-
-pub record Turning (w room out : List ℕ) (n p : ℕ) : Type 0 where
+pub record Turning (w : List ℕ) (base : ℕ) (room : List ℕ) (n p : ℕ) : Type 0 where
   pub given : Given w n
   pub node : Node w p
-  pub sated : Sated w room 0 0
-  pub passing : Passing w out (varOf w p) (suc p)
+  pub passing : Passing w base room (varOf w p) (suc p)
 
-pub record Ascending (w heads room out : List ℕ) (n c : ℕ) : Type 0 where
+pub record Ascending (w heads : List ℕ) (base : ℕ) (room : List ℕ) (n c : ℕ) : Type 0 where
   pub given : Given w n
   pub level : c < vars w
   pub head : (c : ℕ) → c < vars w → Last w c (size w) (getD heads c 0)
-  pub sated : Sated w room 0 0
-  pub passing : Passing w out c (size w)
+  pub passing : Passing w base room c (size w)
 
-pub record AtUp (w before out : List ℕ) (c p : ℕ) : Type 0 where
+pub record AtUp (w : List ℕ) (base : ℕ) (room : List ℕ) (c p : ℕ) : Type 0 where
   pub node : p ≢ 0 → Node w p × (varOf w p ≡ c)
-  pub passed : Passed w before out c (suc p)
+  pub passing : Passing w base room c (suc p)
 
 -- What a node has received, scaled, can be added to what its child has.
-pub record Giving (w out : List ℕ) (p q x : ℕ) : Type 0 where
-  pub inside : In 0 out q
+pub record Giving (w : List ℕ) (base : ℕ) (room : List ℕ) (p q x : ℕ) : Type 0 where
+  pub inside : In base room q
   pub above : varOf w p < varOf w q
-  pub fits : num 0 out q + scaled w p q x < limit
+  pub fits : num base room q + scaled w p q x < limit
 
 -- A child's count can be read and scaled.
 pub record Parting (w room : List ℕ) (n p q : ℕ) : Type 0 where
@@ -136,9 +145,29 @@ pub record Parting (w room : List ℕ) (n p q : ℕ) : Type 0 where
   pub fits : scaled w p q (num n room q) < limit
 
 -- What the second pass begins with.
-pub record Rising (w heads room out : List ℕ) (n v : ℕ) : Type 0 where
-  pub given : Given w n
+pub record Rising (w heads : List ℕ) (base : ℕ) (room : List ℕ) (n v : ℕ) : Type 0 where
+  pub counted : Counted w base room n
   pub variables : v ≡ vars w
   pub head : (c : ℕ) → c < vars w → Last w c (size w) (getD heads c 0)
-  pub sated : Sated w room 0 0
-  pub long : wordCount * n ≤ length out
+
+-- ---- both passes
+
+-- Where the weights of n nodes begin in the room, behind the links and the counts, and where they end.
+abbrev pub weightsFrom : ℕ → ℕ
+weightsFrom n = (1 + wordCount) * n
+
+abbrev pub weightsTo : ℕ → ℕ
+weightsTo n = (1 + 2 * wordCount) * n
+
+-- The weights stand in the room, and the room beyond them is as it was. The links and the counts before them are nothing to
+-- rely on.
+pub record Standing (w room : List ℕ) (n : ℕ) (after : List ℕ) : Type 0 where
+  pub kept : length after ≡ length room
+  pub weight : (p : ℕ) → p < n → Holds (weightOf w p) (entry (weightsFrom n) after p)
+  pub rest : drop (weightsTo n) after ≡ drop (weightsTo n) room
+
+-- The numbers of the first n entries of a table stand in the output too, and the output beyond them is as it was.
+pub record Handed (base : ℕ) (room before : List ℕ) (n : ℕ) (after : List ℕ) : Type 0 where
+  pub kept : length after ≡ length before
+  pub number : (q : ℕ) → q < n → Holds (num base room q) (entry 0 after q)
+  pub rest : drop (wordCount * n) after ≡ drop (wordCount * n) before

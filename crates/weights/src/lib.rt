@@ -3,17 +3,17 @@ mod chains;
 mod down;
 mod tables;
 mod up;
-mod weigh;
+pub mod weigh;
 
 use diagram::refusal::WEIGHTS_OF_FALSE;
+use diagram::room::clear;
 use diagram::validate::admit;
 use diagram::verdict::Output;
 use diagram::verdict::Verdict;
+use weigh::USED;
+use weigh::hand_over;
 use weigh::weigh;
 ghost use Rattle.weights.specs.Weighed.{Weighs};
-
-// Words of working room that are used for each node: a link and a count.
-const USED: usize = 1 + naturals::WORDS;
 
 // Eight words of the output for each node, in the order of the nodes.
 pub fn node_valuation_weights(words: &[u32], output: &mut [u32], room: &mut [u32]) -> Verdict
@@ -29,7 +29,8 @@ pub fn node_valuation_weights(words: &[u32], output: &mut [u32], room: &mut [u32
             place: 0,
         };
     }
-    let used = USED * nodes;
-    weigh(words, output, &mut room[..used], nodes, vars);
+    weigh(words, room, nodes, vars);
+    hand_over(room, output, nodes);
+    clear(room, USED * nodes);
     Verdict::Accepted { nodes, vars }
 }

@@ -1,6 +1,6 @@
 // The second pass, from the first variable to the last: a node has received the valuations of earlier variables that lead to
 // it, passes them on to its children, and its weight is their number times what goes on from it. What a node has received
-// stands in the output, until its weight takes the place.
+// stands in a table behind the counts, until its weight takes the place.
 use crate::chains::head_of;
 use crate::chains::next_of;
 use crate::tables::count_at;
@@ -11,90 +11,102 @@ use diagram::node::BddVariable;
 use diagram::node::high_link_of;
 use diagram::node::low_link_of;
 use diagram::node::var_of;
-use diagram::room::clear;
 use naturals::Natural;
 use naturals::add;
 use naturals::multiply;
 use naturals::power_of_two;
+use naturals::zero;
 ghost use Prim.Native.Nat.{_+_, _*_, _≤_, suc};
 ghost use lib.ListN.{length};
 ghost use Rattle.naturals.specs.Natural.{value, wordCount};
+ghost use Rattle.diagram.specs.Limits.{maxNodes};
 ghost use Rattle.diagram.specs.Diagram.{varOf, size};
-ghost use Rattle.weights.specs.Chains.{Given};
-ghost use Rattle.weights.specs.Passes.{num, Noted, scaled as scaledBy, Giving, Turning, Ascending, Rising, Passed};
+ghost use Rattle.weights.specs.Passes.{num, Noted, scaled as scaledBy, Counted, Emptied, Passing, Giving, Turning, Ascending, Rising};
 
 // A child receives what its parent has.
-fn give(words: &[u32], output: &mut [u32], node: BddPointer, child: BddPointer, received: Natural)
-    requires { ⌜ Giving (now words) (now output) (node .0) (child .0) (value (received .words)) ⌝ }
-    ensures { λ _. ⌜ Noted 0 (now (output .entry)) (child .0) (num 0 (now (output .entry)) (child .0) + scaledBy (now (words .entry)) (node .0) (child .0) (value (received .words))) (now (output .exit)) ⌝ }
+fn give(
+    words: &[u32],
+    room: &mut [u32],
+    base: usize,
+    node: BddPointer,
+    child: BddPointer,
+    received: Natural,
+)
+    requires { ⌜ Giving (now words) base (now room) (node .0) (child .0) (value (received .words)) ⌝ }
+    ensures { λ _. ⌜ Noted base (now (room .entry)) (child .0) (num base (now (room .entry)) (child .0) + scaledBy (now (words .entry)) (node .0) (child .0) (value (received .words))) (now (room .exit)) ⌝ }
 {
     let share = scaled(words, node, child, received);
-    let had = count_at(output, 0, child);
+    let had = count_at(room, base, child);
     let sum = add(had, share);
-    note(output, 0, child, sum.natural);
+    note(room, base, child, sum.natural);
 }
 
 // One node: its weight, and what its children receive.
-fn pass_on(words: &[u32], room: &[u32], output: &mut [u32], nodes: usize, node: BddPointer)
-    requires { ⌜ Turning (now words) (now room) (now output) nodes (node .0) ⌝ }
-    ensures { λ _. ⌜ Passed (now (words .entry)) (now (output .entry)) (now (output .exit)) (varOf (now (words .entry)) (node .0)) (node .0) ⌝ }
+fn pass_on(words: &[u32], room: &mut [u32], nodes: usize, base: usize, node: BddPointer)
+    requires { ⌜ Turning (now words) base (now room) nodes (node .0) ⌝ }
+    ensures { λ _. ⌜ Passing (now (words .entry)) base (now (room .exit)) (varOf (now (words .entry)) (node .0)) (node .0) ⌝ }
 {
-    let received = count_at(output, 0, node);
+    let received = count_at(room, base, node);
     let weight = multiply(received, count_at(room, nodes, node));
-    note(output, 0, node, weight.natural);
+    note(room, base, node, weight.natural);
     let low = low_link_of(words, node);
     let high = high_link_of(words, node);
-    give(words, output, node, low, received);
-    give(words, output, node, high, received);
+    give(words, room, base, node, low, received);
+    give(words, room, base, node, high, received);
 }
 
 // The nodes of one variable.
-fn level(
-    words: &[u32],
-    heads: &[u32],
-    room: &[u32],
-    output: &mut [u32],
-    nodes: usize,
-    variable: u32,
-)
-    requires { ⌜ Ascending (now words) (now heads) (now room) (now output) nodes variable ⌝ }
-    ensures { λ _. ⌜ Passed (now (words .entry)) (now (output .entry)) (now (output .exit)) (suc variable) (size (now (words .entry))) ⌝ }
+fn level(words: &[u32], heads: &[u32], room: &mut [u32], nodes: usize, base: usize, variable: u32)
+    requires { ⌜ Ascending (now words) (now heads) base (now room) nodes variable ⌝ }
+    ensures { λ _. ⌜ Passing (now (words .entry)) base (now (room .exit)) (suc variable) (size (now (words .entry))) ⌝ }
 {
     let mut node = head_of(heads, BddVariable(variable));
     while node.0 != 0 {
-        pass_on(words, room, output, nodes, node);
+        pass_on(words, room, nodes, base, node);
         node = next_of(room, node);
     }
 }
 
-// At first the root alone has received: one for each valuation of the variables before its own.
-fn begin(words: &[u32], output: &mut [u32], nodes: usize)
-    requires { ⌜ Given (now words) nodes × (wordCount * nodes ≤ length (now output)) ⌝ }
-    ensures { λ _. ⌜ Passed (now (words .entry)) (now (output .entry)) (now (output .exit)) 0 (size (now (words .entry))) ⌝ }
+// Nobody has received any.
+fn empty(room: &mut [u32], nodes: usize, base: usize)
+    requires { ⌜ (nodes ≤ maxNodes) × (base + wordCount * nodes ≤ length (now room)) ⌝ }
+    ensures { λ _. ⌜ Emptied base (now (room .entry)) nodes (now (room .exit)) ⌝ }
 {
-    clear(output, naturals::WORDS * nodes);
+    let mut p = 0;
+    while p < nodes {
+        note(room, base, BddPointer(p as u32), zero());
+        p += 1;
+    }
+}
+
+// At first the root alone has received: one for each valuation of the variables before its own.
+fn begin(words: &[u32], room: &mut [u32], nodes: usize, base: usize)
+    requires { ⌜ Counted (now words) base (now room) nodes ⌝ }
+    ensures { λ _. ⌜ Passing (now (words .entry)) base (now (room .exit)) 0 (size (now (words .entry))) ⌝ }
+{
+    empty(room, nodes, base);
     let root = BddPointer((nodes - 1) as u32);
     let above = var_of(words, root);
     let all = power_of_two(above.0);
-    note(output, 0, root, all.natural);
+    note(room, base, root, all.natural);
 }
 
 // All nodes.
 pub(crate) fn pass_all(
     words: &[u32],
     heads: &[u32],
-    room: &[u32],
-    output: &mut [u32],
+    room: &mut [u32],
     nodes: usize,
+    base: usize,
     vars: u32,
 )
-    requires { ⌜ Rising (now words) (now heads) (now room) (now output) nodes vars ⌝ }
-    ensures { λ _. ⌜ Passed (now (words .entry)) (now (output .entry)) (now (output .exit)) vars (size (now (words .entry))) ⌝ }
+    requires { ⌜ Rising (now words) (now heads) base (now room) nodes vars ⌝ }
+    ensures { λ _. ⌜ Passing (now (words .entry)) base (now (room .exit)) vars (size (now (words .entry))) ⌝ }
 {
-    begin(words, output, nodes);
+    begin(words, room, nodes, base);
     let mut c = 0;
     while c < vars {
-        level(words, heads, room, output, nodes, c);
+        level(words, heads, room, nodes, base, c);
         c += 1;
     }
 }

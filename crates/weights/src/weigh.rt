@@ -1,30 +1,67 @@
-// The weights of an accepted diagram of two nodes or more.
+// The weights of an ordered diagram of two nodes or more, in the working room: behind the chains' links and the counts.
 use crate::chains::CHAINS;
 use crate::chains::link;
 use crate::down::count_all;
+use crate::tables::count_at;
 use crate::tables::note;
 use crate::up::pass_all;
 use diagram::node::BddPointer;
-use diagram::room::clear;
+use naturals::Natural;
 use naturals::zero;
 ghost use mathlib.Core.Path.{_≡_};
-ghost use Prim.Native.Nat.{_+_, _*_, _≤_};
-ghost use lib.ListN.{length, replicate};
-ghost use Rattle.naturals.specs.Natural.{wordCount};
+ghost use Prim.Native.Nat.{ℕ, _*_, _<_, _≤_};
+ghost use lib.ListN.{length};
+ghost use Rattle.naturals.specs.Natural.{wordCount, Holds};
+ghost use Rattle.diagram.specs.Limits.{maxNodes};
 ghost use Rattle.diagram.specs.Diagram.{vars as varsOf};
+ghost use Rattle.diagram.specs.Valuations.{weightOf};
 ghost use Rattle.weights.specs.Chains.{Given};
-ghost use Rattle.weights.specs.Weighed.{Weighed};
+ghost use Rattle.weights.specs.Passes.{In, entry, num, weightsFrom, weightsTo, Standing, Handed};
 
-// Leaves the room zero.
-pub(crate) fn weigh(words: &[u32], output: &mut [u32], room: &mut [u32], nodes: usize, vars: u32)
-    requires { ⌜ Given (now words) nodes × (vars ≡ varsOf (now words)) × (wordCount * nodes ≤ length (now output)) × (nodes + wordCount * nodes ≤ length (now room)) ⌝ }
-    ensures { λ _. ⌜ Weighed (now (words .entry)) (now (output .entry)) (now (output .exit)) × (now (room .exit) ≡ replicate (length (now (room .entry))) 0) ⌝ }
+// Words of the room for each node: a link and a count, and behind all of these a weight.
+const BEFORE: usize = 1 + naturals::WORDS;
+
+pub const USED: usize = 1 + 2 * naturals::WORDS;
+
+// The chains, and the two passes along them.
+fn passes(words: &[u32], room: &mut [u32], nodes: usize, vars: u32)
+    requires { ⌜ Given (now words) nodes × (vars ≡ varsOf (now words)) × (weightsTo nodes ≤ length (now room)) ⌝ }
+    ensures { λ _. ⌜ ((p : ℕ) → p < nodes → Holds (weightOf (now (words .entry)) p) (entry (weightsFrom nodes) (now (room .exit)) p)) ⌝ }
 {
     let mut heads = [0u32; CHAINS];
     link(words, &mut heads, room, nodes);
     count_all(words, &heads, room, nodes, vars);
-    pass_all(words, &heads, room, output, nodes, vars);
-    note(output, 0, BddPointer(0), zero());
-    let all = room.len();
-    clear(room, all);
+    let base = BEFORE * nodes;
+    pass_all(words, &heads, room, nodes, base, vars);
+    note(room, base, BddPointer(0), zero());
+}
+
+// Whatever the room has before.
+pub fn weigh(words: &[u32], room: &mut [u32], nodes: usize, vars: u32)
+    requires { ⌜ Given (now words) nodes × (vars ≡ varsOf (now words)) × (weightsTo nodes ≤ length (now room)) ⌝ }
+    ensures { λ _. ⌜ Standing (now (words .entry)) (now (room .entry)) nodes (now (room .exit)) ⌝ }
+{
+    let used = USED * nodes;
+    passes(words, &mut room[..used], nodes, vars);
+}
+
+// The weight of a node, from the room.
+pub fn weight_at(room: &[u32], nodes: usize, node: BddPointer) -> Natural
+    requires { ⌜ In (weightsFrom nodes) (now room) (node .0) ⌝ }
+    ensures { λ r. ⌜ Holds (num (weightsFrom nodes) (now (room .entry)) (node .0)) (r .words) ⌝ }
+{
+    count_at(room, BEFORE * nodes, node)
+}
+
+// Copies the weights from the room to the output.
+pub(crate) fn hand_over(room: &[u32], output: &mut [u32], nodes: usize)
+    requires { ⌜ (nodes ≤ maxNodes) × (weightsTo nodes ≤ length (now room)) × (wordCount * nodes ≤ length (now output)) ⌝ }
+    ensures { λ _. ⌜ Handed (weightsFrom nodes) (now (room .entry)) (now (output .entry)) nodes (now (output .exit)) ⌝ }
+{
+    let mut p = 0;
+    while p < nodes {
+        let node = BddPointer(p as u32);
+        note(output, 0, node, weight_at(room, nodes, node));
+        p += 1;
+    }
 }

@@ -1,8 +1,5 @@
 use denote.Ref.{now}
-use mathlib.Core.Path.{sym}
-use lib.Seq.{length-take-le}
-use Rattle.weights.proofs.Answers.{weights-refused, weights-of-false, weights-few, weights-fits, weights-asks, weights-accepted}
-use Prim.Native.Nat.{_*_}
+use Rattle.weights.proofs.Answers.{weights-refused, weights-of-false, weights-few, weights-asks, weights-hand, weights-accepted}
 use native.Mathlib.Omega.{arith}
 use borrow.Author.Needs.{needs}
 use Rattle.weights.proofs.node_valuation_weights.Statement.{statement}
@@ -29,17 +26,17 @@ same-length-2 c = search needs
 returns-2 : tie.Need-returns-2
 returns-2 c = weights-of-false (now (c .before .before .before .before .before .before .before .before .before .before .before .args .output)) (c .before .before .before .before .before .before .admit .ensures) (c .before .before .verdict .given .1) (c .if1 .taken)
 
-mul-used : tie.Need-mul-used
-mul-used c = omega (arith, weights-few (now (c .before .before .before .before .before .before .before .before .before .before .before .args .output)) (c .before .before .before .before .before .before .admit .ensures) (c .before .before .verdict .given .1))
-
-slice-relend-prefix-weigh : tie.Need-slice-relend-prefix-weigh
-slice-relend-prefix-weigh c = weights-fits (now (c .before .before .before .before .before .before .before .before .before .before .before .before .args .output)) (c .before .before .before .before .before .before .before .admit .ensures) (c .before .before .before .verdict .given .1)
-
-slice-aggregate-weigh : tie.Need-slice-aggregate-weigh
-slice-aggregate-weigh c = sym (length-take-le (9 * c .before .before .before .before .verdict .given .0 .0) (c .before .before .before .before .before .before .before .before .admit .last .1 .0) (weights-fits (now (c .before .before .before .before .before .before .before .before .before .before .before .before .before .args .output)) (c .before .before .before .before .before .before .before .before .admit .ensures) (c .before .before .before .before .verdict .given .1)))
-
 weigh-requires : tie.Need-weigh-requires
-weigh-requires c κs = weights-asks (now (c .before .before .before .before .before .before .before .before .before .before .before .before .before .args .output)) (c .before .before .before .before .before .before .before .before .admit .ensures) (c .before .before .before .before .verdict .given .1) (c .before .before .if1 .left)
+weigh-requires c κs = weights-asks (now (c .before .before .before .before .before .before .before .before .before .before .before .before .args .output)) (c .before .before .before .before .before .before .before .admit .ensures) (c .before .before .before .verdict .given .1) (c .before .if1 .left)
+
+hand-over-requires : tie.Need-hand-over-requires
+hand-over-requires c κs = weights-hand (now (c .before .before .before .before .before .before .before .before .before .before .before .before .before .before .before .before .before .args .output)) (c .before .before .before .before .before .before .before .before .before .before .before .before .admit .ensures) (c .before .before .before .before .before .before .before .before .verdict .given .1) (c .before .before .before .before .before .before .if1 .left) (c .before .before .before .before .weigh .ensures)
+
+mul-clear : tie.Need-mul-clear
+mul-clear c = omega (arith, weights-few (now (c .before .before .before .before .before .before .before .before .before .before .before .before .before .before .before .before .before .before .before .before .before .args .output)) (c .before .before .before .before .before .before .before .before .before .before .before .before .before .before .before .before .admit .ensures) (c .before .before .before .before .before .before .before .before .before .before .before .before .verdict .given .1))
+
+clear-requires : tie.Need-clear-requires
+clear-requires c κs = search needs
 
 same-length-3 : tie.Need-same-length-3
 same-length-3 c = search needs
@@ -48,7 +45,7 @@ same-length-4 : tie.Need-same-length-4
 same-length-4 c = search needs
 
 returns-3 : tie.Need-returns-3
-returns-3 c = weights-accepted (now (c .before .before .before .before .before .before .before .before .before .before .before .before .before .before .before .before .before .before .args .output)) (c .before .before .before .before .before .before .before .before .before .before .before .before .before .admit .ensures) (c .before .before .before .before .before .before .before .before .before .verdict .given .1) (c .before .before .before .before .before .before .before .if1 .left) (c .before .before .before .before .weigh .ensures .0) (c .before .before .before .before .weigh .ensures .1)
+returns-3 c = weights-accepted (now (c .before .before .before .before .before .before .before .before .before .before .before .before .before .before .before .before .before .before .before .before .before .before .before .before .args .output)) (c .before .before .before .before .before .before .before .before .before .before .before .before .before .before .before .before .before .before .before .admit .ensures) (c .before .before .before .before .before .before .before .before .before .before .before .before .before .before .before .verdict .given .1) (c .before .before .before .before .before .before .before .before .before .before .before .before .before .if1 .left) (c .before .before .before .before .before .before .before .before .before .before .before .weigh .ensures) (c .before .before .before .before .before .before .hand-over .ensures) (c .before .before .clear .ensures)
 
 pub node-valuation-weights-spec : {M : Type 1} → statement M
 node-valuation-weights-spec =
@@ -61,10 +58,10 @@ node-valuation-weights-spec =
     returns
     same-length-2
     returns-2
-    mul-used
-    slice-relend-prefix-weigh
-    slice-aggregate-weigh
     weigh-requires
+    hand-over-requires
+    mul-clear
+    clear-requires
     same-length-3
     same-length-4
     returns-3)

@@ -1,11 +1,10 @@
 use Rattle.weights.proofs.Ascent.{turn-in, turn-weight, turn-low, turn-high, turn-done}
-use native.Mathlib.Omega.{arith}
 use borrow.Author.Needs.{needs}
 use Rattle.weights.proofs.up.pass_on.Statement.{statement}
 use Rattle.weights.proofs.up.pass_on.Tie as tie
 
 count-at-requires : tie.Need-count-at-requires
-count-at-requires c κs = turn-in (c .before .before .before .before .pre) .0
+count-at-requires c κs = turn-in (c .before .before .before .pre) .0
 
 count-at-requires-2 : tie.Need-count-at-requires-2
 count-at-requires-2 c κs = turn-in (c .before .before .before .before .before .pre) .1
@@ -23,16 +22,16 @@ high-link-of-requires : tie.Need-high-link-of-requires
 high-link-of-requires c κs = search needs
 
 give-requires : tie.Need-give-requires
-give-requires c κs = turn-low (c .before .before .before .before .before .before .before .before .before .before .before .before .before .before .pre) (c .before .before .before .before .before .note .ensures _ (turn-weight (c .before .before .before .before .before .before .before .before .before .before .before .before .before .before .pre) (c .before .before .before .before .before .before .before .before .before .count-at .ensures) (c .before .before .before .before .before .before .before .before .count-at2 .ensures) (c .before .before .before .before .before .before .before .multiply .ensures))) (c .before .before .before .before .before .before .before .before .before .count-at .ensures) (c .before .before .low-link-of .result .0) (c .before .before .low-link-of .ensures)
+give-requires c κs = turn-low (c .before .before .before .before .before .before .before .before .before .before .before .before .before .before .pre) (c .before .before .before .before .before .note .ensures _ (turn-weight (c .before .before .before .before .before .before .before .before .before .before .before .before .before .before .pre) (c .before .before .before .before .before .before .before .before .before .before .count-at .ensures) (c .before .before .before .before .before .before .before .before .count-at2 .ensures) (c .before .before .before .before .before .before .before .multiply .ensures))) (c .before .before .before .before .before .before .before .before .before .before .count-at .ensures) (c .before .before .low-link-of .result .0) (c .before .before .low-link-of .ensures)
 
 give-requires-2 : tie.Need-give-requires-2
-give-requires-2 c κs = turn-high (c .before .before .before .before .before .before .before .before .before .before .before .before .before .before .before .before .before .before .pre) (c .before .before .before .before .before .before .before .before .before .note .ensures _ (turn-weight (c .before .before .before .before .before .before .before .before .before .before .before .before .before .before .before .before .before .before .pre) (c .before .before .before .before .before .before .before .before .before .before .before .before .before .count-at .ensures) (c .before .before .before .before .before .before .before .before .before .before .before .before .count-at2 .ensures) (c .before .before .before .before .before .before .before .before .before .before .before .multiply .ensures))) (c .before .before .before .before .before .before .before .before .before .before .before .before .before .count-at .ensures) (c .before .before .before .before .before .before .low-link-of .result .0) (c .before .before .before .before .before .before .low-link-of .ensures) (c .before .before .before .give .ensures) (c .before .before .before .before .before .high-link-of .result .0) (c .before .before .before .before .before .high-link-of .ensures)
+give-requires-2 c κs = turn-high (c .before .before .before .before .before .before .before .before .before .before .before .before .before .before .before .before .before .before .pre) (c .before .before .before .before .before .before .before .before .before .note .ensures _ (turn-weight (c .before .before .before .before .before .before .before .before .before .before .before .before .before .before .before .before .before .before .pre) (c .before .before .before .before .before .before .before .before .before .before .before .before .before .before .count-at .ensures) (c .before .before .before .before .before .before .before .before .before .before .before .before .count-at2 .ensures) (c .before .before .before .before .before .before .before .before .before .before .before .multiply .ensures))) (c .before .before .before .before .before .before .before .before .before .before .before .before .before .before .count-at .ensures) (c .before .before .before .before .before .before .low-link-of .result .0) (c .before .before .before .before .before .before .low-link-of .ensures) (c .before .before .before .give .ensures) (c .before .before .before .before .before .high-link-of .result .0) (c .before .before .before .before .before .high-link-of .ensures)
 
 same-length : tie.Need-same-length
 same-length c = search needs
 
 returns : tie.Need-returns
-returns c = turn-done (c .before .before .before .before .before .before .before .before .before .before .before .before .before .before .before .before .before .before .before .before .before .pre) (c .before .before .before .before .before .before .before .before .before .before .before .before .note .ensures _ (turn-weight (c .before .before .before .before .before .before .before .before .before .before .before .before .before .before .before .before .before .before .before .before .before .pre) (c .before .before .before .before .before .before .before .before .before .before .before .before .before .before .before .before .count-at .ensures) (c .before .before .before .before .before .before .before .before .before .before .before .before .before .before .before .count-at2 .ensures) (c .before .before .before .before .before .before .before .before .before .before .before .before .before .before .multiply .ensures))) (c .before .before .before .before .before .before .before .before .before .before .before .before .before .before .before .before .count-at .ensures) (c .before .before .before .before .before .before .before .before .before .low-link-of .result .0) (c .before .before .before .before .before .before .before .before .before .low-link-of .ensures) (c .before .before .before .before .before .before .give .ensures) (c .before .before .before .before .before .before .before .before .high-link-of .result .0) (c .before .before .before .before .before .before .before .before .high-link-of .ensures) (c .before .before .give2 .ensures)
+returns c = turn-done (c .before .before .before .before .before .before .before .before .before .before .before .before .before .before .before .before .before .before .before .before .before .pre) (c .before .before .before .before .before .before .before .before .before .before .before .before .note .ensures _ (turn-weight (c .before .before .before .before .before .before .before .before .before .before .before .before .before .before .before .before .before .before .before .before .before .pre) (c .before .before .before .before .before .before .before .before .before .before .before .before .before .before .before .before .before .count-at .ensures) (c .before .before .before .before .before .before .before .before .before .before .before .before .before .before .before .count-at2 .ensures) (c .before .before .before .before .before .before .before .before .before .before .before .before .before .before .multiply .ensures))) (c .before .before .before .before .before .before .before .before .before .before .before .before .before .before .before .before .before .count-at .ensures) (c .before .before .before .before .before .before .before .before .before .low-link-of .result .0) (c .before .before .before .before .before .before .before .before .before .low-link-of .ensures) (c .before .before .before .before .before .before .give .ensures) (c .before .before .before .before .before .before .before .before .high-link-of .result .0) (c .before .before .before .before .before .before .before .before .high-link-of .ensures) (c .before .before .give2 .ensures)
 
 pub pass-on-spec : {M : Type 1} → statement M
 pass-on-spec =

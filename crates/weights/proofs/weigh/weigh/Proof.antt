@@ -1,62 +1,38 @@
 use denote.Ref.{now}
-use mathlib.Core.Path.{refl, _∙_}
-use Rattle.diagram.proofs.Words.{zeros-whole}
-use Rattle.weights.proofs.Descent.{heads-all}
-use Rattle.weights.proofs.Ascent.{weigh-done}
+use mathlib.Core.Path.{sym}
+use lib.Seq.{length-take-le}
+use Rattle.weights.proofs.Answers.{stands}
+use Rattle.weights.specs.Passes.{weightsTo}
 use native.Mathlib.Omega.{arith}
 use borrow.Author.Needs.{needs}
 use Rattle.weights.proofs.weigh.weigh.Statement.{statement}
 use Rattle.weights.proofs.weigh.weigh.Tie as tie
 
-slice-aggregate-link : tie.Need-slice-aggregate-link
-slice-aggregate-link c = search needs
+mul-used : tie.Need-mul-used
+mul-used c = search needs
 
-link-requires : tie.Need-link-requires
-link-requires c κs = (c .before .before .before .before .before .pre .0, refl, omega (arith, c .before .before .before .before .before .pre .3))
+slice-relend-prefix-passes : tie.Need-slice-relend-prefix-passes
+slice-relend-prefix-passes c = c .before .before .pre .2
 
-slice-aggregate-count-all : tie.Need-slice-aggregate-count-all
-slice-aggregate-count-all c = search needs
+slice-aggregate-passes : tie.Need-slice-aggregate-passes
+slice-aggregate-passes c = sym (length-take-le (weightsTo (c .before .before .before .args .nodes)) (now (c .before .before .before .args .room)) (c .before .before .before .pre .2))
 
-count-all-requires : tie.Need-count-all-requires
-count-all-requires c κs = (c .before .before .before .before .before .before .before .before .before .before .before .pre .0, c .before .before .before .before .before .link .ensures, omega (arith, c .before .before .before .before .before .before .before .before .before .before .before .pre .3, c .before .before .before .before .before .link .kept .1 .1 .0), c .before .before .before .before .before .before .before .before .before .before .before .pre .1)
-
-slice-aggregate-pass-all : tie.Need-slice-aggregate-pass-all
-slice-aggregate-pass-all c = search needs
-
-pass-all-requires : tie.Need-pass-all-requires
-pass-all-requires c κs = record { given = c .before .before .before .before .before .before .before .before .before .before .before .before .before .before .before .before .before .pre .0; variables = c .before .before .before .before .before .before .before .before .before .before .before .before .before .before .before .before .before .pre .1; head = heads-all (c .before .before .before .before .before .before .before .before .before .before .before .before .before .before .before .before .before .pre .0) (c .before .before .before .before .before .before .before .before .before .before .before .link .ensures); sated = c .before .before .before .before .before .count-all .ensures; long = c .before .before .before .before .before .before .before .before .before .before .before .before .before .before .before .before .before .pre .2 }
-
-zero-requires : tie.Need-zero-requires
-zero-requires c κs = search needs
-
-note-requires : tie.Need-note-requires
-note-requires c κs = omega (arith, c .before .before .before .before .before .before .before .before .before .before .before .before .before .before .before .before .before .before .before .before .before .before .pre .2, c .before .before .before .before .before .before .before .before .before .before .before .before .before .before .before .before .before .before .before .before .before .before .pre .0 .two, c .before .before .before .before .pass-all .kept .1 .1 .1 .0)
-
-clear-requires : tie.Need-clear-requires
-clear-requires c κs = search needs
+passes-requires : tie.Need-passes-requires
+passes-requires c κs = (c .before .before .before .pre .0, c .before .before .before .pre .1, omega (arith, c .before .before .before .pre .2, length-take-le (weightsTo (c .before .before .before .args .nodes)) (now (c .before .before .before .args .room)) (c .before .before .before .pre .2)))
 
 same-length : tie.Need-same-length
-same-length c = c .before .before .before .before .before .before .note .kept .0 ∙ c .before .before .before .before .before .before .before .before .before .before .before .pass-all .kept .1 .1 .1 .0
-
-same-length-2 : tie.Need-same-length-2
-same-length-2 c = c .before .before .clear .kept .0 ∙ c .before .before .before .before .before .before .before .before .before .before .before .before .before .before .before .before .before .count-all .kept .1 .1 .0 ∙ c .before .before .before .before .before .before .before .before .before .before .before .before .before .before .before .before .before .before .before .before .before .before .before .link .kept .1 .1 .0
+same-length c = search needs
 
 returns : tie.Need-returns
-returns c = (weigh-done (c .before .before .before .before .before .before .before .before .before .before .before .before .before .before .before .before .before .before .before .before .before .before .before .before .before .before .before .before .before .pre .0) (c .before .before .before .before .before .before .before .before .before .before .before .before .before .before .before .before .before .before .before .before .before .before .before .before .before .before .before .before .before .pre .1) (c .before .before .before .before .before .before .before .before .before .before .before .pass-all .ensures) (c .before .before .before .before .before .before .before .before .before .before .before .pass-all .kept .1 .1 .1 .0) (c .before .before .before .before .before .before .note .ensures 0 (c .before .before .before .before .before .before .before .zero .ensures)), c .before .before .clear .ensures ∙ zeros-whole (c .before .before .before .before .before .before .before .before .before .before .before .before .before .before .before .before .before .count-all .last .1 .1 .0) (now (c .before .before .before .before .before .before .before .before .before .before .before .before .before .before .before .before .before .before .before .before .before .before .before .before .before .before .before .before .before .args .room)) (c .before .before .before .before .before .before .before .before .before .before .before .before .before .before .before .before .before .count-all .kept .1 .1 .0 ∙ c .before .before .before .before .before .before .before .before .before .before .before .before .before .before .before .before .before .before .before .before .before .before .before .link .kept .1 .1 .0))
+returns c = stands (now (c .before .before .before .before .before .before .args .room)) (c .before .before .passes .last .1 .0) (c .before .before .before .before .before .before .pre .2) (c .before .before .passes .kept .1 .0) (c .before .before .passes .ensures)
 
 pub weigh-spec : {M : Type 1} → statement M
 weigh-spec =
     tie.close
     (tie.spec
-    slice-aggregate-link
-    link-requires
-    slice-aggregate-count-all
-    count-all-requires
-    slice-aggregate-pass-all
-    pass-all-requires
-    zero-requires
-    note-requires
-    clear-requires
+    mul-used
+    slice-relend-prefix-passes
+    slice-aggregate-passes
+    passes-requires
     same-length
-    same-length-2
     returns)
