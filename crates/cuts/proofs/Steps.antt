@@ -1,5 +1,5 @@
 -- What the small steps of the code give.
-use Prim.Native.Nat.{ℕ, suc, _+_, _*_, _≤_, _<_}
+use Prim.Native.Nat.{ℕ, zero, suc, _+_, _*_, _≤_, _<_}
 use mathlib.Core.Path.{_≡_, refl, sym, ap, _∙_}
 use mathlib.Core.Bool.{Bool, true, false, cond, not, _||_}
 use mathlib.Core.List.{List, [], _∷_}
@@ -8,7 +8,6 @@ use lib.ListN.{length, getD, set, take}
 use lib.Seq.{take-length}
 use lib.Dec.{ltb, eqb}
 use borrow.Author.Tests.{eq-eqb, ne-eqb, ltb-true, ltb-false}
-use Rattle.diagram.proofs.Tests.{not-both}
 use Rattle.approximation.specs.Cut.{listed}
 use Rattle.cuts.specs.Marks.{markedIn, linkFrom, nodeAt, constantAt}
 use Rattle.cuts.proofs.Marking.{listed-take}
@@ -24,7 +23,7 @@ absent-on s i q h none ne = listed-take s i q h ∙ rw (none, ne-eqb q (getD s i
 pub present : (s : List ℕ) (i q : ℕ) → i < length s → getD s i 0 ≡ q → listed s q ≡ true
 unfolding listed
 present [] i q h e = absurd (omega arith)
-present (p ∷ s) 0 q h e = rw (eq-eqb q p (sym e)) refl
+present (p ∷ s) zero q h e = rw (eq-eqb q p (sym e)) refl
 present (p ∷ s) (suc i) q h e = or-true (eqb q p) (listed s q) (present s i q (omega arith) e)
   where
     or-true : (a b : Bool) → b ≡ true → (a || b) ≡ true
@@ -46,19 +45,11 @@ module _ (marked : ℕ → Bool) (t p q : ℕ) where
   pub terminal-stays : (b : Bool) → b ≡ ltb p 2 → b ≡ true → q ≡ linkFrom marked t p q
   terminal-stays b e yes-case = sym (link-stays marked t p q (ltb-true p 2 (sym e ∙ yes-case)))
 
-  pub marked-goes : (b c : Bool) → b ≡ ltb p 2 → (b ≡ true → ⊥) → c ≡ marked q → c ≡ true → t ≡ linkFrom marked t p q
-  marked-goes b c e no-case f yes-case = sym (link-sent marked t p q (ltb-false p 2 (no-is b (ltb p 2) e no-case)) ∙ rw (sym f ∙ yes-case) refl)
-    where
-      no-is : (b d : Bool) → b ≡ d → (b ≡ true → ⊥) → d ≡ false
-      no-is true d e no-case = absurd (no-case refl)
-      no-is false d e no-case = sym e
+  pub marked-goes : (b c : Bool) → b ≡ ltb p 2 → b ≡ false → c ≡ marked q → c ≡ true → t ≡ linkFrom marked t p q
+  marked-goes b c e none f yes-case = sym (link-sent marked t p q (ltb-false p 2 (sym e ∙ none)) ∙ rw (sym f ∙ yes-case) refl)
 
-  pub other-stays : (b c : Bool) → b ≡ ltb p 2 → (b ≡ true → ⊥) → c ≡ marked q → (c ≡ true → ⊥) → q ≡ linkFrom marked t p q
-  other-stays b c e no-case f not-marked = sym (link-sent marked t p q (ltb-false p 2 (no-is b (ltb p 2) e no-case)) ∙ rw (no-is c (marked q) f not-marked) refl)
-    where
-      no-is : (b d : Bool) → b ≡ d → (b ≡ true → ⊥) → d ≡ false
-      no-is true d e no-case = absurd (no-case refl)
-      no-is false d e no-case = sym e
+  pub other-stays : (b c : Bool) → b ≡ ltb p 2 → b ≡ false → c ≡ marked q → c ≡ false → q ≡ linkFrom marked t p q
+  other-stays b c e none f not-marked = sym (link-sent marked t p q (ltb-false p 2 (sym e ∙ none)) ∙ rw (sym f ∙ not-marked) refl)
 
 -- ---- words that are written
 
@@ -68,11 +59,11 @@ unfolding nodeAt
 node-written s p var low high i a b c e f g h = rw (h, g, f, e) refl
 
 module _ (r : List ℕ) (at t v : ℕ) {a b c : List ℕ} (e : a ≡ set r at v) (f : b ≡ set a (at + 1) 0) (g : c ≡ set b (at + 2) 0) where
-  pub false-written : t ≡ 0 → (c ≡ constantAt r at t v) × (1 ≡ cond (eqb t 0) 1 2)
+  pub false-written : t ≡ 0 → (c ≡ constantAt r at t v) × _≡_ {A = ℕ} 1 (cond (eqb t 0) 1 2)
   unfolding constantAt
   false-written z = (rw (g, f, e, eq-eqb t 0 z) refl, rw (eq-eqb t 0 z) refl)
 
   pub true-written : {d h k : List ℕ} → (t ≡ 0 → ⊥) → d ≡ set c (at + 3) v → h ≡ set d (at + 4) 1 → k ≡ set h (at + 5) 1
-      → (k ≡ constantAt r at t v) × (2 ≡ cond (eqb t 0) 1 2)
+      → (k ≡ constantAt r at t v) × _≡_ {A = ℕ} 2 (cond (eqb t 0) 1 2)
   unfolding constantAt
   true-written z x y w = (rw (w, y, x, g, f, e, ne-eqb t 0 z) refl, rw (ne-eqb t 0 z) refl)

@@ -5,7 +5,8 @@ use diagram::refusal::LISTED_TERMINAL;
 use diagram::verdict::Verdict;
 ghost use mathlib.Core.Path.{_≡_};
 ghost use mathlib.Core.List.{List};
-ghost use Prim.Native.Nat.{ℕ, _≤_};
+ghost use Prim.Native.Nat.{ℕ, _<_, _≤_};
+ghost use Rattle.diagram.specs.Limits.{maxNodes};
 ghost use lib.ListN.{length, getD};
 ghost use lib.Dec.{leb, ltb};
 ghost use Rattle.diagram.specs.Diagram.{size, vars as varsOf};
@@ -56,7 +57,7 @@ fn lists(list: &[u32], pointer: u32) -> bool
 
 // The checks of a list for an accepted diagram.
 pub(crate) fn listing(list: &[u32], nodes: usize, vars: u32) -> Verdict
-    requires { ⌜ nodes ≤ 4096 ⌝ }
+    requires { ⌜ (0 < nodes) × (nodes ≤ maxNodes) ⌝ }
     ensures { λ r. ⌜ ((w : List ℕ) → nodes ≡ size w → vars ≡ varsOf w → said r ≡ listOf w (now (list .entry))) ⌝ }
 {
     let outside = first_outside(list, nodes);

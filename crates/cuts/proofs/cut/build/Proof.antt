@@ -1,3 +1,5 @@
+use mathlib.Core.Path.{refl, _∙_}
+use Rattle.cuts.proofs.Cutting.{shelf-asked, shelf-built}
 use native.Mathlib.Omega.{arith}
 use borrow.Author.Needs.{needs}
 use Rattle.cuts.proofs.cut.build.Statement.{statement}
@@ -13,7 +15,7 @@ clear-requires c κs = search needs
 
 -- src/cut.rt:45:5
 make-requires : tie.Need-make-requires
-make-requires c κs = search needs
+make-requires c κs = shelf-asked (c .before .before .before .before .before .before .before .pre) _ refl (c .before .before .before .clear .ensures)
 
 -- src/cut.rt:39:1
 same-length : tie.Need-same-length
@@ -21,7 +23,7 @@ same-length c = search needs
 
 -- src/cut.rt:39:1
 returns : tie.Need-returns
-returns c = search needs
+returns c = shelf-built (c .before .before .make .ensures) (c .before .before .make .kept .1 .0 ∙ c .before .before .before .before .before .before .clear .kept .0)
 
 pub build-spec : {M : Type 1} → statement M
 build-spec = tie.close (tie.spec clear-requires make-requires same-length returns)

@@ -1,3 +1,6 @@
+use denote.Ref.{now}
+use mathlib.Core.Path.{refl}
+use Rattle.cuts.proofs.Checks.{says-13, says-14, says-rooted, says-fine}
 use native.Mathlib.Omega.{arith}
 use borrow.Author.Needs.{needs}
 use Rattle.cuts.proofs.listing.listing.Statement.{statement}
@@ -14,7 +17,7 @@ first-outside-requires c κs = search needs
 
 -- src/listing.rt:64:9
 returns : tie.Need-returns
-returns c = ?
+returns c = (λ w is-n is-v. says-13 w (now (c .before .before .before .args .list)) is-n (c .before .first-outside .ensures) (c .if1 .taken))
 
 -- src/listing.rt:69:9
 first-terminal-requires : tie.Need-first-terminal-requires
@@ -22,11 +25,11 @@ first-terminal-requires c κs = search needs
 
 -- src/listing.rt:71:25
 cast-lists : tie.Need-cast-lists
-cast-lists c = search needs
+cast-lists c = omega (arith, c .before .before .before .before .before .pre .1)
 
 -- src/listing.rt:71:25
 sub-lists : tie.Need-sub-lists
-sub-lists c = search needs
+sub-lists c = omega (arith, c .before .before .before .before .before .pre .0)
 
 -- src/listing.rt:71:13
 lists-requires : tie.Need-lists-requires
@@ -34,15 +37,15 @@ lists-requires c κs = search needs
 
 -- src/listing.rt:72:13
 returns-2 : tie.Need-returns-2
-returns-2 c = ?
+returns-2 c = (λ w is-n is-v. says-14 w (now (c .before .before .before .before .before .before .before .args .list)) is-n (c .before .before .before .before .before .first-outside .ensures) (omega (arith, c .before .before .before .before .if1 .left)) (c .before .before .before .first-terminal .ensures) refl (c .before .lists .ensures) (c .before .before .if2 .taken) (c .if3 .taken))
 
 -- src/listing.rt:58:1
 returns-3 : tie.Need-returns-3
-returns-3 c = ?
+returns-3 c = (λ w is-n is-v. says-rooted w (now (c .before .before .before .before .before .before .before .args .list)) is-n (c .before .before .before .before .before .first-outside .ensures) (omega (arith, c .before .before .before .before .if1 .left)) (c .before .before .before .first-terminal .ensures) refl (c .before .lists .ensures) is-v (c .if3 .left))
 
 -- src/listing.rt:58:1
 returns-4 : tie.Need-returns-4
-returns-4 c = ?
+returns-4 c = (λ w is-n is-v. says-fine w (now (c .before .before .before .before .before .args .list)) is-n (c .before .before .before .first-outside .ensures) (omega (arith, c .before .before .if1 .left)) (c .before .first-terminal .ensures) is-v (omega (arith, c .if2 .left)))
 
 pub listing-spec : {M : Type 1} → statement M
 listing-spec =

@@ -52,7 +52,7 @@ same-length c = c .before .loop .inv .0 .kept
 
 -- src/marks.rt:27:1
 returns : tie.Need-returns Inv-loop μ-loop
-returns c = marked-all (now (c .before .before .before .before .args .list)) (c .before .loop .inv .0) (omega arith)
+returns c = marked-all (now (c .before .before .before .before .args .list)) {i = c .before .loop .i} (c .before .loop .inv .0) (omega arith)
 
 pub mark-all-spec : {M : Type 1} → statement M
 mark-all-spec =
