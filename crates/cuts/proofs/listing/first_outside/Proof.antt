@@ -31,11 +31,11 @@ shared-slice-read-if1 c = search needs
 
 -- src/listing.rt:21:21
 cast-if1 : tie.Need-cast-if1 Inv-loop μ-loop
-cast-if1 c = search needs
+cast-if1 c = omega (arith, @shared-slice-known .given (@loop .i))
 
 -- src/listing.rt:22:13
 returns : tie.Need-returns Inv-loop μ-loop
-returns c = scan-hit _ 0 (length (now (c .before .before .before .before .args .list))) (c .before .before .before .loop .i) (c .before .before .before .loop .inv .0) (c .before .before .loop-test .taken) (le-leb _ _ (c .if1 .taken))
+returns c = scan-hit _ 0 (length (now (@Start .args .list))) (@loop .i) (@loop .inv .0) (omega (arith, @loop-test .taken)) (le-leb _ _ (@if1 .taken))
 
 -- src/listing.rt:24:9
 add-i : tie.Need-add-i Inv-loop μ-loop
@@ -47,7 +47,7 @@ loop-less c = omega arith
 
 -- src/listing.rt:20:5
 loop-again : tie.Need-loop-again Inv-loop μ-loop
-loop-again c = (scan-on _ 0 (c .before .before .before .loop .i) (c .before .before .before .loop .inv .0) (lt-leb _ _ (omega arith)), omega arith)
+loop-again c = (scan-on _ 0 (@loop .i) (@loop .inv .0) (lt-leb (@Start .args .nodes) (getD (now (@Start .args .list)) (@loop .i) 0) (omega (arith, @if1 .left))), omega arith)
 
 -- src/listing.rt:16:1
 returns-2 : tie.Need-returns-2 Inv-loop μ-loop

@@ -31,7 +31,7 @@ shared-slice-read-if1 c = search needs
 
 -- src/listing.rt:36:13
 returns : tie.Need-returns Inv-loop μ-loop
-returns c = scan-hit _ 0 (length (now (c .before .before .before .before .args .list))) (c .before .before .before .loop .i) (c .before .before .before .loop .inv .0) (c .before .before .loop-test .taken) (lt-ltb _ 2 (c .if1 .taken))
+returns c = scan-hit _ 0 (length (now (@Start .args .list))) (@loop .i) (@loop .inv .0) (omega (arith, @loop-test .taken)) (lt-ltb _ 2 (@if1 .taken))
 
 -- src/listing.rt:38:9
 add-i : tie.Need-add-i Inv-loop μ-loop
@@ -43,7 +43,7 @@ loop-less c = omega arith
 
 -- src/listing.rt:34:5
 loop-again : tie.Need-loop-again Inv-loop μ-loop
-loop-again c = (scan-on _ 0 (c .before .before .before .loop .i) (c .before .before .before .loop .inv .0) (le-ltb _ 2 (omega arith)), omega arith)
+loop-again c = (scan-on _ 0 (@loop .i) (@loop .inv .0) (le-ltb (getD (now (@Start .args .list)) (@loop .i) 0) 2 (omega (arith, @if1 .left))), omega arith)
 
 -- src/listing.rt:30:1
 returns-2 : tie.Need-returns-2 Inv-loop μ-loop

@@ -1,3 +1,4 @@
+use borrow.Author.Tests.{not-true, not-false}
 use denote.Ref.{now}
 use mathlib.Core.Path.{refl}
 use Rattle.cuts.proofs.Checks.{says-13, says-14, says-rooted, says-fine}
@@ -37,11 +38,11 @@ lists-requires c κs = search needs
 
 -- src/listing.rt:72:13
 returns-2 : tie.Need-returns-2
-returns-2 c = (λ w is-n is-v. says-14 w (now (c .before .before .before .before .before .before .before .args .list)) is-n (c .before .before .before .before .before .first-outside .ensures) (omega (arith, c .before .before .before .before .if1 .left)) (c .before .before .before .first-terminal .ensures) refl (c .before .lists .ensures) (c .before .before .if2 .taken) (c .if3 .taken))
+returns-2 c = (λ w is-n is-v. says-14 w (now (@Start .args .list)) is-n (@first-outside .ensures) (omega (arith, @if1 .left)) (@first-terminal .ensures) refl (@lists .ensures) (@if2 .taken) (not-true _ (@if3 .taken)))
 
 -- src/listing.rt:58:1
 returns-3 : tie.Need-returns-3
-returns-3 c = (λ w is-n is-v. says-rooted w (now (c .before .before .before .before .before .before .before .args .list)) is-n (c .before .before .before .before .before .first-outside .ensures) (omega (arith, c .before .before .before .before .if1 .left)) (c .before .before .before .first-terminal .ensures) refl (c .before .lists .ensures) is-v (c .if3 .left))
+returns-3 c = (λ w is-n is-v. says-rooted w (now (@Start .args .list)) is-n (@first-outside .ensures) (omega (arith, @if1 .left)) (@first-terminal .ensures) refl (@lists .ensures) is-v (not-false _ (@if3 .left)))
 
 -- src/listing.rt:58:1
 returns-4 : tie.Need-returns-4
