@@ -1,25 +1,194 @@
 -- The answer of cutting by a list.
-use Prim.Native.Nat.{ℕ, _+_, _*_, _≤_, _<_, max, min}
+use Prim.Native.Nat.{ℕ, _+_, _-_, _*_, _≤_, _<_, max, min}
 use mathlib.Core.Path.{_≡_, refl, sym, ap, _∙_}
 use mathlib.Core.Bool.{Bool, false, not, _||_}
 use mathlib.Core.List.{List, _++_}
 use native.Mathlib.Omega.{arith}
 use native.Mathlib.Decide.{decLt}
-use lib.ListN.{length, getD, take, drop, replicate, length-drop, length-append, length-replicate, take-append-drop, List·getD-append}
-use lib.Seq.{getD-drop, getD-append-add, ext-getD, drop-drop, length-take-le}
+use lib.ListN.{length, getD, take, drop, replicate, length-drop, length-append, length-replicate, getD-replicate, take-append-drop}
+use lib.Seq.{getD-take, ext-getD, drop-drop, length-take-le}
 use lib.Dec.{eqb}
+use borrow.Author.Tests.{ltb-false}
 use Rattle.diagram.specs.Limits.{maxNodes}
 use Rattle.diagram.specs.Diagram.{size, vars, root, Accepted}
-use Rattle.diagram.specs.Verdict.{Outcome, accepted, refused, said, andThen, ifAccepted, verdictOf, most, roomOf, roomAfter, cleared, Checked}
+use Rattle.diagram.specs.Verdict.{Outcome, accepted, refused, said, andThen, ifAccepted, verdictOf, short, most, roomOf, roomAfter, Checked}
 use Rattle.diagram.specs.declared.verdict.Verdict.{Verdict}
 use Rattle.diagram.specs.declared.verdict.Verdict.the-variants.{Accepted as Yes, Refused as No}
 use Rattle.diagram.specs.declared.verdict.Output.the-variants.{Diagram}
 use Rattle.diagram.proofs.Reading.{accepted-ordered}
-use Rattle.diagram.proofs.Entering.{admitted, room-cleared, still-checked}
+use Rattle.diagram.proofs.Entering.{admitted, lent-fits, lent-zero}
 use Rattle.reduction.specs.Room.{Copied}
 use Rattle.reduction.proofs.Answering.{copied-front}
 use Rattle.approximation.specs.Cut.{cut, listed, listOf}
 use Rattle.approximation.proofs.Cut.{cut-same}
-use Rattle.approximation.proofs.Listing.{list-accepted}
+use Rattle.approximation.proofs.Listing.{Listable, by-list, outside-refused, ending-refused}
 use Rattle.cuts.specs.Marks.{markedIn, Markable, Marked, Cutting, CutIn}
 use Rattle.cuts.specs.Approximates.{cutVerdict, Approximates, Listing, Listed}
+
+-- ---- a room that is given back
+
+zero-front : (k : ℕ) (r : List ℕ) → k ≤ length r → ((j : ℕ) → j < k → getD r j 0 ≡ 0) → take k r ≡ replicate k 0
+zero-front k r h none =
+    ext-getD 0 (take k r) (replicate k 0) (length-take-le k r h ∙ sym (length-replicate {A = ℕ} k 0)) (λ j l.
+    let inside : j < k = rw (length-take-le k r h) at l in
+    getD-take k r j 0 inside ∙ none j inside ∙ sym (getD-replicate k j 0 0 inside))
+
+-- Cleared where it was zero, and as it was beyond.
+pub zeros-back : (k : ℕ) (r s : List ℕ) → k ≤ length r → ((j : ℕ) → j < k → getD r j 0 ≡ 0) → length s ≡ length r → drop k s ≡ drop k r
+    → replicate (min k (length s)) 0 ++ drop k s ≡ r
+zeros-back k r s h none same rest =
+    let all : min k (length s) ≡ k = omega arith in
+    rw (all, rest) (ap (λ (l : List ℕ). l ++ drop k r) (sym (zero-front k r h none)) ∙ take-append-drop k r)
+
+pub drop-more : (a b : ℕ) (s r : List ℕ) → a ≤ b → drop a s ≡ drop a r → drop b s ≡ drop b r
+drop-more a b s r h e =
+    let place : a + (b - a) ≡ b = omega arith in
+    ap (λ (i : ℕ). drop i s) (sym place) ∙ sym (drop-drop (b - a) a s) ∙ ap (λ (l : List ℕ). drop (b - a) l) e ∙ drop-drop (b - a) a r
+    ∙ ap (λ (i : ℕ). drop i r) place
+
+-- ---- the cut by a list
+
+module _ {w list : List ℕ} {t : ℕ} {r out : List ℕ} {n v : ℕ} (a : Listing w list t r out n v) {m : ℕ} (is-m : m ≡ max n 2) where
+  listing-most : m ≡ most w
+  listing-most = is-m ∙ ap (λ (k : ℕ). max k 2) (a .is-size)
+
+  pub listing-few : m ≤ maxNodes
+  listing-few = let e = listing-most in let few = accepted-ordered w (a .accepted) .formed .few in omega arith
+
+  pub listing-markable : Markable list r m
+  listing-markable =
+      let e = listing-most in
+      let long = a .long in
+      record {
+        few = listing-few;
+        long = omega arith;
+        inside = λ j h. let inside = a .inside j h in omega arith;
+      }
+
+  module _ {s : List ℕ} (marks : Marked list m r s) where
+    marks-are : (q : ℕ) → q < size w → markedIn (most w) s q ≡ listed list q
+    unfolding markedIn
+    marks-are q h =
+        let e = listing-most in
+        ap (λ (k : ℕ). markedIn k s q) (sym e) ∙ marks .marks q
+        ∙ ap (λ (x : ℕ). not (eqb x 0) || listed list q) (a .zero (m + q) (omega arith))
+
+    pub listing-cutting : {sent : List ℕ} → 3 * maxNodes ≤ length sent → Cutting w sent s t n v
+    listing-cutting long-sent =
+        let o = accepted-ordered w (a .accepted) in
+        let few = o .formed .few in
+        let whole = o .formed .whole in
+        let long = a .long in
+        let same = marks .kept in
+        record {
+          ordered = o;
+          is-size = a .is-size;
+          is-vars = a .is-vars;
+          terminal = a .terminal;
+          copy = omega arith;
+          long = omega arith;
+        }
+
+    module _ {after : List ℕ} {k : ℕ} (c : CutIn w t s after k) where
+      cut-is : cut w (markedIn (most w) s) t ≡ cut w (listed list) t
+      cut-is = cut-same w (accepted-ordered w (a .accepted)) (markedIn (most w) s) (listed list) t marks-are
+
+      pub listing-made : k ≤ maxNodes
+      listing-made = let fits = c .fits in let e = listing-most in let few = listing-few in omega arith
+
+      pub listing-fits : 3 * k ≤ length out
+      listing-fits = let fits = c .fits in let room = a .output in omega arith
+
+      beyond-all : drop (23 * m) after ≡ drop (23 * m) r
+      beyond-all =
+          let e = listing-most in
+          ap (λ (i : ℕ). drop (23 * i) after) e ∙ c .beyond ∙ ap (λ (i : ℕ). drop (23 * i) s) (sym e)
+          ∙ drop-more (2 * m) (23 * m) s r (omega arith) (marks .beyond)
+
+      pub listing-ends : {out′ u : List ℕ} → length out′ ≡ length out → Copied after (18 * m) out out′ (3 * k)
+          → u ≡ replicate (min (23 * m) (length after)) 0 ++ drop (23 * m) after → Listed w list t r u out out′ k
+      listing-ends {out′} {u} same copied e =
+          let is-most = listing-most in
+          let long = a .long in
+          let fits = listing-fits in
+          let room = c .fits in
+          let kept = c .kept in
+          let marked = marks .kept in
+          let front : take (3 * k) out′ ≡ cut w (listed list) t =
+          copied-front copied (omega arith) (omega arith) ∙ ap (λ (i : ℕ). take (3 * k) (drop (18 * i) after)) is-most ∙ c .made ∙ cut-is in
+          let words : length (cut w (listed list) t) ≡ 3 * k = ap (λ (l : List ℕ). length l) (sym cut-is) ∙ c .words in
+          record {
+            count = c .count ∙ ap (λ (l : List ℕ). size l) cut-is;
+            room = e ∙ zeros-back (23 * m) r after (omega arith) (λ j h. a .zero j (omega arith)) (kept ∙ marked) beyond-all;
+            written = sym (take-append-drop (3 * k) out′) ∙ (rw (front, copied .rest, words) refl);
+          }
+
+-- ---- the verdicts
+
+room-zero : (r : List ℕ) (k : ℕ) → take k r ≡ replicate k 0 → (j : ℕ) → j < k → getD r j 0 ≡ 0
+room-zero r k e j h = sym (getD-take k r j 0 h) ∙ ap (λ (l : List ℕ). getD l j 0) e ∙ getD-replicate k j 0 0 h
+
+lent-enough : (w : List ℕ) (lent : ℕ) → short w (Diagram lent) ≡ false → 3 * most w ≤ lent
+unfolding short
+lent-enough w lent e = ltb-false lent (3 * most w) e
+
+-- An acceptance of a list has the diagram's own counts.
+listable : (w list : List ℕ) (n v : ℕ) → listOf w list ≡ accepted n v → Listable w list
+listable w list n v e = by-list w list
+    (λ i o. let x = outside-refused w list i o in let z : _≡_ {A = ℕ} 0 1 = cc in absurd (omega arith))
+    (λ i o. let x = ending-refused w list i o in let z : _≡_ {A = ℕ} 0 1 = cc in absurd (omega arith))
+    (λ a. a)
+
+module _ {w : List ℕ} (list : List ℕ) (t : ℕ) {before after : List ℕ} (out : List ℕ) {verdict : Verdict} (checked : Checked w (Diagram (length out)) before after verdict) where
+  pub check-refuses : {k p : ℕ} → verdict ≡ No k p → Approximates w list t before after out out verdict 0
+  check-refuses {k} {p} e =
+      let told : verdictOf w (Diagram (length out)) (length before) ≡ refused k p = sym (checked .verdict) ∙ ap said e in
+      record { verdict = rw told (ap said e); nodes = rw told refl; output = rw told refl; left = checked .left }
+
+  module _ {n v : ℕ} (e : verdict ≡ Yes n v) where
+    told : verdictOf w (Diagram (length out)) (length before) ≡ accepted n v
+    told = sym (checked .verdict) ∙ ap said e
+
+    pub list-few : (0 < n) × (n ≤ maxNodes)
+    list-few =
+        let is = admitted checked e .nodes in
+        let f = accepted-ordered w (admitted checked e .accepted) .formed in
+        let few = f .few in
+        let some = f .some in
+        (omega arith, omega arith)
+
+    module _ (l : Verdict) (says : (w : List ℕ) → n ≡ size w → v ≡ vars w → said l ≡ listOf w list) where
+      listing-is : said l ≡ listOf w list
+      listing-is = says w (admitted checked e .nodes) (admitted checked e .variables)
+
+      pub list-refuses : {k p : ℕ} → l ≡ No k p → Approximates w list t before after out out l 0
+      list-refuses {k} {p} f =
+          let no-list : listOf w list ≡ refused k p = sym listing-is ∙ ap said f in
+          record { verdict = rw (told, no-list) (ap said f); nodes = rw (told, no-list) refl; output = rw (told, no-list) refl; left = checked .left }
+
+      module _ {n′ v′ : ℕ} (f : l ≡ Yes n′ v′) where
+        list-fine : listOf w list ≡ accepted n′ v′
+        list-fine = sym listing-is ∙ ap said f
+
+        pub list-given : t < 2 → Listing w list t after out n v
+        list-given terminal =
+            let given = admitted checked e in
+            let fine = listable w list n′ v′ list-fine in
+            record {
+              accepted = given .accepted;
+              is-size = given .nodes;
+              is-vars = given .variables;
+              terminal = terminal;
+              inside = fine .inside;
+              long = lent-fits checked e (roomOf w) (omega arith);
+              zero = λ j h. room-zero after (roomOf w) (lent-zero checked e (roomOf w) (omega arith)) j h;
+              output = lent-enough w (length out) (given .lent);
+            }
+
+        pub list-answered : {after′ out′ : List ℕ} {k : ℕ} → Listed w list t after after′ out out′ k → Approximates w list t before after′ out out′ l k
+        list-answered a = record {
+          verdict = rw (told, list-fine) (ap said f);
+          nodes = rw (told, list-fine) (a .count);
+          output = rw (told, list-fine) (a .written);
+          left = a .room ∙ checked .left;
+        }

@@ -4,8 +4,10 @@
 --     Steps      what the small steps of the code give
 --     Cutting    the cut by marks
 --     Checks     what the checks of a list say
+--     Answering  the answer
 pub mod Marking
 pub mod Sending
 pub mod Steps
 pub mod Cutting
 pub mod Checks
+pub mod Answering

@@ -15,6 +15,7 @@ use diagram::verdict::Verdict;
 use listing::listing;
 use marks::mark_all;
 use reduction::answer::copy;
+ghost use Prim.Native.Nat.{_<_};
 ghost use Rattle.cuts.specs.Approximates.{Approximates, Listing, Listed};
 
 // A verdict, and how many nodes stand in the output: none where the words or the list are refused.
@@ -52,6 +53,7 @@ fn approximate_by(
     room: &mut [u32],
     output: &mut [u32],
 ) -> Approximation
+    requires { ⌜ target .0 < 2 ⌝ }
     ensures { λ r. ⌜ Approximates (now (words .entry)) (now (list .entry)) (target .0) (now (room .entry)) (now (room .exit)) (now (output .entry)) (now (output .exit)) (r .verdict) (r .nodes) ⌝ }
 {
     let verdict = admit(words, room, Output::Diagram(output.len()));

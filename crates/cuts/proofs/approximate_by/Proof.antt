@@ -1,67 +1,50 @@
-use native.Mathlib.Omega.{arith}
+use denote.Ref.{now}
+use Rattle.cuts.proofs.Answering.{check-refuses, list-few, list-refuses, list-given, list-answered}
 use borrow.Author.Needs.{needs}
 use Rattle.cuts.proofs.approximate_by.Statement.{statement}
 use Rattle.cuts.proofs.approximate_by.Tie as tie
-use Rattle.cuts.proofs.approximate_by.Reads as reads
-use Rattle.cuts.proofs.approximate_by.Lts as lts
-use Rattle.cuts.proofs.approximate.Reads as approximate-reads
-use Rattle.cuts.proofs.listing.listing.Reads as listing-reads
-use Rattle.diagram.proofs.validate.admit.Reads as admit-reads
 
--- src/lib.rt:57:9
 admit-requires : tie.Need-admit-requires
 admit-requires c κs = search needs
 
--- src/lib.rt:58:29
 enum-known-verdict : tie.Need-enum-known-verdict
 enum-known-verdict c = search needs
 
--- src/lib.rt:59:9
 enum-told : tie.Need-enum-told
 enum-told c = search needs
 
--- src/lib.rt:59:9
 same-length : tie.Need-same-length
 same-length c = search needs
 
--- src/lib.rt:59:9
 returns : tie.Need-returns
-returns c = ?
+returns c = check-refuses (now (c .before .before .before .before .before .before .before .before .before .before .args .list)) (c .before .before .before .before .before .before .before .before .before .before .args .target .0) (now (c .before .before .before .before .before .before .before .before .before .before .args .output)) (c .before .before .before .before .admit .ensures) (c .enum-told .given .1)
 
--- src/lib.rt:61:9
 listing-requires : tie.Need-listing-requires
-listing-requires c κs = search needs
+listing-requires c κs = list-few (now (c .before .before .before .before .before .before .before .before .before .before .before .args .list)) (c .before .before .before .before .before .before .before .before .before .before .before .args .target .0) (now (c .before .before .before .before .before .before .before .before .before .before .before .args .output)) (c .before .before .before .before .before .admit .ensures) (c .before .verdict .given .1)
 
 enum-told-2 : tie.Need-enum-told-2
 enum-told-2 c = search needs
 
--- src/lib.rt:63:9
 enum-told-3 : tie.Need-enum-told-3
 enum-told-3 c = search needs
 
--- src/lib.rt:63:9
 same-length-2 : tie.Need-same-length-2
 same-length-2 c = search needs
 
--- src/lib.rt:63:9
 returns-2 : tie.Need-returns-2
-returns-2 c = ?
+returns-2 c = list-refuses (now (c .before .before .before .before .before .before .before .before .before .before .before .before .before .before .args .list)) (c .before .before .before .before .before .before .before .before .before .before .before .before .before .before .args .target .0) (now (c .before .before .before .before .before .before .before .before .before .before .before .before .before .before .args .output)) (c .before .before .before .before .before .before .before .before .admit .ensures) (c .before .before .before .before .verdict .given .1) (c .before .before .listing .result) (c .before .before .listing .ensures) (c .enum-told3 .given .1)
 
--- src/lib.rt:68:9
 approximate-requires : tie.Need-approximate-requires
-approximate-requires c κs = search needs
+approximate-requires c κs = list-given (now (c .before .before .before .before .before .before .before .before .before .before .before .before .before .before .before .before .args .list)) (c .before .before .before .before .before .before .before .before .before .before .before .before .before .before .before .before .args .target .0) (now (c .before .before .before .before .before .before .before .before .before .before .before .before .before .before .before .before .args .output)) (c .before .before .before .before .before .before .before .before .before .before .admit .ensures) (c .before .before .before .before .before .before .verdict .given .1) (c .before .before .before .before .listing .result) (c .before .before .before .before .listing .ensures) (c .before .before .enum-told2 .given .1) (c .before .before .before .before .before .before .before .before .before .before .before .before .before .before .before .before .pre)
 
--- src/lib.rt:48:1
 same-length-3 : tie.Need-same-length-3
 same-length-3 c = search needs
 
--- src/lib.rt:48:1
 same-length-4 : tie.Need-same-length-4
 same-length-4 c = search needs
 
--- src/lib.rt:48:1
 returns-3 : tie.Need-returns-3
-returns-3 c = ?
+returns-3 c = list-answered (now (c .before .before .before .before .before .before .before .before .before .before .before .before .before .before .before .before .before .before .before .before .before .args .list)) (c .before .before .before .before .before .before .before .before .before .before .before .before .before .before .before .before .before .before .before .before .before .args .target .0) (now (c .before .before .before .before .before .before .before .before .before .before .before .before .before .before .before .before .before .before .before .before .before .args .output)) (c .before .before .before .before .before .before .before .before .before .before .before .before .before .before .before .admit .ensures) (c .before .before .before .before .before .before .before .before .before .before .before .verdict .given .1) (c .before .before .before .before .before .before .before .before .before .listing .result) (c .before .before .before .before .before .before .before .before .before .listing .ensures) (c .before .before .before .before .before .before .before .enum-told2 .given .1) (c .before .before .before .before .approximate .ensures)
 
 pub approximate-by-spec : {M : Type 1} → statement M
 approximate-by-spec =

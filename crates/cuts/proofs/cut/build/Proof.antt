@@ -1,27 +1,18 @@
 use mathlib.Core.Path.{refl, _∙_}
 use Rattle.cuts.proofs.Cutting.{shelf-asked, shelf-built}
-use native.Mathlib.Omega.{arith}
 use borrow.Author.Needs.{needs}
 use Rattle.cuts.proofs.cut.build.Statement.{statement}
 use Rattle.cuts.proofs.cut.build.Tie as tie
-use Rattle.cuts.proofs.cut.build.Reads as reads
-use Rattle.cuts.proofs.cut.build.Lts as lts
-use Rattle.diagram.proofs.room.clear.Reads as clear-reads
-use Rattle.reduction.proofs.answer.make.Reads as make-reads
 
--- src/cut.rt:44:5
 clear-requires : tie.Need-clear-requires
 clear-requires c κs = search needs
 
--- src/cut.rt:45:5
 make-requires : tie.Need-make-requires
 make-requires c κs = shelf-asked (c .before .before .before .before .before .before .before .pre) _ refl (c .before .before .before .clear .ensures)
 
--- src/cut.rt:39:1
 same-length : tie.Need-same-length
 same-length c = search needs
 
--- src/cut.rt:39:1
 returns : tie.Need-returns
 returns c = shelf-built (c .before .before .make .ensures) (c .before .before .make .kept .1 .0 ∙ c .before .before .before .before .before .before .clear .kept .0)
 

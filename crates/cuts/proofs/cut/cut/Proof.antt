@@ -5,99 +5,70 @@ use native.Mathlib.Omega.{arith}
 use borrow.Author.Needs.{needs}
 use Rattle.cuts.proofs.cut.cut.Statement.{statement}
 use Rattle.cuts.proofs.cut.cut.Tie as tie
-use Rattle.cuts.proofs.cut.cut.Reads as reads
-use Rattle.cuts.proofs.cut.cut.Lts as lts
-use Rattle.cuts.proofs.cut.build.Reads as build-reads
-use Rattle.cuts.proofs.cut.constant.Reads as constant-reads
-use Rattle.cuts.proofs.marks.is_marked.Reads as is-marked-reads
-use Rattle.cuts.proofs.send.send.Reads as send-reads
-use Rattle.diagram.proofs.lengths.most.Reads as most-reads
 
--- src/cut.rt:60:9
 most-requires : tie.Need-most-requires
 most-requires c κs = search needs
 
--- src/cut.rt:61:42
 sub-t11 : tie.Need-sub-t11
 sub-t11 c = omega (arith, cutting-some (c .before .before .before .before .before .pre) (c .before .most .ensures))
 
--- src/cut.rt:61:41
 cast-t12 : tie.Need-cast-t12
 cast-t12 c = omega (arith, c .before .before .before .before .before .pre .is-size, c .before .before .before .before .before .pre .ordered .formed .few)
 
--- src/cut.rt:61:8
 is-marked-requires : tie.Need-is-marked-requires
 is-marked-requires c κs = cutting-few (c .before .before .before .before .before .pre) (c .before .most .ensures)
 
--- src/cut.rt:62:31
 mul-constant : tie.Need-mul-constant
 mul-constant c = omega (arith, cutting-few (c .before .before .before .before .before .before .before .before .pre) (c .before .before .before .before .most .ensures))
 
--- src/cut.rt:62:9
 constant-requires : tie.Need-constant-requires
 constant-requires c κs = omega (arith, cutting-few (c .before .before .before .before .before .before .before .before .pre) (c .before .before .before .before .most .ensures))
 
--- src/cut.rt:62:9
 same-length : tie.Need-same-length
 same-length c = search needs
 
--- src/cut.rt:62:9
 returns : tie.Need-returns
 returns c = cut-rooted (c .before .before .before .before .before .before .before .before .before .before .before .pre) (c .before .before .before .before .before .before .before .most .ensures) refl (c .before .before .before .before .before .is-marked .ensures) (c .before .before .before .before .if1 .taken) (c .before .before .constant .ensures)
 
--- src/cut.rt:64:5
 send-requires : tie.Need-send-requires
 send-requires c κs = record { formed = c .before .before .before .before .before .before .before .before .before .pre .ordered .formed; is-size = c .before .before .before .before .before .before .before .before .before .pre .is-size; few = cutting-few (c .before .before .before .before .before .before .before .before .before .pre) (c .before .before .before .before .before .most .ensures); long = c .before .before .before .before .before .before .before .before .before .pre .copy }
 
--- src/cut.rt:66:17
 mul-build : tie.Need-mul-build
 mul-build c = omega (arith, c .before .before .before .before .before .before .before .before .before .before .before .before .pre .is-size, c .before .before .before .before .before .before .before .before .before .before .before .before .pre .ordered .formed .few)
 
--- src/cut.rt:66:9
 slice-reshare-prefix-build : tie.Need-slice-reshare-prefix-build
 slice-reshare-prefix-build c = sent-fits (c .before .before .before .before .before .before .before .before .before .before .before .before .pre) (c .before .before .before .before .before .before .before .before .most .ensures) refl (c .before .before .before .before .before .before .is-marked .ensures) (c .before .before .before .before .before .if1 .left) (c .before .before .send .ensures)
 
--- src/cut.rt:66:9
 slice-aggregate-build : tie.Need-slice-aggregate-build
 slice-aggregate-build c = sym (length-take-le _ _ (sent-fits (c .before .before .before .before .before .before .before .before .before .before .before .before .before .pre) (c .before .before .before .before .before .before .before .before .before .most .ensures) refl (c .before .before .before .before .before .before .before .is-marked .ensures) (c .before .before .before .before .before .before .if1 .left) (c .before .before .before .send .ensures)))
 
--- src/cut.rt:67:19
 mul-build-2 : tie.Need-mul-build-2
 mul-build-2 c = omega (arith, cutting-few (c .before .before .before .before .before .before .before .before .before .before .before .before .before .pre) (c .before .before .before .before .before .before .before .before .before .most .ensures))
 
--- src/cut.rt:67:30
 mul-build-3 : tie.Need-mul-build-3
 mul-build-3 c = omega (arith, cutting-few (c .before .before .before .before .before .before .before .before .before .before .before .before .before .pre) (c .before .before .before .before .before .before .before .before .before .most .ensures))
 
--- src/cut.rt:67:9
 mul-build-4 : tie.Need-mul-build-4
 mul-build-4 c = omega (arith, cutting-few (c .before .before .before .before .before .before .before .before .before .before .before .before .before .pre) (c .before .before .before .before .before .before .before .before .before .most .ensures))
 
--- src/cut.rt:67:9
 sub-build : tie.Need-sub-build
 sub-build c = omega arith
 
--- src/cut.rt:67:9
 part-build-start : tie.Need-part-build-start
 part-build-start c = omega arith
 
--- src/cut.rt:67:9
 part-build-end : tie.Need-part-build-end
 part-build-end c = omega (arith, c .before .before .before .before .before .before .before .before .before .before .before .before .before .pre .long, cutting-most (c .before .before .before .before .before .before .before .before .before .before .before .before .before .pre) (c .before .before .before .before .before .before .before .before .before .most .ensures))
 
--- src/cut.rt:65:5
 build-requires : tie.Need-build-requires
 build-requires c κs = sent-building (c .before .before .before .before .before .before .before .before .before .before .before .before .before .before .pre) (c .before .before .before .before .before .before .before .before .before .before .most .ensures) refl (c .before .before .before .before .before .before .before .before .is-marked .ensures) (c .before .before .before .before .before .before .before .if1 .left) (c .before .before .before .before .send .ensures)
 
--- src/cut.rt:49:1
 same-length-2 : tie.Need-same-length-2
 same-length-2 c = search needs
 
--- src/cut.rt:49:1
 same-length-3 : tie.Need-same-length-3
 same-length-3 c = search needs
 
--- src/cut.rt:49:1
 returns-2 : tie.Need-returns-2
 returns-2 c = cut-built (c .before .before .before .before .before .before .before .before .before .before .before .before .before .before .before .before .before .pre) (c .before .before .before .before .before .before .before .before .before .before .before .before .before .most .ensures) refl (c .before .before .before .before .before .before .before .before .before .before .before .is-marked .ensures) (c .before .before .before .before .before .before .before .before .before .before .if1 .left) (c .before .before .before .before .before .before .before .send .ensures) (c .before .before .build .ensures)
 

@@ -6,45 +6,31 @@ use native.Mathlib.Omega.{arith}
 use borrow.Author.Needs.{needs}
 use Rattle.cuts.proofs.listing.listing.Statement.{statement}
 use Rattle.cuts.proofs.listing.listing.Tie as tie
-use Rattle.cuts.proofs.listing.listing.Reads as reads
-use Rattle.cuts.proofs.listing.listing.Lts as lts
-use Rattle.cuts.proofs.listing.first_outside.Reads as first-outside-reads
-use Rattle.cuts.proofs.listing.first_terminal.Reads as first-terminal-reads
-use Rattle.cuts.proofs.listing.lists.Reads as lists-reads
 
--- src/listing.rt:62:9
 first-outside-requires : tie.Need-first-outside-requires
 first-outside-requires c κs = search needs
 
--- src/listing.rt:64:9
 returns : tie.Need-returns
 returns c = (λ w is-n is-v. says-13 w (now (c .before .before .before .args .list)) is-n (c .before .first-outside .ensures) (c .if1 .taken))
 
--- src/listing.rt:69:9
 first-terminal-requires : tie.Need-first-terminal-requires
 first-terminal-requires c κs = search needs
 
--- src/listing.rt:71:25
 cast-lists : tie.Need-cast-lists
 cast-lists c = omega (arith, c .before .before .before .before .before .pre .1)
 
--- src/listing.rt:71:25
 sub-lists : tie.Need-sub-lists
 sub-lists c = omega (arith, c .before .before .before .before .before .pre .0)
 
--- src/listing.rt:71:13
 lists-requires : tie.Need-lists-requires
 lists-requires c κs = search needs
 
--- src/listing.rt:72:13
 returns-2 : tie.Need-returns-2
-returns-2 c = (λ w is-n is-v. says-14 w (now (@Start .args .list)) is-n (@first-outside .ensures) (omega (arith, @if1 .left)) (@first-terminal .ensures) refl (@lists .ensures) (@if2 .taken) (not-true _ (@if3 .taken)))
+returns-2 c = (λ w is-n is-v. says-14 w (now (c .before .before .before .before .before .before .before .args .list)) is-n (c .before .before .before .before .before .first-outside .ensures) (omega (arith, c .before .before .before .before .if1 .left)) (c .before .before .before .first-terminal .ensures) refl (c .before .lists .ensures) (c .before .before .if2 .taken) (not-true _ (c .if3 .taken)))
 
--- src/listing.rt:58:1
 returns-3 : tie.Need-returns-3
-returns-3 c = (λ w is-n is-v. says-rooted w (now (@Start .args .list)) is-n (@first-outside .ensures) (omega (arith, @if1 .left)) (@first-terminal .ensures) refl (@lists .ensures) is-v (not-false _ (@if3 .left)))
+returns-3 c = (λ w is-n is-v. says-rooted w (now (c .before .before .before .before .before .before .before .args .list)) is-n (c .before .before .before .before .before .first-outside .ensures) (omega (arith, c .before .before .before .before .if1 .left)) (c .before .before .before .first-terminal .ensures) refl (c .before .lists .ensures) is-v (not-false _ (c .if3 .left)))
 
--- src/listing.rt:58:1
 returns-4 : tie.Need-returns-4
 returns-4 c = (λ w is-n is-v. says-fine w (now (c .before .before .before .before .before .args .list)) is-n (c .before .before .before .first-outside .ensures) (omega (arith, c .before .before .if1 .left)) (c .before .first-terminal .ensures) is-v (omega (arith, c .if2 .left)))
 

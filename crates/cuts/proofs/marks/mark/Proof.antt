@@ -2,32 +2,22 @@ use lib.ListN.{set}
 use mathlib.Core.Path.{ap, _∙_}
 use Prim.Native.Nat.{ℕ, _+_}
 use denote.Ref.{now}
-use native.Mathlib.Omega.{arith}
 use borrow.Author.Needs.{needs}
 use Rattle.cuts.proofs.marks.mark.Statement.{statement}
 use Rattle.cuts.proofs.marks.mark.Tie as tie
-use Rattle.cuts.proofs.marks.mark.Reads as reads
-use Rattle.cuts.proofs.marks.mark.Lts as lts
-use Rattle.diagram.proofs.node.BddPointer.to_index.Reads as to-index-reads
-use Rattle.diagram.proofs.room.put.Reads as put-reads
 
--- src/marks.rt:23:22
 to-index-requires : tie.Need-to-index-requires
 to-index-requires c κs = search needs
 
--- src/marks.rt:23:15
 add-put : tie.Need-add-put
 add-put c = search needs
 
--- src/marks.rt:23:5
 put-requires : tie.Need-put-requires
 put-requires c κs = search needs
 
--- src/marks.rt:19:1
 same-length : tie.Need-same-length
 same-length c = search needs
 
--- src/marks.rt:19:1
 returns : tie.Need-returns
 returns c = c .before .before .put .ensures ∙ ap (λ (i : ℕ). set (now (c .before .before .before .before .before .before .args .room)) (c .before .before .before .before .before .before .args .most + i) 1) (c .before .before .before .to-index .ensures)
 

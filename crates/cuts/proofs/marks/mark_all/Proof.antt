@@ -1,6 +1,6 @@
 use lib.ListN.{length, take}
 use mathlib.Core.Path.{refl}
-use Prim.Native.Nat.{_+_, _-_, _≤_}
+use Prim.Native.Nat.{_-_, _≤_}
 use denote.Ref.{now}
 use Rattle.cuts.proofs.Marking.{mark-start, mark-on, marked-all}
 use Rattle.cuts.specs.Marks.{Marked}
@@ -8,9 +8,6 @@ use borrow.Author.Needs.{needs}
 use native.Mathlib.Omega.{arith}
 use Rattle.cuts.proofs.marks.mark_all.Statement.{statement}
 use Rattle.cuts.proofs.marks.mark_all.Tie as tie
-use Rattle.cuts.proofs.marks.mark_all.Reads as reads
-use Rattle.cuts.proofs.marks.mark_all.Lts as lts
-use Rattle.cuts.proofs.marks.mark.Reads as mark-reads
 
 abbrev Inv-loop : tie.InvT-loop
 Inv-loop list room₀ most i₀ room i = Marked (take i list) most room₀ room × (i ≤ length list)
@@ -18,39 +15,30 @@ Inv-loop list room₀ most i₀ room i = Marked (take i list) most room₀ room 
 abbrev μ-loop : tie.MeasureT-loop
 μ-loop list room₀ most i₀ room i = length list - i
 
--- src/marks.rt:32:5
 loop-holds : tie.Need-loop-holds Inv-loop μ-loop
 loop-holds c = (mark-start (now (c .before .before .args .list)) (c .before .before .args .most) (now (c .before .before .args .room)), omega arith)
 
--- src/marks.rt:33:37
 mul-t5 : tie.Need-mul-t5 Inv-loop μ-loop
 mul-t5 c = search needs
 
--- src/marks.rt:33:37
 shared-slice-read-t11 : tie.Need-shared-slice-read-t11 Inv-loop μ-loop
 shared-slice-read-t11 c = search needs
 
--- src/marks.rt:33:9
 mark-requires : tie.Need-mark-requires Inv-loop μ-loop
 mark-requires c κs = c .before .before .before .before .before .before .pre .few
 
--- src/marks.rt:34:9
 add-i : tie.Need-add-i Inv-loop μ-loop
 add-i c = search needs
 
--- src/marks.rt:32:5
 loop-less : tie.Need-loop-less Inv-loop μ-loop
 loop-less c = omega arith
 
--- src/marks.rt:32:5
 loop-again : tie.Need-loop-again Inv-loop μ-loop
 loop-again c = (mark-on (now (c .before .before .before .before .before .before .before .before .before .args .list)) (c .before .before .before .before .before .before .before .before .before .args .most) (now (c .before .before .before .before .before .before .before .before .before .args .room)) (c .before .before .before .before .before .before .loop .inv .0) (c .before .before .before .before .before .before .before .before .before .pre) (c .before .before .before .before .before .loop-test .taken) refl (c .before .before .mark .ensures), omega arith)
 
--- src/marks.rt:27:1
 same-length : tie.Need-same-length Inv-loop μ-loop
 same-length c = c .before .loop .inv .0 .kept
 
--- src/marks.rt:27:1
 returns : tie.Need-returns Inv-loop μ-loop
 returns c = marked-all (now (c .before .before .before .before .args .list)) {i = c .before .loop .i} (c .before .loop .inv .0) (omega arith)
 

@@ -1,6 +1,6 @@
 use lib.ListN.{length}
 use mathlib.Core.Path.{_≡_, refl, ap, _∙_}
-use Prim.Native.Nat.{ℕ, _+_, _-_, _≤_, _<_}
+use Prim.Native.Nat.{ℕ, _-_, _≤_, _<_}
 use denote.Ref.{now}
 use Rattle.cuts.proofs.Sending.{Sofar, sent-on, sent-ends}
 use Rattle.cuts.specs.Marks.{markedIn, linkFrom}
@@ -9,13 +9,6 @@ use borrow.Author.Needs.{needs}
 use native.Mathlib.Omega.{arith}
 use Rattle.cuts.proofs.send.send.Statement.{statement}
 use Rattle.cuts.proofs.send.send.Tie as tie
-use Rattle.cuts.proofs.send.send.Reads as reads
-use Rattle.cuts.proofs.send.send.Lts as lts
-use Rattle.cuts.proofs.send.put_node.Reads as put-node-reads
-use Rattle.cuts.proofs.send.sent_link.Reads as sent-link-reads
-use Rattle.diagram.proofs.node.high_link_of.Reads as high-link-of-reads
-use Rattle.diagram.proofs.node.low_link_of.Reads as low-link-of-reads
-use Rattle.diagram.proofs.node.var_of.Reads as var-of-reads
 
 abbrev Inv-loop : tie.InvT-loop
 Inv-loop words room most target sent₀ nodes p₀ sent p = ((f : Formed words) → Sofar words f (markedIn most room) (target .0) p sent) × (p ≤ nodes) × (length sent ≡ length sent₀)
@@ -23,47 +16,36 @@ Inv-loop words room most target sent₀ nodes p₀ sent p = ((f : Formed words) 
 abbrev μ-loop : tie.MeasureT-loop
 μ-loop words room most target sent₀ nodes p₀ sent p = nodes - p
 
--- src/send.rt:58:5
 loop-holds : tie.Need-loop-holds Inv-loop μ-loop
 loop-holds c = ((λ f j h. absurd (omega arith)), omega arith, refl)
 
--- src/send.rt:59:31
 cast-t12 : tie.Need-cast-t12 Inv-loop μ-loop
 cast-t12 c = omega (arith, c .before .before .before .before .before .pre .is-size, c .before .before .before .before .before .pre .formed .few)
 
--- src/send.rt:60:55
 low-link-of-requires : tie.Need-low-link-of-requires Inv-loop μ-loop
 low-link-of-requires c κs = search needs
 
--- src/send.rt:60:13
 sent-link-requires : tie.Need-sent-link-requires Inv-loop μ-loop
 sent-link-requires c κs = c .before .before .before .before .before .before .pre .few
 
--- src/send.rt:61:56
 high-link-of-requires : tie.Need-high-link-of-requires Inv-loop μ-loop
 high-link-of-requires c κs = search needs
 
--- src/send.rt:61:13
 sent-link-requires-2 : tie.Need-sent-link-requires-2 Inv-loop μ-loop
 sent-link-requires-2 c κs = c .before .before .before .before .before .before .before .before .pre .few
 
--- src/send.rt:62:30
 var-of-requires : tie.Need-var-of-requires Inv-loop μ-loop
 var-of-requires c κs = search needs
 
--- src/send.rt:62:9
 put-node-requires : tie.Need-put-node-requires Inv-loop μ-loop
 put-node-requires c κs = search needs
 
--- src/send.rt:63:9
 add-p : tie.Need-add-p Inv-loop μ-loop
 add-p c = search needs
 
--- src/send.rt:58:5
 loop-less : tie.Need-loop-less Inv-loop μ-loop
 loop-less c = omega arith
 
--- src/send.rt:58:5
 loop-again : tie.Need-loop-again Inv-loop μ-loop
 loop-again c =
     let inside : c .before .before .before .before .before .before .before .before .before .before .loop .p < size (now (c .before .before .before .before .before .before .before .before .before .before .before .before .before .before .args .words)) = omega (arith, c .before .before .before .before .before .before .before .before .before .before .before .before .before .before .pre .is-size) in
@@ -72,11 +54,9 @@ loop-again c =
     let high = c .before .before .before .before .before .sent-link2 .ensures ∙ ap (λ (q : ℕ). linkFrom (markedIn (c .before .before .before .before .before .before .before .before .before .before .before .before .before .before .args .most) (now (c .before .before .before .before .before .before .before .before .before .before .before .before .before .before .args .room))) (c .before .before .before .before .before .before .before .before .before .before .before .before .before .before .args .target .0) (c .before .before .before .before .before .before .before .before .before .before .loop .p) q) (c .before .before .before .before .before .before .high-link-of .ensures) in
     ((λ f. rw (c .before .before .put-node .ensures) (sent-on (now (c .before .before .before .before .before .before .before .before .before .before .before .before .before .before .args .words)) f (markedIn (c .before .before .before .before .before .before .before .before .before .before .before .before .before .before .args .most) (now (c .before .before .before .before .before .before .before .before .before .before .before .before .before .before .args .room))) (c .before .before .before .before .before .before .before .before .before .before .before .before .before .before .args .target .0) (c .before .before .before .before .before .before .before .before .before .before .loop .p) (c .before .before .before .before .before .before .before .before .before .before .loop .sent) (c .before .before .before .before .before .before .before .before .before .before .loop .inv .0 f) inside long (c .before .before .before .var-of .result .0) (c .before .before .before .before .before .before .before .sent-link .result .0) (c .before .before .before .before .before .sent-link2 .result .0) (c .before .before .before .var-of .ensures) low high)), omega arith, c .before .before .put-node .kept .0 ∙ c .before .before .before .before .before .before .before .before .before .before .loop .inv .2)
 
--- src/send.rt:46:1
 same-length : tie.Need-same-length Inv-loop μ-loop
 same-length c = c .before .loop .inv .2
 
--- src/send.rt:46:1
 returns : tie.Need-returns Inv-loop μ-loop
 returns c = sent-ends (now (c .before .before .before .before .before .args .words)) (c .before .before .before .before .before .pre .formed) (markedIn (c .before .before .before .before .before .args .most) (now (c .before .before .before .before .before .args .room))) (c .before .before .before .before .before .args .target .0) (c .before .loop .p) (c .before .loop .sent) (now (c .before .before .before .before .before .args .sent)) (c .before .loop .inv .0 (c .before .before .before .before .before .pre .formed)) (omega (arith, c .before .before .before .before .before .pre .is-size)) (c .before .loop .inv .2) (c .before .before .before .before .before .pre .long)
 
