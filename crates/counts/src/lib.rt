@@ -1,6 +1,6 @@
 // Counts of a decision diagram: the valuations that it holds for, and the paths from its root to node 1.
 mod notes;
-mod total;
+pub mod total;
 mod worth;
 
 use diagram::validate::admit;

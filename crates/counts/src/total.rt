@@ -14,7 +14,7 @@ ghost use Rattle.diagram.specs.Diagram.{size, Ordered};
 ghost use Rattle.counts.specs.Worth.{entry as entryOf, totalOf};
 
 // The root's worth, doubled for the variables above the root. The room is zero before and after.
-pub(crate) fn total(words: &[u32], room: &mut [u32], nodes: usize, valuations: bool) -> Natural
+pub fn total(words: &[u32], room: &mut [u32], nodes: usize, valuations: bool) -> Natural
     requires { ⌜ (nodes ≡ size (now words)) × Ordered (now words) × (now room ≡ replicate (entryOf * nodes) 0) ⌝ }
     ensures { λ r. ⌜ Holds (totalOf valuations (now (words .entry))) (r .words) × (now (room .exit) ≡ replicate (length (now (room .entry))) 0) ⌝ }
 {

@@ -19,7 +19,7 @@ ghost use Rattle.cuts.specs.Marks.{Built, Building, Cutting, CutIn, cons
 pub const SENT: usize = 12288;
 
 // Writes the constant that stands for a terminal at a place of the room, and gives its number of nodes.
-fn constant(room: &mut [u32], at: usize, target: BddPointer, vars: u32) -> usize
+pub fn constant(room: &mut [u32], at: usize, target: BddPointer, vars: u32) -> usize
     requires { ⌜ at ≤ 64 * maxNodes ⌝ }
     ensures { λ r. ⌜ (now (room .exit) ≡ constantAt (now (room .entry)) at (target .0) vars) × (r ≡ cond (eqb (target .0) 0) 1 2) ⌝ }
 {

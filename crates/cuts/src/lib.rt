@@ -2,7 +2,7 @@
 pub mod cut;
 mod listing;
 pub mod marks;
-mod send;
+pub mod send;
 
 use cut::SENT;
 use cut::cut;

@@ -55,7 +55,7 @@ fn word_of(words: &[u32], vars: u32, at: usize) -> u32
     exchanged(same)
 }
 
-fn negate(words: &[u32], output: &mut [u32], nodes: usize, vars: u32) -> usize
+pub fn negate(words: &[u32], output: &mut [u32], nodes: usize, vars: u32) -> usize
     requires { ⌜ (nodes ≡ size (now words)) × Ready (now words) vars × (length (negated (now words)) ≤ length (now output)) ⌝ }
     ensures { λ r. ⌜ (r ≡ size (negated (now (words .entry)))) × (now (output .exit) ≡ over (negated (now (words .entry))) (now (output .entry))) ⌝ }
 {

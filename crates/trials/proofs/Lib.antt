@@ -1,0 +1,1 @@
+-- Laws of what the searches for a target share.

@@ -1,0 +1,2 @@
+-- What the searches for a target share; no promise to a caller names these.
+pub mod Trials
