@@ -1,1 +1,5 @@
 -- Laws of what the searches for a target share.
+--     Readying   priorities and weights in the working room
+--     Firsts     the cut by the first priorities
+pub mod Readying
+pub mod Firsts

@@ -1,2 +1,5 @@
 -- What the searches for a target share; no promise to a caller names these.
+--     Trials     the searches' room, and what they find
+--     First      marks of the first priorities
 pub mod Trials
+pub mod First
