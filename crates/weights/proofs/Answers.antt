@@ -16,7 +16,7 @@ use Rattle.diagram.specs.declared.verdict.Verdict.the-variants.{Accepted as Yes
 use Rattle.diagram.specs.declared.verdict.Output.the-variants.{Weights}
 use Rattle.diagram.proofs.Entering.{admitted, ordered, lent-fits, lent-back}
 use Rattle.weights.specs.Weighed.{weightsVerdict, Weighed, Weighs}
-use Rattle.weights.specs.Chains.{Given}
+use Rattle.levels.specs.Chains.{Given}
 
 -- ---- the verdict, row by row
 

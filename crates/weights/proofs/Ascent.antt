@@ -15,13 +15,12 @@ use Rattle.diagram.specs.Valuations.{weightOf}
 use Rattle.diagram.proofs.Tests.{by-eq}
 use Rattle.diagram.proofs.Reading.{Layer, layered, root-in, var-most, by-two}
 use Rattle.weights.specs.Weighed.{Weighed}
-use Rattle.weights.specs.Chains.{Last, Given}
-use Rattle.weights.specs.Passes.{entry, num, In, Noted, satOf, skip, scaled, throughOf, dot, Todo, Passing, Passed, Turning, Ascending, AtUp, Giving, Rising}
+use Rattle.levels.specs.Chains.{Last, Given, Todo}
+use Rattle.weights.specs.Passes.{entry, num, In, Noted, satOf, skip, scaled, throughOf, dot, Passing, Passed, Turning, Ascending, AtUp, Giving, Rising}
 use Rattle.weights.proofs.Dots.{bump, bump-here, bump-other, bump-least, without, without-here, without-other, dot-least, dot-only, dot-moved}
 use Rattle.weights.proofs.Levels.{Shared, sat-end, through-node, through-self, through-none, weight-through, all-node, all-root, weight-most, under-limit}
 use Rattle.weights.proofs.Entries.{zero-entry, zero-rest}
-use Rattle.weights.proofs.Chaining.{todo-from, todo-back, todo-ends, todo-begins, by-todo}
-use Rattle.weights.proofs.Descent.{at-chain, chain-falls}
+use Rattle.levels.proofs.Chaining.{todo-from, todo-back, todo-ends, todo-begins, by-todo, at-chain, chain-falls}
 
 pub passing-as : {w out : List ℕ} {c b : ℕ} → Passing w out c b → (d e : ℕ) → ((q : ℕ) → q < size w → Todo w c b q → Todo w d e q)
     → ((q : ℕ) → q < size w → Todo w d e q → Todo w c b q) → Passing w out d e

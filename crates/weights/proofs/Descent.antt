@@ -11,10 +11,10 @@ use Rattle.naturals.proofs.Answer.{holds-as, fitted-below}
 use Rattle.diagram.specs.Diagram.{varOf, lowOf, highOf, size, vars, Ordered}
 use Rattle.diagram.proofs.Tests.{by-eq}
 use Rattle.diagram.proofs.Reading.{Layer, layered, at-end}
-use Rattle.weights.specs.Chains.{Last, Linked, Given, Node}
-use Rattle.weights.specs.Passes.{entry, num, In, Noted, satOf, scaled, Known, Sated, Joining, Descending, AtDown, Parting}
+use Rattle.levels.specs.Chains.{Last, Linked, Given, Known}
+use Rattle.weights.specs.Passes.{entry, num, In, Noted, satOf, scaled, Sated, Joining, Descending, AtDown, Parting}
 use Rattle.weights.proofs.Levels.{sat-node, sat-end, sat-most, under-limit}
-use Rattle.weights.proofs.Chaining.{known-from, known-begins, known-ends}
+use Rattle.levels.proofs.Chaining.{known-from, known-begins, known-ends, at-chain, chain-falls, heads-all}
 
 pub sated-as : {w room : List ℕ} {c b : ℕ} → Sated w room c b → (d e : ℕ) → ((q : ℕ) → q < size w → Known w d e q → Known w c b q) → Sated w room d e
 sated-as s d e f = record { long = s .long; next = s .next; right = λ q h k. s .right q h (f q h k) }
@@ -109,13 +109,6 @@ module _ {w room : List ℕ} {n p : ℕ} (j : Joining w room n p) where
 
 -- ---- one variable
 
-pub at-chain : {w : List ℕ} {c b p : ℕ} → b ≤ size w → Last w c b p → p ≢ 0 → Node w p × (varOf w p ≡ c)
-at-chain l h ne = let k = h .node ne in (record { two = k .0; inside = omega (arith, k .1) }, k .2)
-
--- the next in a chain stands before
-pub chain-falls : {w : List ℕ} {c p q : ℕ} → 2 ≤ p → Last w c p q → q < p
-chain-falls {p = p} {q = q} two l = by-eq q 0 (λ e. omega arith) (λ ne. l .node ne .1)
-
 module _ {w room : List ℕ} {n c : ℕ} (given : Given w n) (level : c < vars w) where
   module _ {p : ℕ} (s : AtDown w room c p) (ne : p ≢ 0) where
     pub down-joins : Joining w room n p
@@ -160,9 +153,6 @@ pub part-done : (w room : List ℕ) (n p q : ℕ) {x : List ℕ} → Holds (num 
 part-done w room n p q h g = holds-as (ap (λ (z : ℕ). scaled w p q z) (h .worth)) g
 
 -- ---- all variables
-
-pub heads-all : {w heads nexts : List ℕ} {n : ℕ} → Given w n → Linked w heads nexts n → (c : ℕ) → c < vars w → Last w c (size w) (getD heads c 0)
-heads-all given l c h = rw (given .nodes) at (l .head c h)
 
 pub all-down : {w heads nexts room : List ℕ} {n v c : ℕ} → Given w n → Linked w heads nexts n → v ≡ vars w → c ≤ v → 0 < c → Sated w room c 0
     → Descending w heads room n (c - 1)

@@ -2,7 +2,6 @@
 --     Dots       sums of products, and amounts that move
 --     Levels     counting from a node's own variable on
 --     Entries    tables of counts in lent words
---     Chaining   the chains of each variable's nodes
 --     Descent    the first pass
 --     Ascent     the second pass
 --     Answers    what the public function answers
@@ -10,7 +9,6 @@
 pub mod Dots
 pub mod Levels
 pub mod Entries
-pub mod Chaining
 pub mod Descent
 pub mod Ascent
 pub mod Answers

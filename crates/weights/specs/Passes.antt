@@ -12,7 +12,7 @@ use Rattle.diagram.specs.Diagram.{varOf, size, vars}
 use Rattle.diagram.specs.Reading.{eval}
 use Rattle.diagram.specs.Valuations.{tally, weightOf}
 use Rattle.diagram.proofs.Meeting.{meet}
-use Rattle.weights.specs.Chains.{Last, Given, Node}
+use Rattle.levels.specs.Chains.{Last, Given, Node, Known, Todo}
 
 -- ---- tables of counts
 
@@ -48,11 +48,6 @@ skip w p q = varOf w q - varOf w p - 1
 abbrev pub scaled : List ℕ → ℕ → ℕ → ℕ → ℕ
 scaled w p q x = x * 2 ^ skip w p q
 
--- Counted already: at a larger variable than c, or at c and not before b.
-pub record Known (w : List ℕ) (c b q : ℕ) : Type 0 where
-  pub level : c ≤ varOf w q
-  pub turn : varOf w q ≡ c → b ≤ q
-
 -- The room has the chains' links first and the table of `satOf` behind them.
 pub record Sated (w room : List ℕ) (c b : ℕ) : Type 0 where
   pub long : size w + wordCount * size w ≤ length room
@@ -85,11 +80,6 @@ throughOf w t p = tally (vars w - varOf w p) (λ bs. eval w (varOf w p) p bs && 
 unfoldable pub dot : ℕ → (ℕ → ℕ) → (ℕ → ℕ) → ℕ
 dot zero a f = 0
 dot (suc n) a f = dot n a f + a n * f n
-
--- Still to be weighed: at a larger variable than c, or at c and before b.
-pub record Todo (w : List ℕ) (c b q : ℕ) : Type 0 where
-  pub level : c ≤ varOf w q
-  pub turn : varOf w q ≡ c → q < b
 
 -- A node that is still to be weighed has received the valuations of earlier variables that lead to it; one that is weighed
 -- has passed them on. What the nodes have received, each times what goes on from it, stays the same: in all, and through

@@ -1,7 +1,5 @@
 // The first pass, from the last variable to the first: how many satisfying valuations of the variables from a node's own on
 // go on from it. The room has the chains' links, and behind them the table of these counts.
-use crate::chains::head_of;
-use crate::chains::next_of;
 use crate::tables::count_at;
 use crate::tables::note;
 use crate::tables::scaled;
@@ -9,6 +7,8 @@ use diagram::node::BddPointer;
 use diagram::node::BddVariable;
 use diagram::node::high_link_of;
 use diagram::node::low_link_of;
+use levels::head_of;
+use levels::next_of;
 use naturals::Natural;
 use naturals::add;
 use naturals::from_word;
@@ -18,7 +18,7 @@ ghost use Prim.Native.Nat.{_+_, _*_, _≤_};
 ghost use lib.ListN.{length};
 ghost use Rattle.naturals.specs.Natural.{wordCount, Holds};
 ghost use Rattle.diagram.specs.Diagram.{varOf, vars as varsOf};
-ghost use Rattle.weights.specs.Chains.{Given, Linked};
+ghost use Rattle.levels.specs.Chains.{Given, Linked};
 ghost use Rattle.weights.specs.Passes.{num, scaled as scaledBy, Parting, Joining, Descending, Sated};
 
 // What goes on by one child.

@@ -1,8 +1,6 @@
 // The second pass, from the first variable to the last: a node has received the valuations of earlier variables that lead to
 // it, passes them on to its children, and its weight is their number times what goes on from it. What a node has received
 // stands in the output, until its weight takes the place.
-use crate::chains::head_of;
-use crate::chains::next_of;
 use crate::tables::count_at;
 use crate::tables::note;
 use crate::tables::scaled;
@@ -12,6 +10,8 @@ use diagram::node::high_link_of;
 use diagram::node::low_link_of;
 use diagram::node::var_of;
 use diagram::room::clear;
+use levels::head_of;
+use levels::next_of;
 use naturals::Natural;
 use naturals::add;
 use naturals::multiply;
@@ -20,7 +20,7 @@ ghost use Prim.Native.Nat.{_+_, _*_, _≤_, suc};
 ghost use lib.ListN.{length};
 ghost use Rattle.naturals.specs.Natural.{value, wordCount};
 ghost use Rattle.diagram.specs.Diagram.{varOf, size};
-ghost use Rattle.weights.specs.Chains.{Given};
+ghost use Rattle.levels.specs.Chains.{Given};
 ghost use Rattle.weights.specs.Passes.{num, Noted, scaled as scaledBy, Giving, Turning, Ascending, Rising, Passed};
 
 // A child receives what its parent has.

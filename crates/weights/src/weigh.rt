@@ -1,18 +1,18 @@
 // The weights of an accepted diagram of two nodes or more.
-use crate::chains::CHAINS;
-use crate::chains::link;
 use crate::down::count_all;
 use crate::tables::note;
 use crate::up::pass_all;
 use diagram::node::BddPointer;
 use diagram::room::clear;
+use levels::CHAINS;
+use levels::link;
 use naturals::zero;
 ghost use mathlib.Core.Path.{_≡_};
 ghost use Prim.Native.Nat.{_+_, _*_, _≤_};
 ghost use lib.ListN.{length, replicate};
 ghost use Rattle.naturals.specs.Natural.{wordCount};
 ghost use Rattle.diagram.specs.Diagram.{vars as varsOf};
-ghost use Rattle.weights.specs.Chains.{Given};
+ghost use Rattle.levels.specs.Chains.{Given};
 ghost use Rattle.weights.specs.Weighed.{Weighed};
 
 // Leaves the room zero.

@@ -1,7 +1,7 @@
 use denote.Ref.{now}
 use mathlib.Core.Path.{refl, _∙_}
 use Rattle.diagram.proofs.Words.{zeros-whole}
-use Rattle.weights.proofs.Descent.{heads-all}
+use Rattle.levels.proofs.Chaining.{heads-all}
 use Rattle.weights.proofs.Ascent.{weigh-done}
 use native.Mathlib.Omega.{arith}
 use borrow.Author.Needs.{needs}

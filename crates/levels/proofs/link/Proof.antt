@@ -2,12 +2,12 @@ use denote.Ref.{now}
 use mathlib.Core.Path.{refl, _∙_, ap, _≡_}
 use Prim.Native.Nat.{_≤_, _-_}
 use lib.ListN.{length}
-use Rattle.weights.specs.Chains.{Linked}
-use Rattle.weights.proofs.Chaining.{link-begins, link-on}
+use Rattle.levels.specs.Chains.{Linked}
+use Rattle.levels.proofs.Chaining.{link-begins, link-on}
 use borrow.Author.Needs.{needs}
 use native.Mathlib.Omega.{arith}
-use Rattle.weights.proofs.chains.link.Statement.{statement}
-use Rattle.weights.proofs.chains.link.Tie as tie
+use Rattle.levels.proofs.link.Statement.{statement}
+use Rattle.levels.proofs.link.Tie as tie
 
 abbrev Inv-loop : tie.InvT-loop
 Inv-loop words heads₀ room₀ nodes p₀ heads room p = (2 ≤ p) × (p ≤ nodes) × Linked words heads room p × (length heads ≡ length heads₀) × (length room ≡ length room₀)

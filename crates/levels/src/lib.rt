@@ -1,5 +1,5 @@
 // The nodes of each variable as a chain, from the last of them to the first. Children may stand after their parents in the
-// array; with the chains both passes go by variables, in as many steps as there are nodes and variables.
+// array; with the chains a pass goes by variables, in as many steps as there are nodes and variables, without recursion.
 use diagram::node::BddPointer;
 use diagram::node::BddVariable;
 use diagram::node::var_of;
@@ -8,27 +8,27 @@ use diagram::room::put;
 ghost use mathlib.Core.Path.{_≡_};
 ghost use Prim.Native.Nat.{_≤_};
 ghost use lib.ListN.{length, getD, replicate};
-ghost use Rattle.weights.specs.Chains.{chainCount, Linked, Given};
+ghost use Rattle.levels.specs.Chains.{chainCount, Linked, Given};
 
 // At least as many chains as a diagram may have variables.
-pub(crate) const CHAINS: usize = 256;
+pub const CHAINS: usize = 256;
 
 // The last node that tests a variable; node 0 where there is none.
-pub(crate) fn head_of(heads: &[u32], variable: BddVariable) -> BddPointer
+pub fn head_of(heads: &[u32], variable: BddVariable) -> BddPointer
     ensures { λ r. ⌜ r .0 ≡ getD (now (heads .entry)) (variable .0) 0 ⌝ }
 {
     BddPointer(word(heads, variable.0 as usize))
 }
 
 // The node before another one that tests the same variable; node 0 where there is none.
-pub(crate) fn next_of(room: &[u32], node: BddPointer) -> BddPointer
+pub fn next_of(room: &[u32], node: BddPointer) -> BddPointer
     ensures { λ r. ⌜ r .0 ≡ getD (now (room .entry)) (node .0) 0 ⌝ }
 {
     BddPointer(word(room, node.to_index()))
 }
 
 // Makes the chains: `heads` is zero before.
-pub(crate) fn link(words: &[u32], heads: &mut [u32], room: &mut [u32], nodes: usize)
+pub fn link(words: &[u32], heads: &mut [u32], room: &mut [u32], nodes: usize)
     requires { ⌜ Given (now words) nodes × (now heads ≡ replicate chainCount 0) × (nodes ≤ length (now room)) ⌝ }
     ensures { λ _. ⌜ Linked (now (words .entry)) (now (heads .exit)) (now (room .exit)) nodes ⌝ }
 {

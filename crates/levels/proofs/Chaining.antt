@@ -11,8 +11,7 @@ use lib.Seq.{getD-set-same, getD-set-other}
 use Rattle.diagram.specs.Diagram.{varOf, size, vars, Ordered}
 use Rattle.diagram.proofs.Tests.{by-eq}
 use Rattle.diagram.proofs.Reading.{layered, by-two}
-use Rattle.weights.specs.Chains.{chainCount, Last, Linked, Given}
-use Rattle.weights.specs.Passes.{Known, Todo}
+use Rattle.levels.specs.Chains.{chainCount, Last, Linked, Given, Node, Known, Todo}
 
 -- ---- how they are made
 
@@ -110,6 +109,18 @@ by-todo w c b q f g = elim (decLe c (varOf w q)) [
       (λ ne. f (record { level = l; turn = λ e. absurd (ne e) }))
   | no l ↦ g (λ t. l (t .level))
 ]
+
+-- ---- in a chain
+
+pub at-chain : {w : List ℕ} {c b p : ℕ} → b ≤ size w → Last w c b p → p ≢ 0 → Node w p × (varOf w p ≡ c)
+at-chain l h ne = let k = h .node ne in (record { two = k .0; inside = omega (arith, k .1) }, k .2)
+
+-- the next in a chain stands before
+pub chain-falls : {w : List ℕ} {c p q : ℕ} → 2 ≤ p → Last w c p q → q < p
+chain-falls {p = p} {q = q} two l = by-eq q 0 (λ e. omega arith) (λ ne. l .node ne .1)
+
+pub heads-all : {w heads nexts : List ℕ} {n : ℕ} → Given w n → Linked w heads nexts n → (c : ℕ) → c < vars w → Last w c (size w) (getD heads c 0)
+heads-all given l c h = rw (given .nodes) at (l .head c h)
 
 -- ---- the loop that makes them
 

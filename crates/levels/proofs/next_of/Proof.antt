@@ -4,8 +4,8 @@ use Prim.Native.Nat.{ℕ}
 use lib.ListN.{getD}
 use native.Mathlib.Omega.{arith}
 use borrow.Author.Needs.{needs}
-use Rattle.weights.proofs.chains.next_of.Statement.{statement}
-use Rattle.weights.proofs.chains.next_of.Tie as tie
+use Rattle.levels.proofs.next_of.Statement.{statement}
+use Rattle.levels.proofs.next_of.Tie as tie
 
 to-index-requires : tie.Need-to-index-requires
 to-index-requires c κs = search needs

@@ -6,7 +6,7 @@ use mathlib.Core.List.{List}
 use lib.ListN.{getD}
 use Rattle.diagram.specs.Diagram.{varOf, size, vars, Ordered}
 
--- How many chains there are: at least one for each variable. The code has the same number in src/chains.rt.
+-- How many chains there are: at least one for each variable. The code has the same number in src/lib.rt.
 abbrev pub chainCount : ℕ
 chainCount = 256
 
@@ -20,7 +20,7 @@ pub record Linked (w heads nexts : List ℕ) (b : ℕ) : Type 0 where
   pub head : (c : ℕ) → c < vars w → Last w c b (getD heads c 0)
   pub next : (p : ℕ) → 2 ≤ p → p < b → Last w (varOf w p) p (getD nexts p 0)
 
--- What the passes ask of the words: an ordered diagram of n nodes, both terminals among them; and of a node of it.
+-- What a pass asks of the words: an ordered diagram of n nodes, both terminals among them; and of a node of it.
 pub record Given (w : List ℕ) (n : ℕ) : Type 0 where
   pub ordered : Ordered w
   pub nodes : n ≡ size w
@@ -29,3 +29,15 @@ pub record Given (w : List ℕ) (n : ℕ) : Type 0 where
 pub record Node (w : List ℕ) (p : ℕ) : Type 0 where
   pub two : 2 ≤ p
   pub inside : p < size w
+
+-- A pass goes by variables, and in each by the chain of its nodes, from the last to the first; where it stands is said by a
+-- variable c and a node b of it. Going from the last variable to the first, it has been at a node of a larger variable than
+-- c, or of c and not before b.
+pub record Known (w : List ℕ) (c b q : ℕ) : Type 0 where
+  pub level : c ≤ varOf w q
+  pub turn : varOf w q ≡ c → b ≤ q
+
+-- Going from the first variable to the last, it has still to come to a node of a larger variable than c, or of c and before b.
+pub record Todo (w : List ℕ) (c b q : ℕ) : Type 0 where
+  pub level : c ≤ varOf w q
+  pub turn : varOf w q ≡ c → q < b
