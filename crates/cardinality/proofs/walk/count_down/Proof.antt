@@ -1,0 +1,66 @@
+use borrow.Author.Needs.{needs}
+use native.Mathlib.Omega.{arith}
+use Rattle.cardinality.proofs.walk.count_down.Statement.{statement}
+use Rattle.cardinality.proofs.walk.count_down.Tie as tie
+use Rattle.cardinality.proofs.walk.count_down.Reads as reads
+use Rattle.cardinality.proofs.walk.count_down.Lts as lts
+use Rattle.cardinality.proofs.walk.level.Reads as level-reads
+use Rattle.cardinality.proofs.walk.terminals.Reads as terminals-reads
+
+abbrev Inv-loop : tie.InvT-loop
+Inv-loop words heads room₀ nodes vars c₀ room c = ?
+
+abbrev μ-loop : tie.MeasureT-loop
+μ-loop words heads room₀ nodes vars c₀ room c = ?
+
+-- src/walk.rt:71:5
+terminals-requires : tie.Need-terminals-requires Inv-loop μ-loop
+terminals-requires c κs = search needs
+
+-- src/walk.rt:73:5
+loop-holds : tie.Need-loop-holds Inv-loop μ-loop
+loop-holds c = ?
+
+-- src/walk.rt:74:42
+sub-level : tie.Need-sub-level Inv-loop μ-loop
+sub-level c = search needs
+
+-- src/walk.rt:74:9
+level-requires : tie.Need-level-requires Inv-loop μ-loop
+level-requires c κs = search needs
+
+-- src/walk.rt:75:9
+sub-c : tie.Need-sub-c Inv-loop μ-loop
+sub-c c = search needs
+
+-- src/walk.rt:73:5
+loop-less : tie.Need-loop-less Inv-loop μ-loop
+loop-less c = search needs
+
+-- src/walk.rt:73:5
+loop-again : tie.Need-loop-again Inv-loop μ-loop
+loop-again c = ?
+
+-- src/walk.rt:67:1
+same-length : tie.Need-same-length Inv-loop μ-loop
+same-length c = search needs
+
+-- src/walk.rt:67:1
+returns : tie.Need-returns Inv-loop μ-loop
+returns c = ?
+
+pub count-down-spec : {M : Type 1} → statement M
+count-down-spec =
+    tie.close
+    (tie.spec
+    Inv-loop
+    μ-loop
+    terminals-requires
+    loop-holds
+    sub-level
+    level-requires
+    sub-c
+    loop-less
+    loop-again
+    same-length
+    returns)
