@@ -4,8 +4,10 @@
 --     Counts      the f64 count of every node: whole, and exact up to 2 ^ 53
 --     Bits        bits of floats
 --     Steps       what each step of the walk over the nodes gives
+--     Answers     the whole count, and what the public function answers
 pub mod Near
 pub mod Wholes
 pub mod Counts
 pub mod Bits
 pub mod Steps
+pub mod Answers

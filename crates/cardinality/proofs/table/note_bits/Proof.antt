@@ -1,3 +1,7 @@
+use denote.Ref.{now}
+use Prim.Native.Nat.{_+_, _*_, _%_}
+use lib.ListN.{length-set}
+use Rattle.cardinality.proofs.Bits.{bits-noted}
 use native.Mathlib.Omega.{arith}
 use borrow.Author.Needs.{needs}
 use Rattle.cardinality.proofs.table.note_bits.Statement.{statement}
@@ -44,7 +48,7 @@ mul-room-2 c = search needs
 
 -- src/table.rt:39:5
 slice-write-room-2 : tie.Need-slice-write-room-2
-slice-write-room-2 c = search needs
+slice-write-room-2 c = omega (arith, c .before .before .pre, c .to-index .ensures, length-set (now (c .before .before .args .room)) (c .before .before .args .base + 2 * c .to-index .result) (c .before .before .args .bits % 4294967296))
 
 -- src/table.rt:33:1
 same-length : tie.Need-same-length
@@ -52,7 +56,7 @@ same-length c = search needs
 
 -- src/table.rt:33:1
 returns : tie.Need-returns
-returns c = ?
+returns c = bits-noted (now (c .before .before .args .room)) (c .before .before .args .base) (c .before .before .args .node .0) (c .to-index .result) (c .before .before .args .bits) (c .to-index .ensures) (c .before .before .pre)
 
 pub note-bits-spec : {M : Type 1} → statement M
 note-bits-spec =
