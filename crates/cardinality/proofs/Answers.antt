@@ -1,27 +1,29 @@
 -- The whole count, and what the public function answers.
 use Prim.Native.Nat.{ℕ, _+_, _-_, _*_, _^_, _≤_, _<_}
-use mathlib.Core.Path.{_≡_, sym, ap, _∙_}
+use mathlib.Core.Path.{_≡_, refl, sym, ap, _∙_}
 use mathlib.Core.Bool.{true, not}
 use mathlib.Core.List.{List, _++_}
 use native.Mathlib.Omega.{arith}
 use native.Mathlib.Nat.{zero-mul}
 use lib.ListN.{length, take, drop, replicate, length-replicate}
 use lib.Dec.{T}
-use lib.Ieee.{Float, binary64, mul, nanBits, ofBits}
+use lib.Ieee.{Float, binary64, mul, isNan, nanBits, ofBits}
 use Rattle.diagram.specs.Diagram.{varOf, size, vars, root, Ordered}
 use Rattle.diagram.specs.Valuations.{countOf}
-use Rattle.diagram.specs.Verdict.{roomOf, Checked}
+use Rattle.diagram.specs.Verdict.{Outcome, accepted, refused, ifAccepted, verdictOf, roomOf, Checked}
 use Rattle.diagram.specs.declared.verdict.Verdict.{Verdict}
 use Rattle.diagram.specs.declared.verdict.Verdict.the-variants.{Accepted as Yes, Refused as No}
 use Rattle.diagram.specs.declared.verdict.Output.the-variants.{Nothing}
-use Rattle.diagram.proofs.Reading.{layered, root-in, var-most}
+use Rattle.diagram.proofs.Meaning.{verdict-accepted}
+use Rattle.diagram.proofs.Reading.{layered, root-in, var-most, accepted-ordered}
 use Rattle.diagram.proofs.Entering.{when-refused, when-accepted, admitted, ordered, still-checked, lent-fits, lent-zero, lent-back, checked-as}
 use Rattle.levels.specs.Chains.{Given}
 use Rattle.counts.specs.Worth.{worthOf, doublings}
 use Rattle.counts.proofs.Nodes.{worth-end, total-valuations}
 use Rattle.cardinality.specs.Cardinality.{nought, powerOfTwo, cardinalityOf, CountsFloat}
 use Rattle.cardinality.specs.Table.{bitsAt, In, floatOf, Floated}
-use Rattle.cardinality.proofs.Counts.{float-root, false-is-nought}
+use Rattle.cardinality.proofs.Counts.{float-root, count-stands, false-is-nought}
+use Rattle.cardinality.proofs.Wholes.{no-nan}
 use Rattle.cardinality.proofs.Steps.{read-asks, read-back}
 
 -- ---- the whole
@@ -91,3 +93,19 @@ module _ {w before after : List ℕ} {v : Verdict} (c : Checked w Nothing before
       checked = checked-as (still-checked c e) (lent-back c e (3 * n) used-fits part z);
       counted = h ∙ sym (when-accepted c e (cardinalityOf w) nought);
     }
+
+zero-no-nan : T (not (isNan nought))
+unfolding isNan
+zero-no-nan = tt
+
+ordered-no-nan : (w : List ℕ) → Ordered w → T (not (isNan (cardinalityOf w)))
+ordered-no-nan w o = let s = count-stands w o in no-nan (cardinalityOf w) (s .number) 1 (s .whole .value)
+
+-- the count is never a NaN
+pub never-nan : {w before after : List ℕ} {v : Verdict} {x : Float} → CountsFloat w before after v x → T (not (isNan x))
+never-nan {w} {before} {x = x} r =
+    rw (r .counted) (by-verdict (verdictOf w Nothing (length before)) (λ k u e. ordered-no-nan w (accepted-ordered w (verdict-accepted w Nothing (length before) k u e .accepted))))
+  where
+    by-verdict : (o : Outcome) → ((k u : ℕ) → o ≡ accepted k u → T (not (isNan (cardinalityOf w)))) → T (not (isNan (ifAccepted o (cardinalityOf w) nought)))
+    by-verdict (accepted k u) f = f k u refl
+    by-verdict (refused k p) f = zero-no-nan
