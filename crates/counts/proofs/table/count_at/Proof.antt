@@ -1,9 +1,9 @@
 use denote.Ref.{now}
-use Rattle.weights.proofs.Entries.{count-read}
+use Rattle.counts.proofs.Entries.{count-read}
 use native.Mathlib.Omega.{arith}
 use borrow.Author.Needs.{needs}
-use Rattle.weights.proofs.tables.count_at.Statement.{statement}
-use Rattle.weights.proofs.tables.count_at.Tie as tie
+use Rattle.counts.proofs.table.count_at.Statement.{statement}
+use Rattle.counts.proofs.table.count_at.Tie as tie
 
 to-index-requires : tie.Need-to-index-requires
 to-index-requires c κs = search needs

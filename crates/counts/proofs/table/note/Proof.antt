@@ -1,9 +1,9 @@
 use denote.Ref.{now}
-use Rattle.weights.proofs.Entries.{note-done}
+use Rattle.counts.proofs.Entries.{note-done}
 use native.Mathlib.Omega.{arith}
 use borrow.Author.Needs.{needs}
-use Rattle.weights.proofs.tables.note.Statement.{statement}
-use Rattle.weights.proofs.tables.note.Tie as tie
+use Rattle.counts.proofs.table.note.Statement.{statement}
+use Rattle.counts.proofs.table.note.Tie as tie
 
 to-index-requires : tie.Need-to-index-requires
 to-index-requires c κs = search needs

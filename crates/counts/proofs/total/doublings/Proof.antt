@@ -1,7 +1,7 @@
--- `counts::worth::doublings` meets its contract.
+-- `counts::total::doublings` meets its contract.
 use Rattle.counts.specs.Worth.{doublings}
-use Rattle.counts.proofs.worth.doublings.Statement.{statement}
-use Rattle.counts.proofs.worth.doublings.Tie as tie
+use Rattle.counts.proofs.total.doublings.Statement.{statement}
+use Rattle.counts.proofs.total.doublings.Tie as tie
 
 returns : tie.Need-returns
 unfolding doublings

@@ -1,4 +1,4 @@
-// Tables of counts in lent words: one for each node, from a base on.
+// Tables of numbers in lent words: one for each node, from a base on.
 use diagram::node::BddPointer;
 use diagram::node::var_of;
 use naturals::Natural;
@@ -8,10 +8,10 @@ use naturals::store;
 ghost use Prim.Native.Nat.{ℕ, _<_};
 ghost use Rattle.naturals.specs.Natural.{value, limit, Holds};
 ghost use Rattle.diagram.specs.Diagram.{varOf};
-ghost use Rattle.weights.specs.Passes.{In, num, Noted, scaled as scaledBy};
+ghost use Rattle.counts.specs.Table.{In, num, Noted, scaled as scaledBy};
 
 // The count of a node.
-pub(crate) fn count_at(table: &[u32], base: usize, node: BddPointer) -> Natural
+pub fn count_at(table: &[u32], base: usize, node: BddPointer) -> Natural
     requires { ⌜ In base (now table) (node .0) ⌝ }
     ensures { λ r. ⌜ Holds (num base (now (table .entry)) (node .0)) (r .words) ⌝ }
 {
@@ -20,7 +20,7 @@ pub(crate) fn count_at(table: &[u32], base: usize, node: BddPointer) -> Natural
 }
 
 // Writes the count of a node.
-pub(crate) fn note(table: &mut [u32], base: usize, node: BddPointer, count: Natural)
+pub fn note(table: &mut [u32], base: usize, node: BddPointer, count: Natural)
     requires { ⌜ In base (now table) (node .0) ⌝ }
     ensures { λ _. ⌜ ((x : ℕ) → Holds x (count .words) → Noted base (now (table .entry)) (node .0) x (now (table .exit))) ⌝ }
 {
@@ -28,7 +28,7 @@ pub(crate) fn note(table: &mut [u32], base: usize, node: BddPointer, count: Natu
 }
 
 // A count along a link: each variable that the link skips doubles it.
-pub(crate) fn scaled(words: &[u32], node: BddPointer, child: BddPointer, count: Natural) -> Natural
+pub fn scaled(words: &[u32], node: BddPointer, child: BddPointer, count: Natural) -> Natural
     requires { ⌜ (varOf (now words) (node .0) < varOf (now words) (child .0)) × (scaledBy (now words) (node .0) (child .0) (value (count .words)) < limit) ⌝ }
     ensures { λ r. ⌜ Holds (scaledBy (now (words .entry)) (node .0) (child .0) (value (count .words))) (r .words) ⌝ }
 {

@@ -1,9 +1,9 @@
 use denote.Ref.{now}
-use Rattle.weights.proofs.Entries.{scaled-done}
+use Rattle.counts.proofs.Entries.{scaled-done}
 use native.Mathlib.Omega.{arith}
 use borrow.Author.Needs.{needs}
-use Rattle.weights.proofs.tables.scaled.Statement.{statement}
-use Rattle.weights.proofs.tables.scaled.Tie as tie
+use Rattle.counts.proofs.table.scaled.Statement.{statement}
+use Rattle.counts.proofs.table.scaled.Tie as tie
 
 var-of-requires : tie.Need-var-of-requires
 var-of-requires c κs = search needs
