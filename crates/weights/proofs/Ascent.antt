@@ -16,7 +16,8 @@ use Rattle.diagram.proofs.Tests.{by-eq}
 use Rattle.diagram.proofs.Reading.{Layer, layered, root-in, var-most, by-two}
 use Rattle.weights.specs.Weighed.{Weighed}
 use Rattle.levels.specs.Chains.{Last, Given, Todo}
-use Rattle.weights.specs.Passes.{entry, num, In, Noted, satOf, skip, scaled, throughOf, dot, Passing, Passed, Turning, Ascending, AtUp, Giving, Rising}
+use Rattle.counts.specs.Table.{entry, num, In, Noted, skip, scaled}
+use Rattle.weights.specs.Passes.{satOf, throughOf, dot, Passing, Passed, Turning, Ascending, AtUp, Giving, Rising}
 use Rattle.weights.proofs.Dots.{bump, bump-here, bump-other, bump-least, without, without-here, without-other, dot-least, dot-only, dot-moved}
 use Rattle.weights.proofs.Levels.{Shared, sat-end, through-node, through-self, through-none, weight-through, all-node, all-root, weight-most, under-limit}
 use Rattle.weights.proofs.Entries.{zero-entry, zero-rest}

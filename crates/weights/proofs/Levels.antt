@@ -17,7 +17,9 @@ use Rattle.diagram.specs.Valuations.{tally, meets, weightOf}
 use Rattle.diagram.proofs.Reading.{Layered, layered, root-in, pass-tests, pass-skips, eval-nil, eval-cons, var-most, holds-is-eval}
 use Rattle.diagram.proofs.Tally.{tally-zero, tally-suc, tally-same, tally-most, tally-none}
 use Rattle.diagram.proofs.Meeting.{meet, meet-cons, meet-here, meet-skips, meet-none, meets-is-meet}
-use Rattle.weights.specs.Passes.{satOf, skip, throughOf}
+use Rattle.counts.specs.Table.{skip}
+use Rattle.counts.specs.Worth.{worthOf}
+use Rattle.weights.specs.Passes.{satOf, throughOf}
 
 -- p's children share out its value, each doubled for the variables that the link skips
 abbrev pub Shared : List ℕ → (ℕ → ℕ) → ℕ → Type 0
@@ -70,11 +72,11 @@ module _ (w : List ℕ) (o : Ordered w) where
 
   -- a node's from its children's; a terminal's is its own number
   pub sat-node : (p : ℕ) → 2 ≤ p → p < size w → Shared w (satOf w) p
-  unfolding satOf
+  unfolding worthOf
   sat-node p two h = level-node w (vars w) (size w) graph (eval w) eval-skips p two h (eval-goes p two)
 
   pub sat-end : (p : ℕ) → p < 2 → p < size w → satOf w p ≡ p
-  unfolding satOf
+  unfolding worthOf
   sat-end p t h =
       let e : vars w - varOf w p ≡ zero = omega (arith, graph .terminal p t h) in
       ap (λ (k : ℕ). tally k (eval w (varOf w p) p)) e ∙ tally-zero (eval w (varOf w p) p) ∙ ap (λ (b : Bool). cond b 1 0) (eval-nil w (varOf w p) p) ∙ bit p t
@@ -85,7 +87,7 @@ module _ (w : List ℕ) (o : Ordered w) where
       bit (suc (suc q)) h′ = absurd (omega arith)
 
   pub sat-most : (p : ℕ) → satOf w p ≤ 2 ^ (vars w - varOf w p)
-  unfolding satOf
+  unfolding worthOf
   sat-most p = tally-most (vars w - varOf w p) (eval w (varOf w p) p)
 
   -- ---- those whose path meets t
@@ -113,7 +115,7 @@ module _ (w : List ℕ) (o : Ordered w) where
 
     -- t itself is met by all; from another node that stands at no smaller variable it is met by none
     pub through-self : throughOf w t t ≡ satOf w t
-    unfolding throughOf satOf
+    unfolding throughOf worthOf
     through-self =
         tally-same (vars w - varOf w t) (both (varOf w t) t) (eval w (varOf w t) t)
         (λ bs l. rw (meet-here w (eqb t) (varOf w t) t bs (eq-eqb t t refl)) (and-true (eval w (varOf w t) t bs)))

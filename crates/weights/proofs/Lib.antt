@@ -1,15 +1,13 @@
 -- Laws that belong to no one function.
 --     Dots       sums of products, and amounts that move
 --     Levels     counting from a node's own variable on
---     Entries    tables of counts in lent words
---     Descent    the first pass
+--     Entries    a table of zeros
 --     Ascent     the second pass
 --     Answers    what the public function answers
 --     Visits     what weights say: of the terminals and the root, and of several nodes together
 pub mod Dots
 pub mod Levels
 pub mod Entries
-pub mod Descent
 pub mod Ascent
 pub mod Answers
 pub mod Visits

@@ -1,9 +1,9 @@
 // The second pass, from the first variable to the last: a node has received the valuations of earlier variables that lead to
 // it, passes them on to its children, and its weight is their number times what goes on from it. What a node has received
 // stands in the output, until its weight takes the place.
-use crate::tables::count_at;
-use crate::tables::note;
-use crate::tables::scaled;
+use counts::table::count_at;
+use counts::table::note;
+use counts::table::scaled;
 use diagram::node::BddPointer;
 use diagram::node::BddVariable;
 use diagram::node::high_link_of;
@@ -21,7 +21,8 @@ ghost use lib.ListN.{length};
 ghost use Rattle.naturals.specs.Natural.{value, wordCount};
 ghost use Rattle.diagram.specs.Diagram.{varOf, size};
 ghost use Rattle.levels.specs.Chains.{Given};
-ghost use Rattle.weights.specs.Passes.{num, Noted, scaled as scaledBy, Giving, Turning, Ascending, Rising, Passed};
+ghost use Rattle.counts.specs.Table.{num, Noted, scaled as scaledBy};
+ghost use Rattle.weights.specs.Passes.{Giving, Turning, Ascending, Rising, Passed};
 
 // A child receives what its parent has.
 fn give(words: &[u32], output: &mut [u32], node: BddPointer, child: BddPointer, received: Natural)

@@ -1,6 +1,6 @@
 // The weights of an accepted diagram of two nodes or more.
-use crate::down::count_all;
-use crate::tables::note;
+use counts::down::count_down;
+use counts::table::note;
 use crate::up::pass_all;
 use diagram::node::BddPointer;
 use diagram::room::clear;
@@ -22,7 +22,7 @@ pub(crate) fn weigh(words: &[u32], output: &mut [u32], room: &mut [u32], nodes: 
 {
     let mut heads = [0u32; CHAINS];
     link(words, &mut heads, room, nodes);
-    count_all(words, &heads, room, nodes, vars);
+    count_down(words, &heads, room, nodes, vars, true);
     pass_all(words, &heads, room, output, nodes, vars);
     note(output, 0, BddPointer(0), zero());
     let all = room.len();
