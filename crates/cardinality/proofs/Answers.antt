@@ -9,7 +9,6 @@ use lib.ListN.{length, take, drop, replicate, length-replicate}
 use lib.Dec.{T}
 use lib.Ieee.{Float, binary64, mul, isNan, nanBits, ofBits}
 use Rattle.diagram.specs.Diagram.{varOf, size, vars, root, Ordered}
-use Rattle.diagram.specs.Valuations.{countOf}
 use Rattle.diagram.specs.Verdict.{Outcome, accepted, refused, ifAccepted, verdictOf, roomOf, Checked}
 use Rattle.diagram.specs.declared.verdict.Verdict.{Verdict}
 use Rattle.diagram.specs.declared.verdict.Verdict.the-variants.{Accepted as Yes, Refused as No}

@@ -1,27 +1,26 @@
 -- The f64 count of every node: a whole number, the true count where that is at most 2 ^ 53, and never more than all valuations.
 use Prim.Native.Nat.{ℕ, zero, suc, _+_, _-_, _*_, _^_, _≤_, _<_}
 use mathlib.Core.Path.{_≡_, refl, sym, ap, _∙_}
-use mathlib.Core.Bool.{Bool, true, false, cond, not}
+use mathlib.Core.Bool.{true, false}
 use mathlib.Core.List.{List}
 use native.Mathlib.Omega.{arith}
-use native.Mathlib.Nat.{le-refl, le-trans, le-of-eq, lt-of-le-of-lt, mul-one, one-mul, mul-le-mul, mul-le-mul-right, pow-suc}
-use lib.IntN.{pos}
-use lib.Dec.{T, ltb, eqb}
-use lib.Pow.{pow-add, pow-pos, pow-mono, pow-lt}
-use lib.Ieee.{Float, fin, binary64, prec, emax, add, mul, isNan, fits}
+use native.Mathlib.Nat.{le-refl, le-trans, le-of-eq, lt-of-le-of-lt, mul-one, mul-le-mul, mul-le-mul-right, pow-suc}
+use lib.Pow.{pow-add, pow-pos, pow-lt}
+use lib.Ieee.{Float, binary64, emax, add, mul, fits}
 use lib.Ieee.Exact.{HasValue}
-use lib.Ieee.Fits.{add-fits, mul-fits}
+use lib.Ieee.Fits.{mul-fits}
 use lib.Ieee.Back.{whole-unique}
 use borrow.Author.Tests.{lt-ltb, le-ltb}
+use Rattle.diagram.specs.Limits.{maxVariables}
 use Rattle.diagram.specs.Diagram.{varOf, lowOf, highOf, size, vars, root, Ordered}
 use Rattle.diagram.specs.Valuations.{countOf}
 use Rattle.diagram.proofs.Reading.{Layered, layered, root-in, by-two, at-end, var-most}
-use Rattle.counts.specs.Worth.{worthOf, totalOf, doublings}
+use Rattle.counts.specs.Worth.{worthOf, doublings}
 use Rattle.counts.proofs.Nodes.{worth-end, worth-node, total-valuations}
 use Rattle.cardinality.specs.Cardinality.{nought, powerOfTwo, terminalOf, partOf, joinOf, floatAt, cardinalityOf}
 use Rattle.cardinality.specs.Table.{floatOf}
 use Rattle.cardinality.proofs.Near.{near, near-most}
-use Rattle.cardinality.proofs.Wholes.{Held, Whole, one-value, no-nan, whole-scaled, whole-sum, near-exact}
+use Rattle.cardinality.proofs.Wholes.{Whole, whole-scaled, whole-sum, near-exact}
 
 -- ---- the definition's two cases, and that as many links as variables are left are enough
 
@@ -83,14 +82,14 @@ pub record Stands (x : Float) (s k : ℕ) : Type 0 where
   pub most : number ≤ 2 ^ k
   pub exact : s ≤ 2 ^ 53 → number ≡ s
 
-under-all : (n k : ℕ) → n ≤ 2 ^ k → k ≤ 255 → n < 2 ^ suc (emax binary64)
+under-all : (n k : ℕ) → n ≤ 2 ^ k → k ≤ maxVariables → n < 2 ^ suc (emax binary64)
 under-all n k h l = lt-of-le-of-lt h (pow-lt {i = k} {j = 1024} (omega arith))
 
 -- a number is no more than it is scaled
 scaled-more : (s d : ℕ) → s ≤ s * 2 ^ d
 scaled-more s d = le-trans (le-of-eq (sym (mul-one s))) (mul-le-mul (le-refl s) (pow-pos d))
 
-pub stands-scaled : (x : Float) (s k d : ℕ) → Stands x s k → k + d ≤ 255 → Stands (mul binary64 x (powerOfTwo d)) (s * 2 ^ d) (k + d)
+pub stands-scaled : (x : Float) (s k d : ℕ) → Stands x s k → k + d ≤ maxVariables → Stands (mul binary64 x (powerOfTwo d)) (s * 2 ^ d) (k + d)
 stands-scaled x s k d h l =
     let most : h .number * 2 ^ d ≤ 2 ^ (k + d) = le-trans (mul-le-mul-right (2 ^ d) (h .most)) (le-of-eq (sym (pow-add 2 k d))) in
     record {
@@ -100,7 +99,7 @@ stands-scaled x s k d h l =
       exact = λ few. ap (λ (n : ℕ). n * 2 ^ d) (h .exact (le-trans (scaled-more s d) few));
     }
 
-pub stands-sum : (x y : Float) (s t k : ℕ) → Stands x s k → Stands y t k → suc k ≤ 255 → Stands (add binary64 x y) (s + t) (suc k)
+pub stands-sum : (x y : Float) (s t k : ℕ) → Stands x s k → Stands y t k → suc k ≤ maxVariables → Stands (add binary64 x y) (s + t) (suc k)
 stands-sum x y s t k h i l =
     let all : h .number + i .number ≤ 2 ^ suc k = omega (arith, h .most, i .most, pow-suc 2 k) in
     let most = near-most binary64 (h .number + i .number) (suc k) all in

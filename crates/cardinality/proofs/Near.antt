@@ -1,11 +1,11 @@
 -- Whole numbers as floats: a whole number is rounded to a whole number, `near`, which is the number itself while it has no more
 -- digits than the format keeps, and never passes a power of two.
 use Prim.Native.Nat.{ℕ, zero, suc, _+_, _-_, _*_, _/_, _%_, _^_, _≤_, _<_, compare, Ordering, Ordering·lt, compare·zero-suc}
-use mathlib.Core.Path.{_≡_, refl, sym, ap, _∙_}
+use mathlib.Core.Path.{_≡_, sym, ap, _∙_}
 use mathlib.Core.Bool.{Bool, false}
 use native.Mathlib.Omega.{arith}
 use native.Mathlib.Decide.{decLt}
-use native.Mathlib.Nat.{le-trans, le-of-eq, lt-of-le-of-lt, lt-of-lt-of-le, not-le-of-lt, lt-of-not-le, lt-irrefl, zero-lt-suc, mul-one, one-mul, mul-comm, mul-assoc, mul-right-comm, mul-le-mul-right, mul-lt-mul-of-pos-right, mul-pos, mul-div-cancel, mul-mod-left, div-one, eq-of-mul-eq-mul-right, pow-suc}
+use native.Mathlib.Nat.{le-trans, le-of-eq, lt-of-le-of-lt, lt-of-lt-of-le, not-le-of-lt, lt-of-not-le, lt-irrefl, mul-one, one-mul, mul-comm, mul-assoc, mul-right-comm, mul-le-mul-right, mul-lt-mul-of-pos-right, mul-pos, mul-div-cancel, mul-mod-left, div-one, eq-of-mul-eq-mul-right}
 use lib.Pow.{pow-add, pow-pos, pow-mono, pow-lt}
 use lib.Ieee.{Float, nan, inf, fin, Format, prec, emax, low, up, down, size as digits, nearest, units, round}
 use lib.Ieee.Digits.{size-lt, size-le, size-reaches}

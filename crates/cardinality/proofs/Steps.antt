@@ -2,22 +2,22 @@
 use Prim.Native.Nat.{ℕ, zero, suc, _+_, _-_, _*_, _≤_, _<_}
 use mathlib.Core.Path.{_≡_, refl, sym, ap, _∙_}
 use mathlib.Core.Logic.{_≢_}
-use mathlib.Core.Bool.{Bool, not}
+use mathlib.Core.Bool.{not}
 use mathlib.Core.List.{List}
 use native.Mathlib.Omega.{arith}
 use lib.ListN.{length, getD}
-use lib.Dec.{T, ltb, eqb}
+use lib.Dec.{T}
 use lib.Ieee.{Float, binary64, add, mul, fits, isNan, nanBits, ofBits, toBits}
 use lib.Ieee.Fits.{add-fits}
-use Rattle.diagram.specs.Diagram.{varOf, lowOf, highOf, size, vars, root, Ordered}
+use Rattle.diagram.specs.Diagram.{varOf, lowOf, highOf, size, vars, Ordered}
 use Rattle.diagram.proofs.Tests.{by-eq}
-use Rattle.diagram.proofs.Reading.{Layer, layered, by-two, at-end, var-most, root-in}
+use Rattle.diagram.proofs.Reading.{Layer, layered, by-two, at-end, var-most}
 use Rattle.levels.specs.Chains.{Last, Linked, Given, Known}
 use Rattle.levels.proofs.Chaining.{known-from, known-begins, known-ends, at-chain, chain-falls, heads-all}
-use Rattle.cardinality.specs.Cardinality.{nought, powerOfTwo, terminalOf, partOf, joinOf, cardinalityOf}
+use Rattle.cardinality.specs.Cardinality.{nought, powerOfTwo, terminalOf, partOf}
 use Rattle.cardinality.specs.Table.{bitsAt, In, Noted, floatOf, Floated, Parting, Joining, Descending, At}
 use Rattle.cardinality.proofs.Wholes.{no-nan}
-use Rattle.cardinality.proofs.Counts.{float-of-end, float-of-node, float-root, float-stands}
+use Rattle.cardinality.proofs.Counts.{float-of-end, float-of-node, float-stands}
 use Rattle.cardinality.proofs.Bits.{bits-back, bits-no-nan}
 
 -- ---- a node's float is one of the format's, and no NaN

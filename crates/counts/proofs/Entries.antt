@@ -14,7 +14,7 @@ use Rattle.naturals.specs.declared.Fit.{Fit}
 use Rattle.naturals.proofs.Answer.{fitted-below}
 use Rattle.naturals.proofs.Place.{stored-after, stored-before, stores-length, stores-holds, stores-apart, loads-inside}
 use Rattle.diagram.specs.Diagram.{varOf}
-use Rattle.counts.specs.Table.{entry, num, In, Noted, scaled}
+use Rattle.counts.specs.Table.{num, In, Noted, scaled}
 
 -- two entries stand apart
 apart : (base r q : ℕ) → r ≢ q → (base + wordCount * r + wordCount ≤ base + wordCount * q) ⊎ (base + wordCount * q + wordCount ≤ base + wordCount * r)

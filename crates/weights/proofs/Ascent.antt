@@ -2,6 +2,7 @@
 use Prim.Native.Nat.{ℕ, zero, suc, _+_, _-_, _*_, _^_, _≤_, _<_, min}
 use mathlib.Core.Path.{_≡_, refl, sym, ap, _∙_}
 use mathlib.Core.Logic.{_≢_}
+use mathlib.Core.Bool.{true}
 use mathlib.Core.List.{List, _++_}
 use native.Mathlib.Omega.{arith}
 use native.Mathlib.Nat.{mul-one, mul-zero, zero-mul, le-mul-of-pos-right}
@@ -19,7 +20,8 @@ use Rattle.levels.specs.Chains.{Last, Given, Todo}
 use Rattle.counts.specs.Table.{entry, num, In, Noted, skip, scaled}
 use Rattle.weights.specs.Passes.{satOf, throughOf, dot, Passing, Passed, Turning, Ascending, AtUp, Giving, Rising}
 use Rattle.weights.proofs.Dots.{bump, bump-here, bump-other, bump-least, without, without-here, without-other, dot-least, dot-only, dot-moved}
-use Rattle.weights.proofs.Levels.{Shared, sat-end, through-node, through-self, through-none, weight-through, all-node, all-root, weight-most, under-limit}
+use Rattle.counts.proofs.Nodes.{worth-end, under-limit}
+use Rattle.weights.proofs.Levels.{Shared, through-node, through-self, through-none, weight-through, all-node, all-root, weight-most}
 use Rattle.weights.proofs.Entries.{zero-entry, zero-rest}
 use Rattle.levels.proofs.Chaining.{todo-from, todo-back, todo-ends, todo-begins, by-todo, at-chain, chain-falls}
 
@@ -339,7 +341,7 @@ ends-weighed {w} {before} {out} {n} given s same {after} z =
     ended : (q : ℕ) → q < 2 → (h : q < size w) → weightOf w q ≡ s .passing .received q * q
     ended q t h =
         weight-is (given .ordered) (s .passing) q h (todo q t h) (layered w (given .ordered) .terminal q t h)
-        ∙ ap (λ (y : ℕ). s .passing .received q * y) (sat-end w (given .ordered) q t h)
+        ∙ ap (λ (y : ℕ). s .passing .received q * y) (worth-end w (given .ordered) true q t h)
 
     none : {q : ℕ} → q ≡ 0 → q < size w → weightOf w 0 ≡ 0
     none e h = ended 0 (omega arith) (omega arith) ∙ mul-zero (s .passing .received 0)

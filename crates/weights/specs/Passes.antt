@@ -5,9 +5,9 @@ use mathlib.Core.Path.{_≡_}
 use mathlib.Core.Logic.{_≢_}
 use mathlib.Core.Bool.{true, _&&_}
 use mathlib.Core.List.{List}
-use lib.ListN.{length, getD, take, drop}
+use lib.ListN.{length, getD, drop}
 use lib.Dec.{eqb}
-use Rattle.naturals.specs.Natural.{value, wordCount, limit, Holds}
+use Rattle.naturals.specs.Natural.{wordCount, limit, Holds}
 use Rattle.diagram.specs.Diagram.{varOf, size, vars}
 use Rattle.diagram.specs.Reading.{eval}
 use Rattle.diagram.specs.Valuations.{tally, weightOf}

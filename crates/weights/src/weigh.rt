@@ -1,7 +1,7 @@
 // The weights of an accepted diagram of two nodes or more.
+use crate::up::pass_all;
 use counts::down::count_down;
 use counts::table::note;
-use crate::up::pass_all;
 use diagram::node::BddPointer;
 use diagram::room::clear;
 use levels::CHAINS;

@@ -1,12 +1,8 @@
+-- `counts_run::run_float` meets its contract.
 use Rattle.cardinality.proofs.Answers.{never-nan}
-use native.Mathlib.Omega.{arith}
 use borrow.Author.Needs.{needs}
 use Rattle.counts_run.proofs.run_float.Statement.{statement}
 use Rattle.counts_run.proofs.run_float.Tie as tie
-use Rattle.counts_run.proofs.run_float.Reads as reads
-use Rattle.counts_run.proofs.run_float.Lts as lts
-use Rattle.cardinality.proofs.cardinality.Reads as cardinality-reads
-use Rattle.counts_run.proofs.say_float.Reads as say-float-reads
 
 cardinality-requires : tie.Need-cardinality-requires
 cardinality-requires c κs = search needs

@@ -1,3 +1,4 @@
+-- `levels::link` meets its contract.
 use denote.Ref.{now}
 use mathlib.Core.Path.{refl, _∙_, ap, _≡_}
 use Prim.Native.Nat.{_≤_, _-_}

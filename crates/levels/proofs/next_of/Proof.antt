@@ -1,8 +1,8 @@
+-- `levels::next_of` meets its contract.
 use denote.Ref.{now}
 use mathlib.Core.Path.{_∙_, ap}
 use Prim.Native.Nat.{ℕ}
 use lib.ListN.{getD}
-use native.Mathlib.Omega.{arith}
 use borrow.Author.Needs.{needs}
 use Rattle.levels.proofs.next_of.Statement.{statement}
 use Rattle.levels.proofs.next_of.Tie as tie

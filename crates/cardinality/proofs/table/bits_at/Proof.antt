@@ -1,63 +1,46 @@
+-- `cardinality::table::bits_at` meets its contract.
 use denote.Ref.{now}
 use Rattle.cardinality.proofs.Bits.{bits-read}
-use native.Mathlib.Omega.{arith}
 use borrow.Author.Needs.{needs}
 use Rattle.cardinality.proofs.table.bits_at.Statement.{statement}
 use Rattle.cardinality.proofs.table.bits_at.Tie as tie
-use Rattle.cardinality.proofs.table.bits_at.Reads as reads
-use Rattle.cardinality.proofs.table.bits_at.Lts as lts
-use Rattle.cardinality.proofs.table.wide.Reads as wide-reads
-use Rattle.diagram.proofs.node.BddPointer.to_index.Reads as to-index-reads
 
--- src/table.rt:21:25
 to-index-requires : tie.Need-to-index-requires
 to-index-requires c κs = search needs
 
--- src/table.rt:21:21
 mul-at : tie.Need-mul-at
 mul-at c = search needs
 
--- src/table.rt:21:14
 add-at : tie.Need-add-at
 add-at c = search needs
 
--- src/table.rt:22:10
 mul-wide : tie.Need-mul-wide
 mul-wide c = search needs
 
--- src/table.rt:22:10
 shared-slice-read-wide : tie.Need-shared-slice-read-wide
 shared-slice-read-wide c = search needs
 
--- src/table.rt:22:5
 wide-requires : tie.Need-wide-requires
 wide-requires c κs = search needs
 
--- src/table.rt:22:32
 add-wide : tie.Need-add-wide
 add-wide c = search needs
 
--- src/table.rt:22:27
 mul-wide-2 : tie.Need-mul-wide-2
 mul-wide-2 c = search needs
 
--- src/table.rt:22:27
 shared-slice-read-wide-2 : tie.Need-shared-slice-read-wide-2
 shared-slice-read-wide-2 c = search needs
 
--- src/table.rt:22:22
 wide-requires-2 : tie.Need-wide-requires-2
 wide-requires-2 c κs = search needs
 
--- src/table.rt:22:22
 mul-result : tie.Need-mul-result
 mul-result c = search needs
 
--- src/table.rt:22:5
 add-result : tie.Need-add-result
 add-result c = search needs
 
--- src/table.rt:17:1
 returns : tie.Need-returns
 returns c = bits-read (now (c .before .before .before .before .before .before .args .room)) (c .before .before .before .before .before .before .args .base) (c .before .before .before .before .before .before .args .node .0) (c .before .before .before .before .to-index .result) (c .before .before .wide .result) (c .wide2 .result) (c .before .before .before .before .to-index .ensures) (c .before .before .wide .ensures .0) (c .wide2 .ensures .0)
 

@@ -1,3 +1,4 @@
+-- `cardinality::walk::terminals` meets its contract.
 use denote.Ref.{now}
 use Rattle.cardinality.proofs.Steps.{terminals-done}
 use lib.Ieee.{isNan}
@@ -5,33 +6,22 @@ use native.Mathlib.Omega.{arith}
 use borrow.Author.Needs.{needs}
 use Rattle.cardinality.proofs.walk.terminals.Statement.{statement}
 use Rattle.cardinality.proofs.walk.terminals.Tie as tie
-use Rattle.cardinality.proofs.walk.terminals.Reads as reads
-use Rattle.cardinality.proofs.walk.terminals.Lts as lts
-use Rattle.cardinality.proofs.floats.nought.Reads as nought-reads
-use Rattle.cardinality.proofs.floats.power_of_two.Reads as power-of-two-reads
-use Rattle.cardinality.proofs.table.note.Reads as note-reads
 
--- src/walk.rt:62:38
 nought-requires : tie.Need-nought-requires
 nought-requires c κs = search needs
 
--- src/walk.rt:62:5
 note-requires : tie.Need-note-requires
 note-requires c κs = (omega (arith, c .before .before .before .before .before .pre .2, c .before .before .before .before .before .pre .0 .two), rw (c .nought .ensures) (unfold isNan in tt))
 
--- src/walk.rt:63:38
 power-of-two-requires : tie.Need-power-of-two-requires
 power-of-two-requires c κs = search needs
 
--- src/walk.rt:63:5
 note-requires-2 : tie.Need-note-requires-2
 note-requires-2 c κs = (omega (arith, c .before .before .before .before .before .before .before .before .before .before .pre .2, c .before .before .before .before .before .before .before .before .before .before .pre .0 .two, c .before .before .before .before .note .kept .0), rw (c .power-of-two .ensures) (unfold isNan in tt))
 
--- src/walk.rt:58:1
 same-length : tie.Need-same-length
 same-length c = search needs
 
--- src/walk.rt:58:1
 returns : tie.Need-returns
 returns c = terminals-done (now (c .before .before .before .before .before .before .before .before .before .before .before .before .before .args .words)) (now (c .before .before .before .before .before .before .before .before .before .before .before .before .before .args .heads)) (c .before .before .before .before .before .before .before .before .before .before .before .before .before .args .nodes) (c .before .before .before .before .before .before .before .before .before .before .before .before .before .pre .0) (c .before .before .before .before .before .before .before .before .before .before .before .before .before .pre .1) (c .before .before .before .before .before .before .before .before .before .before .before .before .before .pre .2) (c .before .before .before .before .before .before .before .before .nought .ensures) (c .before .before .before .power-of-two .ensures) (c .before .before .before .before .before .before .before .note .ensures) (c .before .before .note2 .ensures)
 

@@ -1,3 +1,4 @@
+-- `counts::down::count_down` meets its contract.
 use mathlib.Core.Path.{refl, _∙_, _≡_}
 use Prim.Native.Nat.{_≤_}
 use lib.ListN.{length}
@@ -7,10 +8,6 @@ use borrow.Author.Needs.{needs}
 use native.Mathlib.Omega.{arith}
 use Rattle.counts.proofs.down.count_down.Statement.{statement}
 use Rattle.counts.proofs.down.count_down.Tie as tie
-use Rattle.counts.proofs.down.count_down.Reads as reads
-use Rattle.counts.proofs.down.count_down.Lts as lts
-use Rattle.counts.proofs.down.level.Reads as level-reads
-use Rattle.counts.proofs.down.terminals.Reads as terminals-reads
 
 abbrev Inv-loop : tie.InvT-loop
 Inv-loop words heads room₀ nodes vars valuations c₀ room c = Worths valuations words room c 0 × (c ≤ vars) × (length room ≡ length room₀)
@@ -18,39 +15,30 @@ Inv-loop words heads room₀ nodes vars valuations c₀ room c = Worths valuatio
 abbrev μ-loop : tie.MeasureT-loop
 μ-loop words heads room₀ nodes vars valuations c₀ room c = c
 
--- src/down.rt:97:5
 terminals-requires : tie.Need-terminals-requires Inv-loop μ-loop
 terminals-requires c κs = (c .before .before .before .before .pre .0, c .before .before .before .before .pre .1, c .before .before .before .before .pre .2)
 
--- src/down.rt:99:5
 loop-holds : tie.Need-loop-holds Inv-loop μ-loop
 loop-holds c = (rw (c .before .before .before .before .before .before .before .pre .3) (c .before .before .terminals .ensures), omega arith, refl)
 
--- src/down.rt:100:42
 sub-level : tie.Need-sub-level Inv-loop μ-loop
 sub-level c = search needs
 
--- src/down.rt:100:9
 level-requires : tie.Need-level-requires Inv-loop μ-loop
 level-requires c κs = all-down (c .before .before .before .before .before .before .before .before .before .before .pre .0) (c .before .before .before .before .before .before .before .before .before .before .pre .1) (c .before .before .before .before .before .before .before .before .before .before .pre .3) (c .before .before .loop .inv .1) (c .before .loop-test .taken) (c .before .before .loop .inv .0)
 
--- src/down.rt:101:9
 sub-c : tie.Need-sub-c Inv-loop μ-loop
 sub-c c = search needs
 
--- src/down.rt:99:5
 loop-less : tie.Need-loop-less Inv-loop μ-loop
 loop-less c = search needs
 
--- src/down.rt:99:5
 loop-again : tie.Need-loop-again Inv-loop μ-loop
 loop-again c = (c .before .before .level .ensures, omega (arith, c .before .before .before .before .before .loop .inv .1), c .before .before .level .kept .1 .1 .0 ∙ c .before .before .before .before .before .loop .inv .2)
 
--- src/down.rt:86:1
 same-length : tie.Need-same-length Inv-loop μ-loop
 same-length c = c .before .loop .inv .2 ∙ c .before .before .before .before .terminals .kept .1 .1 .0
 
--- src/down.rt:86:1
 returns : tie.Need-returns Inv-loop μ-loop
 returns c = let e : c .before .loop .c ≡ 0 = omega arith in rw e at (c .before .loop .inv .0)
 

@@ -1,28 +1,19 @@
+-- `counts::down::part` meets its contract.
 use denote.Ref.{now}
 use borrow.Author.Tests.{not-true, not-false}
 use Rattle.counts.proofs.Descent.{part-plain, part-asks, part-scaled}
-use native.Mathlib.Omega.{arith}
-use borrow.Author.Needs.{needs}
 use Rattle.counts.proofs.down.part.Statement.{statement}
 use Rattle.counts.proofs.down.part.Tie as tie
-use Rattle.counts.proofs.down.part.Reads as reads
-use Rattle.counts.proofs.down.part.Lts as lts
-use Rattle.counts.proofs.table.count_at.Reads as count-at-reads
-use Rattle.counts.proofs.table.scaled.Reads as scaled-reads
 
--- src/down.rt:39:9
 count-at-requires : tie.Need-count-at-requires
 count-at-requires c κs = c .before .before .pre .inside
 
--- src/down.rt:41:9
 returns : tie.Need-returns
 returns c = part-plain (c .before .before .before .before .args .valuations) (not-true _ (c .if1 .taken)) (now (c .before .before .before .before .args .words)) (now (c .before .before .before .before .args .room)) (c .before .before .before .before .args .nodes) (c .before .before .before .before .args .node .0) (c .before .before .before .before .args .child .0) (c .before .count-at .ensures)
 
--- src/down.rt:43:5
 scaled-requires : tie.Need-scaled-requires
 scaled-requires c κs = part-asks (c .before .before .before .before .args .valuations) (not-false _ (c .if1 .left)) (now (c .before .before .before .before .args .words)) (now (c .before .before .before .before .args .room)) (c .before .before .before .before .args .nodes) (c .before .before .before .before .args .node .0) (c .before .before .before .before .args .child .0) (c .before .count-at .ensures) (c .before .before .before .before .pre)
 
--- src/down.rt:28:1
 returns-2 : tie.Need-returns-2
 returns-2 c = part-scaled (c .before .before .before .before .before .args .valuations) (not-false _ (c .before .if1 .left)) (now (c .before .before .before .before .before .args .words)) (now (c .before .before .before .before .before .args .room)) (c .before .before .before .before .before .args .nodes) (c .before .before .before .before .before .args .node .0) (c .before .before .before .before .before .args .child .0) (c .before .before .count-at .ensures) (c .scaled .ensures)
 

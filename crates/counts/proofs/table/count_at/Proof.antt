@@ -1,6 +1,6 @@
+-- `counts::table::count_at` meets its contract.
 use denote.Ref.{now}
 use Rattle.counts.proofs.Entries.{count-read}
-use native.Mathlib.Omega.{arith}
 use borrow.Author.Needs.{needs}
 use Rattle.counts.proofs.table.count_at.Statement.{statement}
 use Rattle.counts.proofs.table.count_at.Tie as tie

@@ -1,6 +1,6 @@
+-- `counts::table::note` meets its contract.
 use denote.Ref.{now}
 use Rattle.counts.proofs.Entries.{note-done}
-use native.Mathlib.Omega.{arith}
 use borrow.Author.Needs.{needs}
 use Rattle.counts.proofs.table.note.Statement.{statement}
 use Rattle.counts.proofs.table.note.Tie as tie

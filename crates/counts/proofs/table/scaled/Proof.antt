@@ -1,6 +1,6 @@
+-- `counts::table::scaled` meets its contract.
 use denote.Ref.{now}
 use Rattle.counts.proofs.Entries.{scaled-done}
-use native.Mathlib.Omega.{arith}
 use borrow.Author.Needs.{needs}
 use Rattle.counts.proofs.table.scaled.Statement.{statement}
 use Rattle.counts.proofs.table.scaled.Tie as tie

@@ -1,71 +1,49 @@
+-- `counts::total::total` meets its contract.
 use denote.Ref.{now}
 use mathlib.Core.Path.{_∙_}
 use Prim.Native.Nat.{_*_}
 use Rattle.diagram.proofs.Words.{zeros-whole}
 use Rattle.counts.proofs.Answers.{zeros-own, zeros-long, alone, given, root-place, total-done}
-use native.Mathlib.Omega.{arith}
 use borrow.Author.Needs.{needs}
 use Rattle.counts.proofs.total.total.Statement.{statement}
 use Rattle.counts.proofs.total.total.Tie as tie
-use Rattle.counts.proofs.total.total.Reads as reads
-use Rattle.counts.proofs.total.total.Lts as lts
-use Rattle.counts.proofs.down.count_all.Reads as count-all-reads
-use Rattle.counts.proofs.table.count_at.Reads as count-at-reads
-use Rattle.counts.proofs.total.doublings.Reads as doublings-reads
-use Rattle.diagram.proofs.node.var_of.Reads as var-of-reads
-use Rattle.diagram.proofs.room.clear.Reads as clear-reads
-use Rattle.naturals.proofs.shift_left.Reads as shift-left-reads
-use Rattle.naturals.proofs.zero.Reads as zero-reads
 
--- src/total.rt:33:9
 zero-requires : tie.Need-zero-requires
 zero-requires c κs = search needs
 
--- src/total.rt:33:9
 returns : tie.Need-returns
 returns c = (alone (c .before .before .before .before .args .valuations) (now (c .before .before .before .before .args .words)) (c .before .before .before .before .args .nodes) (c .before .before .before .before .pre .0) (c .before .before .before .before .pre .1) (c .before .if1 .taken) (c .zero .ensures), zeros-own (now (c .before .before .before .before .args .room)) (9 * c .before .before .before .before .args .nodes) (c .before .before .before .before .pre .2))
 
--- src/total.rt:35:9
 var-of-requires : tie.Need-var-of-requires
 var-of-requires c κs = search needs
 
--- src/total.rt:36:5
 count-all-requires : tie.Need-count-all-requires
 count-all-requires c κs = (given (c .before .before .before .before .before .args .valuations) (now (c .before .before .before .before .before .args .words)) (c .before .before .before .before .before .args .nodes) (c .before .before .before .before .before .pre .0) (c .before .before .before .before .before .pre .1) (c .before .before .if1 .left), c .before .var-of .ensures, zeros-long (now (c .before .before .before .before .before .args .room)) (c .before .before .before .before .before .args .nodes) (c .before .before .before .before .before .pre .2))
 
--- src/total.rt:37:28
 sub-shift-left : tie.Need-sub-shift-left
 sub-shift-left c = search needs
 
--- src/total.rt:37:27
 cast-shift-left : tie.Need-cast-shift-left
 cast-shift-left c = search needs
 
--- src/total.rt:38:9
 count-at-requires : tie.Need-count-at-requires
 count-at-requires c κs = root-place (c .before .before .before .before .before .before .before .before .before .args .valuations) (now (c .before .before .before .before .before .before .before .before .before .args .words)) (c .before .before .before .before .before .before .before .before .before .args .nodes) (c .before .before .before .before .before .before .before .before .before .pre .0) (c .before .before .before .before .before .before .before .before .before .pre .1) (c .before .before .before .count-all .ensures)
 
--- src/total.rt:39:9
 var-of-requires-2 : tie.Need-var-of-requires-2
 var-of-requires-2 c κs = search needs
 
--- src/total.rt:41:5
 clear-requires : tie.Need-clear-requires
 clear-requires c κs = search needs
 
--- src/total.rt:42:36
 doublings-requires : tie.Need-doublings-requires
 doublings-requires c κs = search needs
 
--- src/total.rt:42:9
 shift-left-requires : tie.Need-shift-left-requires
 shift-left-requires c κs = search needs
 
--- src/total.rt:28:1
 same-length : tie.Need-same-length
 same-length c = search needs
 
--- src/total.rt:28:1
 returns-2 : tie.Need-returns-2
 returns-2 c = (total-done (c .before .before .before .before .before .before .before .before .before .before .before .before .before .before .before .before .before .before .args .valuations) (now (c .before .before .before .before .before .before .before .before .before .before .before .before .before .before .before .before .before .before .args .words)) (c .before .before .before .before .before .before .before .before .before .before .before .before .before .before .before .before .before .before .args .nodes) (c .before .before .before .before .before .before .before .before .before .before .before .before .before .before .before .before .before .before .pre .0) (c .before .before .before .before .before .before .before .before .before .before .before .before .before .before .before .before .before .before .pre .1) (c .before .before .before .before .before .before .before .before .before .before .before .before .count-all .ensures) (c .before .before .before .before .before .before .before .before .count-at .ensures) (c .before .before .before .before .before .before .before .var-of2 .result .0) (c .before .before .doublings .result) (c .before .before .before .before .before .before .before .var-of2 .ensures) (c .before .before .doublings .ensures) (c .before .shift-left .ensures), c .before .before .before .before .before .clear .ensures ∙ zeros-whole (c .before .before .before .before .before .before .before .before .before .before .before .before .count-all .last .1 .0) (now (c .before .before .before .before .before .before .before .before .before .before .before .before .before .before .before .before .before .before .args .room)) (c .before .before .before .before .before .before .before .before .before .before .before .before .count-all .kept .1 .0))
 
