@@ -48,22 +48,10 @@ fn join(words: &[u32], room: &mut [u32], nodes: usize, node: BddPointer, valuati
     requires { ⌜ Joining valuations (now words) (now room) nodes (node .0) ⌝ }
     ensures { λ _. ⌜ Worths valuations (now (words .entry)) (now (room .exit)) (varOf (now (words .entry)) (node .0)) (node .0) ⌝ }
 {
-    let below = part(
-        words,
-        room,
-        nodes,
-        node,
-        low_link_of(words, node),
-        valuations,
-    );
-    let above = part(
-        words,
-        room,
-        nodes,
-        node,
-        high_link_of(words, node),
-        valuations,
-    );
+    let low = low_link_of(words, node);
+    let below = part(words, room, nodes, node, low, valuations);
+    let high = high_link_of(words, node);
+    let above = part(words, room, nodes, node, high, valuations);
     let sum = add(below, above);
     note(room, nodes, node, sum.natural);
 }

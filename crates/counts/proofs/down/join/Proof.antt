@@ -8,13 +8,13 @@ low-link-of-requires : tie.Need-low-link-of-requires
 low-link-of-requires c κs = search needs
 
 part-requires : tie.Need-part-requires
-part-requires c κs = join-low (c .before .before .before .before .pre) (c .low-link-of .result .0) (c .low-link-of .ensures)
+part-requires c κs = join-low (c .before .before .before .before .pre) (c .before .low-link-of .result .0) (c .before .low-link-of .ensures)
 
 high-link-of-requires : tie.Need-high-link-of-requires
 high-link-of-requires c κs = search needs
 
 part-requires-2 : tie.Need-part-requires-2
-part-requires-2 c κs = join-high (c .before .before .before .before .before .before .before .pre) (c .high-link-of .result .0) (c .high-link-of .ensures)
+part-requires-2 c κs = join-high (c .before .before .before .before .before .before .before .pre) (c .before .high-link-of .result .0) (c .before .high-link-of .ensures)
 
 add-requires : tie.Need-add-requires
 add-requires c κs = search needs
@@ -26,7 +26,7 @@ same-length : tie.Need-same-length
 same-length c = search needs
 
 returns : tie.Need-returns
-returns c = join-done (c .before .before .before .before .before .before .before .before .before .before .before .before .before .pre) (c .before .before .before .before .before .before .before .before .before .low-link-of .result .0) (c .before .before .before .before .before .before .before .before .before .low-link-of .ensures) (c .before .before .before .before .before .before .before .before .part .ensures) (c .before .before .before .before .before .before .high-link-of .result .0) (c .before .before .before .before .before .before .high-link-of .ensures) (c .before .before .before .before .before .part2 .ensures) (c .before .before .before .before .add .ensures) (c .before .before .note .ensures)
+returns c = join-done (c .before .before .before .before .before .before .before .before .before .before .before .before .before .pre) (c .before .before .before .before .before .before .before .before .before .before .low-link-of .result .0) (c .before .before .before .before .before .before .before .before .before .before .low-link-of .ensures) (c .before .before .before .before .before .before .before .before .part .ensures) (c .before .before .before .before .before .before .before .high-link-of .result .0) (c .before .before .before .before .before .before .before .high-link-of .ensures) (c .before .before .before .before .before .part2 .ensures) (c .before .before .before .before .add .ensures) (c .before .before .note .ensures)
 
 pub join-spec : {M : Type 1} → statement M
 join-spec =
