@@ -72,13 +72,13 @@ module _ {w r : List ℕ} {k n v : ℕ} (a : Aiming w r k n v) where
       aiming-keeps = rw same (searching-keeps (a .searching) is-m)
 
       -- the input words
-      pub aiming-kept : 0 < k → countOf w ≤ k → {after : List ℕ} → Kept w m s after → Found w (underToCount w k) r after n 0
-      aiming-kept low h {after} x =
+      pub aiming-kept : (k ≡ 0 → ⊥) → {count : ℕ} → count ≡ countOf w → count ≤ k → {after : List ℕ} → Kept w m s after → Found w (underToCount w k) r after n 0
+      aiming-kept ne e h {after} x =
           let is = a .searching .is-size in
           let whole = ordered .formed .whole in
           let m-most = is-most in
           let three : length w ≡ 3 * n = omega arith in
-          rw (to-count-same w k low h) (record {
+          rw (to-count-same w k (omega arith) (omega arith)) (record {
             trials = refl;
             count = is;
             words = three;
@@ -90,8 +90,8 @@ module _ {w r : List ℕ} {k n v : ℕ} (a : Aiming w r k n v) where
                 ∙ ap (λ (l : List ℕ). drop (26 * most w) l) same;
           })
 
-      pub aiming-above : 0 < k → {count : ℕ} → count ≡ countOf w → k < count → Above w s k count n v
-      aiming-above low e h = rw same (record { aiming = a; low = low; high = omega arith; is-count = e })
+      pub aiming-above : (k ≡ 0 → ⊥) → {count : ℕ} → count ≡ countOf w → k < count → Above w s k count n v
+      aiming-above ne e h = rw same (record { aiming = a; low = omega arith; high = omega arith; is-count = e })
 
       pub aiming-found : {b : Answer} {after : List ℕ} {j trials : ℕ} → Found w b s after j trials → Found w b r after j trials
       aiming-found f = rw same at f

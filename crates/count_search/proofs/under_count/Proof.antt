@@ -1,3 +1,6 @@
+use borrow.Author.Tests.{leb-true, leb-false, eqb-true, eqb-false}
+use mathlib.Core.Path.{sym, _∙_}
+use Rattle.count_search.proofs.Aims.{aiming-few, aiming-none, aiming-countable, aiming-keeps, aiming-kept, aiming-above, aiming-found}
 use native.Mathlib.Omega.{arith}
 use borrow.Author.Needs.{needs}
 use Rattle.count_search.proofs.under_count.Statement.{statement}
@@ -22,11 +25,11 @@ is-zero-requires c κs = search needs
 
 -- src/lib.rt:61:35
 mul-constant : tie.Need-mul-constant
-mul-constant c = search needs
+mul-constant c = omega (arith, aiming-few (c .before .before .before .before .before .before .pre), c .before .before .before .most .ensures)
 
 -- src/lib.rt:61:13
 constant-requires : tie.Need-constant-requires
-constant-requires c κs = search needs
+constant-requires c κs = omega (arith, aiming-few (c .before .before .before .before .before .before .pre), c .before .before .before .most .ensures)
 
 -- src/lib.rt:62:9
 same-length : tie.Need-same-length
@@ -34,15 +37,15 @@ same-length c = search needs
 
 -- src/lib.rt:62:9
 returns : tie.Need-returns
-returns c = ?
+returns c = aiming-none (c .before .before .before .before .before .before .before .before .before .pre) (c .before .before .before .before .before .before .most .ensures) (eqb-true _ _ (sym (c .before .before .before .before .before .is-zero .ensures) ∙ c .before .before .before .before .if1 .taken)) (c .before .before .constant .ensures)
 
 -- src/lib.rt:67:39
 mul-count-in : tie.Need-mul-count-in
-mul-count-in c = search needs
+mul-count-in c = omega (arith, aiming-few (c .before .before .before .before .before .before .pre), c .before .before .before .most .ensures)
 
 -- src/lib.rt:67:9
 count-in-requires : tie.Need-count-in-requires
-count-in-requires c κs = search needs
+count-in-requires c κs = aiming-countable (c .before .before .before .before .before .before .pre) (c .before .before .before .most .ensures)
 
 -- src/lib.rt:68:8
 at-most-requires : tie.Need-at-most-requires
@@ -50,7 +53,7 @@ at-most-requires c κs = search needs
 
 -- src/lib.rt:69:9
 keep-requires : tie.Need-keep-requires
-keep-requires c κs = search needs
+keep-requires c κs = aiming-keeps (c .before .before .before .before .before .before .before .before .before .before .before .before .pre) (c .before .before .before .before .before .before .before .before .before .most .ensures) (c .before .before .before .before .before .count-in .ensures .1)
 
 -- src/lib.rt:70:9
 same-length-2 : tie.Need-same-length-2
@@ -58,11 +61,11 @@ same-length-2 c = search needs
 
 -- src/lib.rt:70:9
 returns-2 : tie.Need-returns-2
-returns-2 c = ?
+returns-2 c = aiming-kept (c .before .before .before .before .before .before .before .before .before .before .before .before .before .before .before .pre) (c .before .before .before .before .before .before .before .before .before .before .before .before .most .ensures) (c .before .before .before .before .before .before .before .before .count-in .ensures .1) (eqb-false _ _ (sym (c .before .before .before .before .before .before .before .before .before .before .before .is-zero .ensures) ∙ c .before .before .before .before .before .before .before .before .before .before .if1 .left)) (c .before .before .before .before .before .before .before .before .count-in .ensures .0 .worth) (leb-true _ _ (sym (c .before .before .before .before .before .at-most .ensures) ∙ c .before .before .before .before .if2 .taken)) (c .before .before .keep .ensures)
 
 -- src/lib.rt:72:5
 seek-requires : tie.Need-seek-requires
-seek-requires c κs = search needs
+seek-requires c κs = aiming-above (c .before .before .before .before .before .before .before .before .before .before .before .before .pre) (c .before .before .before .before .before .before .before .before .before .most .ensures) (c .before .before .before .before .before .count-in .ensures .1) (eqb-false _ _ (sym (c .before .before .before .before .before .before .before .before .is-zero .ensures) ∙ c .before .before .before .before .before .before .before .if1 .left)) (c .before .before .before .before .before .count-in .ensures .0 .worth) (leb-false _ _ (sym (c .before .before .at-most .ensures) ∙ c .before .if2 .left))
 
 -- src/lib.rt:49:1
 same-length-3 : tie.Need-same-length-3
@@ -70,7 +73,7 @@ same-length-3 c = search needs
 
 -- src/lib.rt:49:1
 returns-3 : tie.Need-returns-3
-returns-3 c = ?
+returns-3 c = aiming-found (c .before .before .before .before .before .before .before .before .before .before .before .before .before .before .before .pre) (c .before .before .before .before .before .before .before .before .before .before .before .before .most .ensures) (c .before .before .before .before .before .before .before .before .count-in .ensures .1) (c .before .before .seek .ensures)
 
 pub under-count-spec : {M : Type 1} → statement M
 under-count-spec =
