@@ -1,10 +1,10 @@
 -- Counts in the working room: of an ordered array, and of the cut by the marks.
 use Prim.Native.Nat.{ℕ, _+_, _-_, _*_, _≤_, _<_}
-use mathlib.Core.Path.{_≡_, refl, sym, ap, _∙_}
+use mathlib.Core.Path.{_≡_, sym, ap, _∙_}
 use mathlib.Core.Bool.{Bool, true, false}
 use mathlib.Core.List.{List}
 use native.Mathlib.Omega.{arith}
-use lib.ListN.{length, take, drop, replicate, length-replicate}
+use lib.ListN.{length, take, replicate, length-replicate}
 use borrow.Rule.Slice.PartMut.{putMid, midOf, put-same}
 use Rattle.naturals.specs.Natural.{Holds}
 use Rattle.naturals.proofs.Answer.{holds-as}
