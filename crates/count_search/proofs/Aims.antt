@@ -1,5 +1,5 @@
 -- The answers to a count target that take no search, and what a search begins with.
-use Prim.Native.Nat.{ℕ, _+_, _-_, _*_, _≤_, _<_, max}
+use Prim.Native.Nat.{ℕ, _+_, _*_, _≤_, _<_, max}
 use mathlib.Core.Path.{_≡_, refl, sym, ap, _∙_}
 use mathlib.Core.Bool.{cond}
 use mathlib.Core.List.{List}
@@ -7,14 +7,13 @@ use native.Mathlib.Omega.{arith}
 use lib.ListN.{length, getD, take, drop, replicate, length-drop, length-replicate, getD-replicate}
 use lib.Seq.{getD-take, getD-drop, ext-getD, length-take-le}
 use lib.Dec.{eqb}
-use Rattle.naturals.specs.Natural.{value, Holds}
 use Rattle.diagram.specs.Limits.{maxNodes}
-use Rattle.diagram.specs.Diagram.{size, vars, Ordered}
+use Rattle.diagram.specs.Diagram.{size, Ordered}
 use Rattle.diagram.specs.Verdict.{most}
 use Rattle.diagram.specs.Valuations.{countOf}
 use Rattle.diagram.proofs.Reading.{accepted-ordered}
 use Rattle.approximation.specs.Cut.{listed}
-use Rattle.approximation.specs.Search.{Answer, answer, order, underToCount}
+use Rattle.approximation.specs.Search.{Answer, underToCount}
 use Rattle.approximation.proofs.Listing.{under-accepted-open}
 use Rattle.approximation.proofs.Targets.{to-count-none, to-count-same, search-many}
 use Rattle.cuts.specs.Marks.{constantAt}

@@ -1,10 +1,10 @@
 -- Counts in the working room: of an ordered array, and of the cut by the marks.
 use Prim.Native.Nat.{ℕ, _+_, _-_, _*_, _≤_, _<_}
-use mathlib.Core.Path.{_≡_, refl, sym, ap, _∙_}
+use mathlib.Core.Path.{_≡_, sym, ap, _∙_}
 use mathlib.Core.Bool.{Bool, true, false}
 use mathlib.Core.List.{List}
 use native.Mathlib.Omega.{arith}
-use lib.ListN.{length, take, drop, replicate, length-replicate}
+use lib.ListN.{length, take, replicate, length-replicate}
 use borrow.Rule.Slice.PartMut.{putMid, midOf, put-same}
 use Rattle.naturals.specs.Natural.{Holds}
 use Rattle.naturals.proofs.Answer.{holds-as}
@@ -36,9 +36,10 @@ module _ {w r : List ℕ} {at n : ℕ} (a : Countable w r at n) where
       → Holds (countOf w) words × (putMid at (at + 9 * n - at) r part ≡ r)
   counted {part} {words} (h, e) =
       let long = ap (λ (l : List ℕ). length l) part-zero ∙ length-replicate {A = ℕ} (9 * n) 0 in
-      let is : part ≡ midOf at (at + 9 * n - at) r = e ∙ ap (λ (k : ℕ). replicate k 0) long ∙ sym part-zero in
-      (holds-as (total-valuations w (a .ordered)) h,
-      ap (λ (l : List ℕ). putMid at (at + 9 * n - at) r l) is ∙ put-same at (at + 9 * n - at) r)
+      let is : part ≡ midOf at (at + 9 * n - at) r = e ∙ ap (λ (k : ℕ). replicate k 0) long ∙ sym part-zero in (
+        holds-as (total-valuations w (a .ordered)) h,
+        ap (λ (l : List ℕ). putMid at (at + 9 * n - at) r l) is ∙ put-same at (at + 9 * n - at) r,
+      )
 
 -- ---- of a cut
 
@@ -65,7 +66,7 @@ module _ {w sent r : List ℕ} {n : ℕ} (a : Recounting w sent r n) where
     pub recount-rooted : x ≡ true → {words : List ℕ} → Holds 0 words → Holds (countOf (cut w (markedIn n r) 0)) words
     recount-rooted e h =
         let none : countOf (cut w (markedIn n r) 0) ≡ 0 =
-            ap (λ (l : List ℕ). countOf l) (cut-root-under w (a .ordered) (markedIn n r) (root-is true e)) ∙ false-count (vars w) in
+        ap (λ (l : List ℕ). countOf l) (cut-root-under w (a .ordered) (markedIn n r) (root-is true e)) ∙ false-count (vars w) in
         holds-as (sym none) h
 
     module _ (free : x ≡ false) {copy : List ℕ} (s : Sent w (markedIn n r) 0 sent copy) where

@@ -7,19 +7,19 @@ use native.Mathlib.Omega.{arith}
 use native.Mathlib.Decide.{decLt}
 use native.Mathlib.Nat.{sub-zero}
 use native.Mathlib.Numerals.{add-one}
-use lib.ListN.{length, getD, set, take, drop, replicate, length-set, length-drop}
+use lib.ListN.{length, getD, set, take, drop, length-set, length-drop}
 use lib.Seq.{getD-take, take-set-le, drop-set-lt}
 use lib.Dec.{leb, eqb}
-use Rattle.naturals.specs.Natural.{value, wordCount, Holds}
+use Rattle.naturals.specs.Natural.{value, Holds}
 use Rattle.naturals.proofs.Answer.{holds-as}
 use Rattle.diagram.specs.Limits.{maxNodes}
-use Rattle.diagram.specs.Diagram.{size, vars, Ordered}
+use Rattle.diagram.specs.Diagram.{size, vars}
 use Rattle.diagram.specs.Verdict.{most}
 use Rattle.diagram.specs.Valuations.{countOf, weightOf}
 use Rattle.diagram.proofs.Tests.{by-test}
-use Rattle.weights.specs.Passes.{entry, num, weightsFrom}
+use Rattle.weights.specs.Passes.{num, weightsFrom}
 use Rattle.approximation.specs.Cut.{cut, listed}
-use Rattle.approximation.specs.Search.{Answer, answer, order, cutFirst, covering, reached, countSearch, underToCount}
+use Rattle.approximation.specs.Search.{answer, order, cutFirst, covering, reached, countSearch, underToCount}
 use Rattle.approximation.proofs.Cut.{cut-same}
 use Rattle.approximation.proofs.Members.{order-length, order-nodes}
 use Rattle.approximation.proofs.Search.{first-all, false-count, walk-out, walk-covers, walk-on, count-enough, count-on}

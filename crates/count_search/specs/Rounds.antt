@@ -6,13 +6,12 @@ use mathlib.Core.List.{List}
 use lib.ListN.{length, getD, take, drop, replicate}
 use Rattle.diagram.specs.Limits.{maxNodes}
 use Rattle.diagram.specs.Diagram.{size, vars, Ordered}
+use Rattle.diagram.specs.Verdict.{accepted}
 use Rattle.diagram.specs.Valuations.{countOf}
-use Rattle.approximation.specs.Cut.{listed}
+use Rattle.approximation.specs.Cut.{listed, underCountOf}
 use Rattle.approximation.specs.Search.{order}
 use Rattle.cuts.specs.Marks.{markedIn}
 use Rattle.trials.specs.Trials.{Ready, Searching}
-use Rattle.diagram.specs.Verdict.{accepted}
-use Rattle.approximation.specs.Cut.{underCountOf}
 
 -- An ordered array can be counted at a place of the room.
 pub record Countable (w r : List ℕ) (at n : ℕ) : Type 0 where

@@ -13,7 +13,7 @@ ghost use Rattle.cuts.specs.Marks.{markedIn};
 ghost use Rattle.count_search.specs.Rounds.{Countable, Recounting};
 
 // The count of an ordered array, nine words of the room for each node.
-pub(crate) fn count_in(words: &[u32], room: &mut [u32], at: usize, nodes: usize) -> Natural
+pub fn count_in(words: &[u32], room: &mut [u32], at: usize, nodes: usize) -> Natural
     requires { ⌜ Countable (now words) (now room) at nodes ⌝ }
     ensures { λ r. ⌜ Holds (countOf (now (words .entry))) (r .words) × (now (room .exit) ≡ now (room .entry)) ⌝ }
 {

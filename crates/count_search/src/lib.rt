@@ -1,8 +1,8 @@
 // The search for a count (document 01, "The evening's cut"): nodes are taken by priority until their weights cover what is to
 // be removed, and all that are taken are cut; while the count is still too large, the walk goes on where it stopped. The
 // answer stands in the working room.
-mod amounts;
-mod counting;
+pub mod amounts;
+pub mod counting;
 mod rounds;
 
 use amounts::at_most;

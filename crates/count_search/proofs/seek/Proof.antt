@@ -3,33 +3,22 @@ use native.Mathlib.Omega.{arith}
 use borrow.Author.Needs.{needs}
 use Rattle.count_search.proofs.seek.Statement.{statement}
 use Rattle.count_search.proofs.seek.Tie as tie
-use Rattle.count_search.proofs.seek.Reads as reads
-use Rattle.count_search.proofs.seek.Lts as lts
-use Rattle.count_search.proofs.rounds.search.Reads as search-reads
-use Rattle.trials.proofs.first.unmark.Reads as unmark-reads
-use Rattle.trials.proofs.prepare.Reads as prepare-reads
 
--- src/lib.rt:44:5
 prepare-requires : tie.Need-prepare-requires
 prepare-requires c κs = above-prepares (c .before .before .before .pre)
 
--- src/lib.rt:45:5
 unmark-requires : tie.Need-unmark-requires
 unmark-requires c κs = above-unmarkable (c .before .before .before .before .before .before .before .pre) (c .before .before .before .prepare .ensures)
 
--- src/lib.rt:46:19
 slice-aggregate-search : tie.Need-slice-aggregate-search
 slice-aggregate-search c = search needs
 
--- src/lib.rt:46:5
 search-requires : tie.Need-search-requires
 search-requires c κs = above-seeking (c .before .before .before .before .before .before .before .before .before .before .before .before .pre) (c .before .before .before .before .before .before .before .before .prepare .ensures) (c .before .before .before .before .unmark .ensures) (omega arith)
 
--- src/lib.rt:32:1
 same-length : tie.Need-same-length
 same-length c = search needs
 
--- src/lib.rt:32:1
 returns : tie.Need-returns
 returns c = above-found (c .before .before .before .before .before .before .before .before .before .before .before .before .before .before .before .before .pre) (c .before .before .before .before .before .before .before .before .before .before .before .before .prepare .ensures) (c .before .before .before .before .before .before .before .before .unmark .ensures) (c .before .before .before .search .ensures)
 

@@ -5,73 +5,49 @@ use native.Mathlib.Omega.{arith}
 use borrow.Author.Needs.{needs}
 use Rattle.count_search.proofs.under_count.Statement.{statement}
 use Rattle.count_search.proofs.under_count.Tie as tie
-use Rattle.count_search.proofs.under_count.Reads as reads
-use Rattle.count_search.proofs.under_count.Lts as lts
-use Rattle.count_search.proofs.amounts.at_most.Reads as at-most-reads
-use Rattle.count_search.proofs.counting.count_in.Reads as count-in-reads
-use Rattle.count_search.proofs.seek.Reads as seek-reads
-use Rattle.cuts.proofs.cut.constant.Reads as constant-reads
-use Rattle.diagram.proofs.lengths.most.Reads as most-reads
-use Rattle.naturals.proofs.is_zero.Reads as is-zero-reads
-use Rattle.trials.proofs.answers.keep.Reads as keep-reads
 
--- src/lib.rt:59:9
 most-requires : tie.Need-most-requires
 most-requires c κs = search needs
 
--- src/lib.rt:60:8
 is-zero-requires : tie.Need-is-zero-requires
 is-zero-requires c κs = search needs
 
--- src/lib.rt:61:35
 mul-constant : tie.Need-mul-constant
 mul-constant c = omega (arith, aiming-few (c .before .before .before .before .before .before .pre), c .before .before .before .most .ensures)
 
--- src/lib.rt:61:13
 constant-requires : tie.Need-constant-requires
 constant-requires c κs = omega (arith, aiming-few (c .before .before .before .before .before .before .pre), c .before .before .before .most .ensures)
 
--- src/lib.rt:62:9
 same-length : tie.Need-same-length
 same-length c = search needs
 
--- src/lib.rt:62:9
 returns : tie.Need-returns
 returns c = aiming-none (c .before .before .before .before .before .before .before .before .before .pre) (c .before .before .before .before .before .before .most .ensures) (eqb-true _ _ (sym (c .before .before .before .before .before .is-zero .ensures) ∙ c .before .before .before .before .if1 .taken)) (c .before .before .constant .ensures)
 
--- src/lib.rt:67:39
 mul-count-in : tie.Need-mul-count-in
 mul-count-in c = omega (arith, aiming-few (c .before .before .before .before .before .before .pre), c .before .before .before .most .ensures)
 
--- src/lib.rt:67:9
 count-in-requires : tie.Need-count-in-requires
 count-in-requires c κs = aiming-countable (c .before .before .before .before .before .before .pre) (c .before .before .before .most .ensures)
 
--- src/lib.rt:68:8
 at-most-requires : tie.Need-at-most-requires
 at-most-requires c κs = search needs
 
--- src/lib.rt:69:9
 keep-requires : tie.Need-keep-requires
 keep-requires c κs = aiming-keeps (c .before .before .before .before .before .before .before .before .before .before .before .before .pre) (c .before .before .before .before .before .before .before .before .before .most .ensures) (c .before .before .before .before .before .count-in .ensures .1)
 
--- src/lib.rt:70:9
 same-length-2 : tie.Need-same-length-2
 same-length-2 c = search needs
 
--- src/lib.rt:70:9
 returns-2 : tie.Need-returns-2
 returns-2 c = aiming-kept (c .before .before .before .before .before .before .before .before .before .before .before .before .before .before .before .pre) (c .before .before .before .before .before .before .before .before .before .before .before .before .most .ensures) (c .before .before .before .before .before .before .before .before .count-in .ensures .1) (eqb-false _ _ (sym (c .before .before .before .before .before .before .before .before .before .before .before .is-zero .ensures) ∙ c .before .before .before .before .before .before .before .before .before .before .if1 .left)) (c .before .before .before .before .before .before .before .before .count-in .ensures .0 .worth) (leb-true _ _ (sym (c .before .before .before .before .before .at-most .ensures) ∙ c .before .before .before .before .if2 .taken)) (c .before .before .keep .ensures)
 
--- src/lib.rt:72:5
 seek-requires : tie.Need-seek-requires
 seek-requires c κs = aiming-above (c .before .before .before .before .before .before .before .before .before .before .before .before .pre) (c .before .before .before .before .before .before .before .before .before .most .ensures) (c .before .before .before .before .before .count-in .ensures .1) (eqb-false _ _ (sym (c .before .before .before .before .before .before .before .before .is-zero .ensures) ∙ c .before .before .before .before .before .before .before .if1 .left)) (c .before .before .before .before .before .count-in .ensures .0 .worth) (leb-false _ _ (sym (c .before .before .at-most .ensures) ∙ c .before .if2 .left))
 
--- src/lib.rt:49:1
 same-length-3 : tie.Need-same-length-3
 same-length-3 c = search needs
 
--- src/lib.rt:49:1
 returns-3 : tie.Need-returns-3
 returns-3 c = aiming-found (c .before .before .before .before .before .before .before .before .before .before .before .before .before .before .before .pre) (c .before .before .before .before .before .before .before .before .before .before .before .before .most .ensures) (c .before .before .before .before .before .before .before .before .count-in .ensures .1) (c .before .before .seek .ensures)
 

@@ -5,70 +5,49 @@ use native.Mathlib.Omega.{arith}
 use borrow.Author.Needs.{needs}
 use Rattle.count_search.proofs.counting.recount.Statement.{statement}
 use Rattle.count_search.proofs.counting.recount.Tie as tie
-use Rattle.count_search.proofs.counting.recount.Reads as reads
-use Rattle.count_search.proofs.counting.recount.Lts as lts
-use Rattle.count_search.proofs.counting.count_in.Reads as count-in-reads
-use Rattle.cuts.proofs.marks.is_marked.Reads as is-marked-reads
-use Rattle.cuts.proofs.send.send.Reads as send-reads
-use Rattle.naturals.proofs.zero.Reads as zero-reads
 
--- src/counting.rt:28:43
 sub-t8 : tie.Need-sub-t8
 sub-t8 c = omega (arith, recount-some (c .before .before .before .before .pre))
 
--- src/counting.rt:28:42
 cast-t9 : tie.Need-cast-t9
 cast-t9 c = omega (arith, recount-few (c .before .before .before .before .pre))
 
--- src/counting.rt:28:8
 is-marked-requires : tie.Need-is-marked-requires
 is-marked-requires c κs = recount-few (c .before .before .before .before .pre)
 
--- src/counting.rt:29:9
 zero-requires : tie.Need-zero-requires
 zero-requires c κs = search needs
 
--- src/counting.rt:29:9
 same-length : tie.Need-same-length
 same-length c = search needs
 
--- src/counting.rt:29:9
 returns : tie.Need-returns
 returns c = (recount-rooted (c .before .before .before .before .before .before .before .pre) (c .before .before .is-marked .ensures) (c .before .if1 .taken) (c .zero .ensures), refl)
 
--- src/counting.rt:31:5
 send-requires : tie.Need-send-requires
 send-requires c κs = recount-sending (c .before .before .before .before .before .before .before .before .pre)
 
--- src/counting.rt:32:22
 mul-count-in : tie.Need-mul-count-in
 mul-count-in c = omega (arith, recount-few (c .before .before .before .before .before .before .before .before .before .before .before .pre))
 
--- src/counting.rt:32:14
 slice-reshare-prefix-count-in : tie.Need-slice-reshare-prefix-count-in
 slice-reshare-prefix-count-in c = recount-fits (c .before .before .before .before .before .before .before .before .before .before .before .pre) (c .before .before .before .before .before .before .is-marked .ensures) (c .before .before .before .before .before .if1 .left) (c .before .before .send .ensures)
 
--- src/counting.rt:32:14
 slice-aggregate-count-in : tie.Need-slice-aggregate-count-in
 slice-aggregate-count-in c = sym (length-take-le _ _ (recount-fits (c .before .before .before .before .before .before .before .before .before .before .before .before .pre) (c .before .before .before .before .before .before .before .is-marked .ensures) (c .before .before .before .before .before .before .if1 .left) (c .before .before .before .send .ensures)))
 
--- src/counting.rt:32:40
 mul-count-in-2 : tie.Need-mul-count-in-2
 mul-count-in-2 c = omega (arith, recount-few (c .before .before .before .before .before .before .before .before .before .before .before .before .before .pre))
 
--- src/counting.rt:32:5
 count-in-requires : tie.Need-count-in-requires
 count-in-requires c κs = recount-countable (c .before .before .before .before .before .before .before .before .before .before .before .before .before .pre) (c .before .before .before .before .before .before .before .before .is-marked .ensures) (c .before .before .before .before .before .before .before .if1 .left) (c .before .before .before .before .send .ensures)
 
--- src/counting.rt:24:1
 same-length-2 : tie.Need-same-length-2
 same-length-2 c = search needs
 
--- src/counting.rt:24:1
 same-length-3 : tie.Need-same-length-3
 same-length-3 c = search needs
 
--- src/counting.rt:24:1
 returns-2 : tie.Need-returns-2
 returns-2 c = recounted (c .before .before .before .before .before .before .before .before .before .before .before .before .before .before .before .before .pre) (c .before .before .before .before .before .before .before .before .before .before .before .is-marked .ensures) (c .before .before .before .before .before .before .before .before .before .before .if1 .left) (c .before .before .before .before .before .before .before .send .ensures) (c .before .before .count-in .ensures)
 
