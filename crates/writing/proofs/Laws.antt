@@ -107,10 +107,13 @@ still-goes-on {whole} {before} {now} {after} {at} {place} {end} s rest a w =
 pub still-ends : {whole before after : List ℕ} {at place : ℕ} → Still whole before at [] after place → Wrote whole before at after place
 still-ends {whole} {before} {after} {at} {place} a = record { left = sym (a .left); ends = sym (past-none (length before) place) ∙ sym (a .ends) }
 
--- By what is left, one element or none.
+-- By what is left: a part and more, one element and more, or none.
 module _ {whole before now : List ℕ} {at place : ℕ} {rest : List ℕ} (a : Still whole before at rest now place) where
+  pub still-part : {after : List ℕ} {end : ℕ} (s more : List ℕ) → rest ≡ s ++ more → Wrote s now place after end → Still whole before at more after end
+  still-part {after} {end} s more e w = still-goes-on s more (rw e at a) w
+
   pub still-next : {after : List ℕ} {end : ℕ} {x : ℕ} {more : List ℕ} → rest ≡ x ∷ more → Wrote (x ∷ []) now place after end → Still whole before at more after end
-  still-next {after} {end} {x} {more} e w = still-goes-on (x ∷ []) more (rw e at a) w
+  still-next {after} {end} {x} {more} e w = still-part (x ∷ []) more e w
 
   pub still-none : rest ≡ [] → Wrote whole before at now place
   still-none e = still-ends (rw e at a)
