@@ -1,7 +1,7 @@
 -- Reading block by block, as a loop does it.
 use Prim.Native.Nat.{ℕ, zero, suc, _+_, _-_, _*_, _≤_, _<_}
 use mathlib.Core.Path.{_≡_, refl, sym, ap, _∙_}
-use mathlib.Core.Bool.{cond}
+use mathlib.Core.Bool.{Bool, true, false, cond}
 use mathlib.Core.List.{List}
 use native.Mathlib.Omega.{arith}
 use native.Mathlib.Numerals.{add-one}
@@ -13,6 +13,7 @@ use Rattle.blocks.specs.Block.{Outcome, nodes, refused, said, row, blockOutcome
 use Rattle.blocks.specs.declared.stored.Stored.{Stored}
 use Rattle.blocks.specs.declared.stored.Stored.the-variants.{Nodes, Refused}
 use Rattle.blocks.proofs.Testing.{is-taken}
+use Rattle.writing.proofs.Laws.{by-le}
 use Rattle.block_file.specs.File.{Reading, reading, endOf, after, readOn, readFile, ReadsFile}
 
 pub end-over : (len number n : ℕ) → 512 * number < len → refused 21 number ≡ endOf len number n
@@ -95,3 +96,37 @@ unfolding readOn
 onward-over {s} {before} {out} {number} a h =
     let e : 3 - number ≡ 0 = omega arith in
     record { is = rw e at (a .rest) }
+
+-- ---- an answer has at most 120 nodes
+
+row-nodes : (k : ℕ) (t : Bool) (p m n : ℕ) → row k t p (nodes m) ≡ nodes n → m ≡ n
+unfolding row
+row-nodes k true p m n e = let z : _≡_ {A = ℕ} 0 1 = cc in absurd (omega arith)
+row-nodes k false p m n e = cc
+
+end-nodes : (len number m n : ℕ) → endOf len number m ≡ nodes n → m ≡ n
+unfolding endOf
+end-nodes len number m n e = row-nodes 21 _ number m n e
+
+few-after : (o : Outcome) (number : ℕ) (s out : List ℕ) (next : ℕ → List ℕ → Reading) {n : ℕ} {left : List ℕ}
+    → ((m : ℕ) → o ≡ nodes m → m ≤ 120)
+    → ((m : ℕ) (l : List ℕ) → next m l ≡ reading (nodes n) left → n ≤ 120)
+    → after o number s out next ≡ reading (nodes n) left → n ≤ 120
+few-after (refused k p) number s out next h f e = let z : _≡_ {A = ℕ} 0 1 = cc in absurd (omega arith)
+few-after (nodes m) number s out next {n} {left} h f e =
+    by-le n 120 (λ l. l) (λ l.
+      by-le m (50 * suc number)
+        (λ q.
+          let e′ : reading (endOf (length s) (suc number) m) out ≡ reading (nodes n) left = sym (simp (le-ltb (50 * suc number) m q)) ∙ e in
+          let g : endOf (length s) (suc number) m ≡ nodes n = cc in
+          omega (arith, h m refl, end-nodes (length s) (suc number) m n g))
+        (λ q. f m out (sym (simp (lt-ltb (50 * suc number) m q)) ∙ e)))
+
+pub read-few : (c number stated : ℕ) (s out : List ℕ) {n : ℕ} {left : List ℕ} → readOn c number stated s out ≡ reading (nodes n) left → n ≤ 120
+unfolding readOn
+read-few zero number stated s out e = let z : _≡_ {A = ℕ} 0 1 = cc in absurd (omega arith)
+read-few (suc c) number stated s out e =
+    few-after (blockOutcome number stated (drop (512 * number) s) (length out)) number s _ _
+      (λ m h. let t = is-taken (drop (512 * number) s) number stated (length out) m h in omega (arith, t .few, t .count))
+      (λ m l h. read-few c (suc number) m s l h)
+      e
