@@ -45,8 +45,8 @@ reads-tail s k b =
 step-is : (s out : List ℕ) (number stated : ℕ) → number < 3
     → readOn (3 - number) number stated s out
     ≡ after (blockOutcome number stated (drop (512 * number) s) (length out)) number s
-        (blockOutput number (drop (512 * number) s) out (blockOutcome number stated (drop (512 * number) s) (length out)))
-        (λ n left. readOn (3 - (number + 1)) (number + 1) n s left)
+    (blockOutput number (drop (512 * number) s) out (blockOutcome number stated (drop (512 * number) s) (length out)))
+    (λ n left. readOn (3 - (number + 1)) (number + 1) n s left)
 unfolding readOn
 step-is s out number stated h =
     let e : 3 - number ≡ suc (3 - (number + 1)) = omega arith in
@@ -115,18 +115,18 @@ few-after : (o : Outcome) (number : ℕ) (s out : List ℕ) (next : ℕ → List
 few-after (refused k p) number s out next h f e = let z : _≡_ {A = ℕ} 0 1 = cc in absurd (omega arith)
 few-after (nodes m) number s out next {n} {left} h f e =
     by-le n 120 (λ l. l) (λ l.
-      by-le m (50 * suc number)
-        (λ q.
-          let e′ : reading (endOf (length s) (suc number) m) out ≡ reading (nodes n) left = sym (simp (le-ltb (50 * suc number) m q)) ∙ e in
-          let g : endOf (length s) (suc number) m ≡ nodes n = cc in
-          omega (arith, h m refl, end-nodes (length s) (suc number) m n g))
-        (λ q. f m out (sym (simp (lt-ltb (50 * suc number) m q)) ∙ e)))
+    by-le m (50 * suc number)
+    (λ q.
+    let e′ : reading (endOf (length s) (suc number) m) out ≡ reading (nodes n) left = sym (simp (le-ltb (50 * suc number) m q)) ∙ e in
+    let g : endOf (length s) (suc number) m ≡ nodes n = cc in
+    omega (arith, h m refl, end-nodes (length s) (suc number) m n g))
+    (λ q. f m out (sym (simp (lt-ltb (50 * suc number) m q)) ∙ e)))
 
 pub read-few : (c number stated : ℕ) (s out : List ℕ) {n : ℕ} {left : List ℕ} → readOn c number stated s out ≡ reading (nodes n) left → n ≤ 120
 unfolding readOn
 read-few zero number stated s out e = let z : _≡_ {A = ℕ} 0 1 = cc in absurd (omega arith)
 read-few (suc c) number stated s out e =
     few-after (blockOutcome number stated (drop (512 * number) s) (length out)) number s _ _
-      (λ m h. let t = is-taken (drop (512 * number) s) number stated (length out) m h in omega (arith, t .few, t .count))
-      (λ m l h. read-few c (suc number) m s l h)
-      e
+    (λ m h. let t = is-taken (drop (512 * number) s) number stated (length out) m h in omega (arith, t .few, t .count))
+    (λ m l h. read-few c (suc number) m s l h)
+    e

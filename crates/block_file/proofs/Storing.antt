@@ -49,24 +49,24 @@ module _ (w : List ℕ) (lent : ℕ) where
           refused-26 {p} e h =
               let h′ : firstWide w < size w = rw e at h in
               rw e
-              (simp
-              ( ne-eqb (length w) 0 some
-              , eq-eqb (length w % 3) 0 whole
-              , le-ltb 120 (size w) few
-              , le-ltb lent (512 * blockCount (size w)) fits
-              , lt-ltb (firstWide w) (size w) h′
+              (simp (
+                ne-eqb (length w) 0 some,
+                eq-eqb (length w % 3) 0 whole,
+                le-ltb 120 (size w) few,
+                le-ltb lent (512 * blockCount (size w)) fits,
+                lt-ltb (firstWide w) (size w) h′,
               ))
 
           pub storable : {p : ℕ} → p ≡ firstWide w → size w ≤ p → nodes (size w) ≡ writeOutcome w lent
           unfolding writeOutcome row
           storable {p} e h =
               let h′ : size w ≤ firstWide w = rw e at h in
-              simp
-              ( ne-eqb (length w) 0 some
-              , eq-eqb (length w % 3) 0 whole
-              , le-ltb 120 (size w) few
-              , le-ltb lent (512 * blockCount (size w)) fits
-              , le-ltb (firstWide w) (size w) h′
+              simp (
+                ne-eqb (length w) 0 some,
+                eq-eqb (length w % 3) 0 whole,
+                le-ltb 120 (size w) few,
+                le-ltb lent (512 * blockCount (size w)) fits,
+                le-ltb (firstWide w) (size w) h′,
               )
 
 -- ---- the blocks
@@ -74,10 +74,10 @@ module _ (w : List ℕ) (lent : ℕ) where
 pub part-is : (w : List ℕ) (number : ℕ) → length w ≡ 3 * size w → take (3 * here (size w) number) (drop (150 * number) w) ≡ part w number
 part-is w number whole =
     by-le 50 (size w - 50 * number)
-      (λ h. let e : 3 * here (size w) number ≡ 150 = omega arith in rw e)
-      (λ h.
-        let e : 3 * here (size w) number ≡ length (drop (150 * number) w) = simp length-drop (omega arith) in
-        take-all (3 * here (size w) number) (drop (150 * number) w) (omega arith) ∙ sym (take-all 150 (drop (150 * number) w) (omega arith)))
+    (λ h. let e : 3 * here (size w) number ≡ 150 = omega arith in rw e)
+    (λ h.
+    let e : 3 * here (size w) number ≡ length (drop (150 * number) w) = simp length-drop (omega arith) in
+    take-all (3 * here (size w) number) (drop (150 * number) w) (omega arith) ∙ sym (take-all 150 (drop (150 * number) w) (omega arith)))
 
 pub part-few : (w : List ℕ) (number : ℕ) → length (part w number) ≤ 150
 part-few w number = omega (arith, length-take 150 (drop (150 * number) w))

@@ -33,8 +33,8 @@ three w i h =
     let f : i + 2 + 1 ≡ i + 3 = omega arith in
     drop-next w i (omega arith)
     ∙ ap (λ (l : List ℕ). getD w i 0 ∷ l)
-        (drop-next w (i + 1) (omega arith)
-        ∙ rw e (ap (λ (l : List ℕ). getD w (i + 1) 0 ∷ l) (drop-next w (i + 2) h ∙ rw f)))
+    (drop-next w (i + 1) (omega arith)
+    ∙ rw e (ap (λ (l : List ℕ). getD w (i + 1) 0 ∷ l) (drop-next w (i + 2) h ∙ rw f)))
 
 pub bytes-next : (w : List ℕ) (i : ℕ) {a b d : ℕ} → i + 2 < length w → a ≡ getD w i 0 → b ≡ getD w (i + 1) 0 → d ≡ getD w (i + 2) 0
     → nodesBytes (drop i w) ≡ nodeBytes a b d ++ nodesBytes (drop (i + 3) w)

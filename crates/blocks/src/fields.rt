@@ -10,7 +10,11 @@ ghost use Rattle.blocks.specs.Block.{twoBytes, fourBytes, two, four};
 fn byte(bytes: &[u8], at: usize) -> u32
     ensures { λ r. ⌜ (r ≡ getD (now (bytes .entry)) at 0) × (r < 256) ⌝ }
 {
-    if at < bytes.len() { bytes[at] as u32 } else { 0 }
+    if at < bytes.len() {
+        bytes[at] as u32
+    } else {
+        0
+    }
 }
 
 // The number in two bytes.

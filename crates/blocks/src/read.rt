@@ -34,7 +34,11 @@ pub fn nodes_here(nodes: usize, number: usize) -> usize
     if nodes <= before {
         return 0;
     }
-    if nodes - before < NODES { nodes - before } else { NODES }
+    if nodes - before < NODES {
+        nodes - before
+    } else {
+        NODES
+    }
 }
 
 // Whether a block states the number of nodes that the first block stated.

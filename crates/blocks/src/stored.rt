@@ -2,10 +2,7 @@
 pub enum Stored {
     // The number of nodes in the file.
     Nodes(usize),
-    Refused {
-        number: u32,
-        place: usize,
-    },
+    Refused { number: u32, place: usize },
 }
 
 // A block is short, or there is none, or bytes stand after the last.

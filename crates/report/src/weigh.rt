@@ -1,8 +1,8 @@
 // From the bytes of a block file to the text of the report.
-use block_file::read::read_file;
-use blocks::stored::Stored;
 use crate::lines::write_lines;
 use crate::lines::write_refusal;
+use block_file::read::read_file;
+use blocks::stored::Stored;
 use diagram::verdict::Verdict;
 use weights::node_valuation_weights;
 ghost use Prim.Native.Nat.{_*_, _≤_};

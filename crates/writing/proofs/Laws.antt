@@ -48,9 +48,9 @@ sets-past : (s t l : List ℕ) (at : ℕ) → sets l at (s ++ t) ≡ sets (sets 
 sets-past s t l at =
     sets-append s t l at
     ∙ ⊎-elim
-        (λ e. ap (λ (k : ℕ). sets (sets l at s) k t) (sym e))
-        (λ h. sets-out t (sets l at s) (at + length s) (rw length-sets (h .1)) ∙ sym (sets-out t (sets l at s) (past (length l) at s) (rw length-sets (h .0))))
-        (past-where (length l) at s)
+    (λ e. ap (λ (k : ℕ). sets (sets l at s) k t) (sym e))
+    (λ h. sets-out t (sets l at s) (at + length s) (rw length-sets (h .1)) ∙ sym (sets-out t (sets l at s) (past (length l) at s) (rw length-sets (h .0))))
+    (past-where (length l) at s)
 
 -- ---- writings one after another
 
