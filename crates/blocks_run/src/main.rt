@@ -92,34 +92,48 @@ fn blank_lines() -> [u8; LINES] {
     [0u8; LINES]
 }
 
+fn read_to(output: &mut [u32], bytes: &[u8], filling: u32) {
+    fill(output, filling);
+    let stored = read_file(bytes, output);
+    say_stored(stored);
+    say_words(output);
+}
+
 fn read_case(bytes: &[u8], lent: usize, filling: u32) {
     let mut output = blank_output();
     let end = least(lent, OUTPUT);
-    fill(&mut output, filling);
-    let stored = read_file(bytes, &mut output[..end]);
+    read_to(&mut output[..end], bytes, filling);
+}
+
+fn write_to(file: &mut [u8], words: &[u32], filling: u32) {
+    fill_bytes(file, (filling % 256) as u8);
+    let stored = write_file(words, file);
     say_stored(stored);
-    say_words(&output[..end]);
+    say_bytes(file);
 }
 
 fn write_case(words: &[u32], lent: usize, filling: u32) {
     let mut file = blank_lines();
     let end = least(lent, LINES);
-    fill_bytes(&mut file, (filling % 256) as u8);
-    let stored = write_file(words, &mut file[..end]);
-    say_stored(stored);
-    say_bytes(&file[..end]);
+    write_to(&mut file[..end], words, filling);
+}
+
+fn show(text: &[u8], end: usize) {
+    if end <= text.len() {
+        io::write_all(STDOUT_FILENO, &text[..end]);
+    }
 }
 
 fn report_case(bytes: &[u8]) {
     let mut lines = blank_lines();
     let end = report(&mut lines, bytes);
-    io::write_all(STDOUT_FILENO, &lines[..least(end, LINES)]);
+    show(&lines, end);
 }
 
 // A number's text and a line feed, or `none`.
-fn say_text(valid: bool, text: &[u8]) {
+fn say_text(valid: bool, text: &[u8], end: usize) {
     if valid {
-        io::write_all(STDOUT_FILENO, text);
+        show(text, end);
         io::write_all(STDOUT_FILENO, b"\n");
     } else {
         io::write_all(STDOUT_FILENO, b"none\n");
@@ -130,14 +144,14 @@ fn decimal_case(bytes: &[u8]) {
     let mut text = [0u8; 80];
     let parsed = parse_decimal(bytes);
     let end = write_decimal(&mut text, 0, parsed.value as u64);
-    say_text(parsed.valid, &text[..least(end, 80)]);
+    say_text(parsed.valid, &text, end);
 }
 
 fn hexadecimal_case(bytes: &[u8]) {
     let mut text = [0u8; 80];
     let parsed = parse_hexadecimal(bytes);
     let end = write_hexadecimal(&mut text, 0, parsed.natural);
-    say_text(parsed.fits, &text[..least(end, 80)]);
+    say_text(parsed.fits, &text, end);
 }
 
 fn run_bytes(kind: u32, bytes: &[u8], lent: usize, filling: u32) {

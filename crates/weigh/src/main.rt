@@ -5,14 +5,31 @@ use report::weigh::report;
 
 const INPUT: usize = 2048;
 
+// No report is longer: see `report-fits`.
 const TEXT: usize = 16384;
 
-fn main() {
-    let mut bytes = [0u8; INPUT];
-    let mut text = [0u8; TEXT];
-    let length = io::read_full(0, &mut bytes);
-    let end = report(&mut text, &bytes[..length]);
-    if end <= TEXT {
+fn blank_input() -> [u8; INPUT] {
+    [0u8; INPUT]
+}
+
+fn blank_text() -> [u8; TEXT] {
+    [0u8; TEXT]
+}
+
+fn show(text: &[u8], end: usize) {
+    if end <= text.len() {
         io::write_all(STDOUT_FILENO, &text[..end]);
     }
+}
+
+fn weigh(bytes: &[u8], text: &mut [u8]) {
+    let end = report(text, bytes);
+    show(text, end);
+}
+
+fn main() {
+    let mut bytes = blank_input();
+    let mut text = blank_text();
+    let length = io::read_full(0, &mut bytes);
+    weigh(&bytes[..length], &mut text);
 }

@@ -1,0 +1,50 @@
+use borrow.Author.Needs.{needs}
+use native.Mathlib.Omega.{arith}
+use Rattle.blocks_run.proofs.run.Statement.{statement}
+use Rattle.blocks_run.proofs.run.Tie as tie
+use Rattle.blocks_run.proofs.run.Reads as reads
+use Rattle.blocks_run.proofs.run.Lts as lts
+use Rattle.blocks_run.proofs.one_line.Reads as one-line-reads
+
+abbrev Inv-loop : tie.InvT-loop
+Inv-loop text words₀ at₀ words at = ?
+
+abbrev μ-loop : tie.MeasureT-loop
+μ-loop text words₀ at₀ words at = ?
+
+-- src/main.rt:214:5
+loop-holds : tie.Need-loop-holds Inv-loop μ-loop
+loop-holds c = ?
+
+-- src/main.rt:215:9
+one-line-requires : tie.Need-one-line-requires Inv-loop μ-loop
+one-line-requires c κs = search needs
+
+-- src/main.rt:214:5
+loop-less : tie.Need-loop-less Inv-loop μ-loop
+loop-less c = search needs
+
+-- src/main.rt:214:5
+loop-again : tie.Need-loop-again Inv-loop μ-loop
+loop-again c = ?
+
+-- src/main.rt:212:1
+same-length : tie.Need-same-length Inv-loop μ-loop
+same-length c = search needs
+
+-- src/main.rt:212:1
+returns : tie.Need-returns Inv-loop μ-loop
+returns c = ?
+
+pub run-spec : {M : Type 1} → statement M
+run-spec =
+    tie.close
+    (tie.spec
+    Inv-loop
+    μ-loop
+    loop-holds
+    one-line-requires
+    loop-less
+    loop-again
+    same-length
+    returns)
