@@ -1,3 +1,5 @@
+use mathlib.Core.Path.{_∙_}
+use lib.ListN.{length-set}
 use Prim.Native.Nat.{_-_, _≤_}
 use lib.ListN.{length}
 use mathlib.Core.Path.{_≡_, refl}
@@ -28,19 +30,19 @@ add-i c = search needs
 
 -- src/main.rt:81:5
 loop-less : tie.Need-loop-less Inv-loop μ-loop
-loop-less c = search needs
+loop-less c = omega (arith, c .before .loop .inv)
 
 -- src/main.rt:81:5
 loop-again : tie.Need-loop-again Inv-loop μ-loop
-loop-again c = ?
+loop-again c = length-set (c .before .loop .bytes) (c .before .loop .i) (c .before .before .args .byte) ∙ c .before .loop .inv
 
 -- src/main.rt:79:1
 same-length : tie.Need-same-length Inv-loop μ-loop
-same-length c = search needs
+same-length c = c .before .loop .inv
 
 -- src/main.rt:79:1
 returns : tie.Need-returns Inv-loop μ-loop
-returns c = ?
+returns c = search needs
 
 pub fill-bytes-spec : {M : Type 1} → statement M
 fill-bytes-spec =

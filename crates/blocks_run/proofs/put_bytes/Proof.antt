@@ -1,3 +1,5 @@
+use mathlib.Core.Path.{_∙_}
+use lib.ListN.{length-set}
 use Prim.Native.Nat.{_-_, _≤_}
 use lib.ListN.{length}
 use mathlib.Core.Path.{_≡_, refl}
@@ -25,19 +27,19 @@ loop-holds c = refl
 
 -- src/main.rt:73:21
 mul-bytes : tie.Need-mul-bytes Inv-loop μ-loop
-mul-bytes c = search needs
+mul-bytes c = omega (arith, c .before .loop .inv, c .before .before .least .ensures .1, c .before .before .before .before .before .good)
 
 -- src/main.rt:73:21
 shared-slice-read-bytes : tie.Need-shared-slice-read-bytes Inv-loop μ-loop
-shared-slice-read-bytes c = search needs
+shared-slice-read-bytes c = omega (arith, c .before .before .before .least .ensures .1)
 
 -- src/main.rt:73:20
 cast-bytes : tie.Need-cast-bytes Inv-loop μ-loop
-cast-bytes c = search needs
+cast-bytes c = omega arith
 
 -- src/main.rt:73:9
 slice-write-bytes : tie.Need-slice-write-bytes Inv-loop μ-loop
-slice-write-bytes c = search needs
+slice-write-bytes c = omega (arith, c .before .before .loop .inv, c .before .before .before .least .ensures .0)
 
 -- src/main.rt:74:9
 add-i : tie.Need-add-i Inv-loop μ-loop
@@ -45,19 +47,19 @@ add-i c = search needs
 
 -- src/main.rt:72:5
 loop-less : tie.Need-loop-less Inv-loop μ-loop
-loop-less c = search needs
+loop-less c = omega arith
 
 -- src/main.rt:72:5
 loop-again : tie.Need-loop-again Inv-loop μ-loop
-loop-again c = ?
+loop-again c = length-set (c .before .before .loop .bytes) (c .before .before .loop .i) _ ∙ c .before .before .loop .inv
 
 -- src/main.rt:67:1
 same-length : tie.Need-same-length Inv-loop μ-loop
-same-length c = search needs
+same-length c = c .before .loop .inv
 
 -- src/main.rt:67:1
 returns : tie.Need-returns Inv-loop μ-loop
-returns c = ?
+returns c = omega (arith, c .before .loop .inv, c .before .before .least .ensures .0)
 
 pub put-bytes-spec : {M : Type 1} → statement M
 put-bytes-spec =

@@ -1,3 +1,5 @@
+use mathlib.Core.Path.{sym}
+use lib.Seq.{length-take-le}
 use native.Mathlib.Omega.{arith}
 use borrow.Author.Needs.{needs}
 use Rattle.blocks_run.proofs.read_case.Statement.{statement}
@@ -22,7 +24,7 @@ array-borrow-prefix-output c = search needs
 
 -- src/main.rt:105:13
 slice-aggregate-read-to : tie.Need-slice-aggregate-read-to
-slice-aggregate-read-to c = search needs
+slice-aggregate-read-to c = sym (length-take-le (c .before .least .result) (c .before .before .blank-output .result) (omega (arith, c .before .least .ensures .1, c .before .before .blank-output .ok)))
 
 -- src/main.rt:105:5
 read-to-requires : tie.Need-read-to-requires

@@ -1,3 +1,6 @@
+use lib.ListN.{length}
+use mathlib.Core.Path.{_≡_, refl, _∙_}
+use Prim.Native.Nat.{_≤_, _-_}
 use borrow.Author.Needs.{needs}
 use native.Mathlib.Omega.{arith}
 use Rattle.blocks_run.proofs.run.Statement.{statement}
@@ -7,14 +10,14 @@ use Rattle.blocks_run.proofs.run.Lts as lts
 use Rattle.blocks_run.proofs.one_line.Reads as one-line-reads
 
 abbrev Inv-loop : tie.InvT-loop
-Inv-loop text words₀ at₀ words at = ?
+Inv-loop text words₀ at₀ words at = (length words ≡ length words₀) × (at ≤ length text)
 
 abbrev μ-loop : tie.MeasureT-loop
-μ-loop text words₀ at₀ words at = ?
+μ-loop text words₀ at₀ words at = length text - at
 
 -- src/main.rt:214:5
 loop-holds : tie.Need-loop-holds Inv-loop μ-loop
-loop-holds c = ?
+loop-holds c = (refl, omega arith)
 
 -- src/main.rt:215:9
 one-line-requires : tie.Need-one-line-requires Inv-loop μ-loop
@@ -22,19 +25,19 @@ one-line-requires c κs = search needs
 
 -- src/main.rt:214:5
 loop-less : tie.Need-loop-less Inv-loop μ-loop
-loop-less c = search needs
+loop-less c = omega (arith, c .before .before .one-line .ensures)
 
 -- src/main.rt:214:5
 loop-again : tie.Need-loop-again Inv-loop μ-loop
-loop-again c = ?
+loop-again c = (c .before .before .one-line .kept .1 .1 .0 ∙ c .before .before .before .before .before .loop .inv .0, c .before .before .one-line .ensures .1)
 
 -- src/main.rt:212:1
 same-length : tie.Need-same-length Inv-loop μ-loop
-same-length c = search needs
+same-length c = c .before .loop .inv .0
 
 -- src/main.rt:212:1
 returns : tie.Need-returns Inv-loop μ-loop
-returns c = ?
+returns c = search needs
 
 pub run-spec : {M : Type 1} → statement M
 run-spec =

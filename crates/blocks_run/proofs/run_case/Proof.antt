@@ -1,3 +1,5 @@
+use mathlib.Core.Path.{sym}
+use lib.Seq.{length-take-le}
 use native.Mathlib.Omega.{arith}
 use borrow.Author.Needs.{needs}
 use Rattle.blocks_run.proofs.run_case.Statement.{statement}
@@ -31,7 +33,7 @@ array-share-prefix-bytes c = search needs
 
 -- src/main.rt:182:25
 slice-aggregate-run-bytes : tie.Need-slice-aggregate-run-bytes
-slice-aggregate-run-bytes c = search needs
+slice-aggregate-run-bytes c = sym (length-take-le (c .before .before .put-bytes .result) (c .before .before .put-bytes .last .0) (c .before .before .put-bytes .ensures))
 
 -- src/main.rt:182:9
 run-bytes-requires : tie.Need-run-bytes-requires

@@ -30,7 +30,7 @@ shared-slice-read-say c = search needs
 
 -- src/main.rt:60:19
 cast-say : tie.Need-cast-say Inv-loop μ-loop
-cast-say c = search needs
+cast-say c = omega (arith, c .shared-slice-known2 .given (c .before .before .before .loop .i))
 
 -- src/main.rt:60:9
 say-requires : tie.Need-say-requires Inv-loop μ-loop
@@ -42,7 +42,7 @@ add-i c = search needs
 
 -- src/main.rt:59:5
 loop-less : tie.Need-loop-less Inv-loop μ-loop
-loop-less c = search needs
+loop-less c = omega arith
 
 -- src/main.rt:59:5
 loop-again : tie.Need-loop-again Inv-loop μ-loop
@@ -58,7 +58,7 @@ write-all-requires c κs = search needs
 
 -- src/main.rt:57:1
 returns : tie.Need-returns Inv-loop μ-loop
-returns c = ?
+returns c = search needs
 
 pub say-bytes-spec : {M : Type 1} → statement M
 say-bytes-spec =

@@ -34,7 +34,7 @@ shared-slice-read-say c = search needs
 
 -- src/main.rt:51:19
 cast-say : tie.Need-cast-say Inv-loop μ-loop
-cast-say c = search needs
+cast-say c = omega (arith, c .shared-slice-known2 .given (c .before .before .before .loop .i))
 
 -- src/main.rt:51:9
 say-requires : tie.Need-say-requires Inv-loop μ-loop
@@ -46,7 +46,7 @@ add-i c = search needs
 
 -- src/main.rt:50:5
 loop-less : tie.Need-loop-less Inv-loop μ-loop
-loop-less c = search needs
+loop-less c = omega arith
 
 -- src/main.rt:50:5
 loop-again : tie.Need-loop-again Inv-loop μ-loop
@@ -62,7 +62,7 @@ write-all-requires c κs = search needs
 
 -- src/main.rt:48:1
 returns : tie.Need-returns Inv-loop μ-loop
-returns c = ?
+returns c = search needs
 
 pub say-words-spec : {M : Type 1} → statement M
 say-words-spec =

@@ -1,3 +1,5 @@
+use mathlib.Core.Path.{sym}
+use lib.Seq.{length-take-le}
 use native.Mathlib.Omega.{arith}
 use borrow.Author.Needs.{needs}
 use Rattle.blocks_run.proofs.show.Statement.{statement}
@@ -8,7 +10,7 @@ use Rattle.io.proofs.write_all.Reads as write-all-reads
 
 -- src/main.rt:123:38
 slice-aggregate-write-all : tie.Need-slice-aggregate-write-all
-slice-aggregate-write-all c = search needs
+slice-aggregate-write-all c = sym (length-take-le (c .before .before .before .args .end) (c .before .before .before .args .text .now) (c .before .if1 .taken))
 
 -- src/main.rt:123:9
 write-all-requires : tie.Need-write-all-requires

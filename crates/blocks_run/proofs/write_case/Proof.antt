@@ -1,3 +1,5 @@
+use mathlib.Core.Path.{sym}
+use lib.Seq.{length-take-le}
 use native.Mathlib.Omega.{arith}
 use borrow.Author.Needs.{needs}
 use Rattle.blocks_run.proofs.write_case.Statement.{statement}
@@ -22,7 +24,7 @@ array-borrow-prefix-file c = search needs
 
 -- src/main.rt:118:14
 slice-aggregate-write-to : tie.Need-slice-aggregate-write-to
-slice-aggregate-write-to c = search needs
+slice-aggregate-write-to c = sym (length-take-le (c .before .least .result) (c .before .before .blank-lines .result) (omega (arith, c .before .least .ensures .1, c .before .before .blank-lines .ok)))
 
 -- src/main.rt:118:5
 write-to-requires : tie.Need-write-to-requires
