@@ -1,14 +1,12 @@
 use mathlib.Core.Path.{_∙_}
 use lib.ListN.{length-set}
-use Prim.Native.Nat.{_-_, _≤_}
+use Prim.Native.Nat.{_-_}
 use lib.ListN.{length}
 use mathlib.Core.Path.{_≡_, refl}
 use borrow.Author.Needs.{needs}
 use native.Mathlib.Omega.{arith}
 use Rattle.blocks_run.proofs.fill_bytes.Statement.{statement}
 use Rattle.blocks_run.proofs.fill_bytes.Tie as tie
-use Rattle.blocks_run.proofs.fill_bytes.Reads as reads
-use Rattle.blocks_run.proofs.fill_bytes.Lts as lts
 
 abbrev Inv-loop : tie.InvT-loop
 Inv-loop bytes₀ byte i₀ bytes i = length bytes ≡ length bytes₀
@@ -16,31 +14,24 @@ Inv-loop bytes₀ byte i₀ bytes i = length bytes ≡ length bytes₀
 abbrev μ-loop : tie.MeasureT-loop
 μ-loop bytes₀ byte i₀ bytes i = length bytes₀ - i
 
--- src/main.rt:81:5
 loop-holds : tie.Need-loop-holds Inv-loop μ-loop
 loop-holds c = refl
 
--- src/main.rt:82:9
 slice-write-bytes : tie.Need-slice-write-bytes Inv-loop μ-loop
 slice-write-bytes c = search needs
 
--- src/main.rt:83:9
 add-i : tie.Need-add-i Inv-loop μ-loop
 add-i c = search needs
 
--- src/main.rt:81:5
 loop-less : tie.Need-loop-less Inv-loop μ-loop
 loop-less c = omega (arith, c .before .loop .inv)
 
--- src/main.rt:81:5
 loop-again : tie.Need-loop-again Inv-loop μ-loop
 loop-again c = length-set (c .before .loop .bytes) (c .before .loop .i) (c .before .before .args .byte) ∙ c .before .loop .inv
 
--- src/main.rt:79:1
 same-length : tie.Need-same-length Inv-loop μ-loop
 same-length c = c .before .loop .inv
 
--- src/main.rt:79:1
 returns : tie.Need-returns Inv-loop μ-loop
 returns c = search needs
 

@@ -4,33 +4,22 @@ use native.Mathlib.Omega.{arith}
 use borrow.Author.Needs.{needs}
 use Rattle.blocks_run.proofs.read_case.Statement.{statement}
 use Rattle.blocks_run.proofs.read_case.Tie as tie
-use Rattle.blocks_run.proofs.read_case.Reads as reads
-use Rattle.blocks_run.proofs.read_case.Lts as lts
-use Rattle.blocks_run.proofs.blank_output.Reads as blank-output-reads
-use Rattle.blocks_run.proofs.read_to.Reads as read-to-reads
-use Rattle.cases.proofs.least.Reads as least-reads
 
--- src/main.rt:103:22
 blank-output-requires : tie.Need-blank-output-requires
 blank-output-requires c κs = search needs
 
--- src/main.rt:104:9
 least-requires : tie.Need-least-requires
 least-requires c κs = search needs
 
--- src/main.rt:105:13
 array-borrow-prefix-output : tie.Need-array-borrow-prefix-output
 array-borrow-prefix-output c = search needs
 
--- src/main.rt:105:13
 slice-aggregate-read-to : tie.Need-slice-aggregate-read-to
 slice-aggregate-read-to c = sym (length-take-le (c .before .least .result) (c .before .before .blank-output .result) (omega (arith, c .before .least .ensures .1, c .before .before .blank-output .ok)))
 
--- src/main.rt:105:5
 read-to-requires : tie.Need-read-to-requires
 read-to-requires c κs = search needs
 
--- src/main.rt:102:1
 returns : tie.Need-returns
 returns c = search needs
 

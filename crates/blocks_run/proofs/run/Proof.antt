@@ -5,9 +5,6 @@ use borrow.Author.Needs.{needs}
 use native.Mathlib.Omega.{arith}
 use Rattle.blocks_run.proofs.run.Statement.{statement}
 use Rattle.blocks_run.proofs.run.Tie as tie
-use Rattle.blocks_run.proofs.run.Reads as reads
-use Rattle.blocks_run.proofs.run.Lts as lts
-use Rattle.blocks_run.proofs.one_line.Reads as one-line-reads
 
 abbrev Inv-loop : tie.InvT-loop
 Inv-loop text words₀ at₀ words at = (length words ≡ length words₀) × (at ≤ length text)
@@ -15,27 +12,21 @@ Inv-loop text words₀ at₀ words at = (length words ≡ length words₀) × (a
 abbrev μ-loop : tie.MeasureT-loop
 μ-loop text words₀ at₀ words at = length text - at
 
--- src/main.rt:214:5
 loop-holds : tie.Need-loop-holds Inv-loop μ-loop
 loop-holds c = (refl, omega arith)
 
--- src/main.rt:215:9
 one-line-requires : tie.Need-one-line-requires Inv-loop μ-loop
 one-line-requires c κs = search needs
 
--- src/main.rt:214:5
 loop-less : tie.Need-loop-less Inv-loop μ-loop
 loop-less c = omega (arith, c .before .before .one-line .ensures)
 
--- src/main.rt:214:5
 loop-again : tie.Need-loop-again Inv-loop μ-loop
 loop-again c = (c .before .before .one-line .kept .1 .1 .0 ∙ c .before .before .before .before .before .loop .inv .0, c .before .before .one-line .ensures .1)
 
--- src/main.rt:212:1
 same-length : tie.Need-same-length Inv-loop μ-loop
 same-length c = c .before .loop .inv .0
 
--- src/main.rt:212:1
 returns : tie.Need-returns Inv-loop μ-loop
 returns c = search needs
 

@@ -1,49 +1,33 @@
 use mathlib.Core.Path.{sym}
 use lib.Seq.{length-take-le}
-use native.Mathlib.Omega.{arith}
 use borrow.Author.Needs.{needs}
 use Rattle.blocks_run.proofs.run_case.Statement.{statement}
 use Rattle.blocks_run.proofs.run_case.Tie as tie
-use Rattle.blocks_run.proofs.run_case.Reads as reads
-use Rattle.blocks_run.proofs.run_case.Lts as lts
-use Rattle.blocks_run.proofs.blank_bytes.Reads as blank-bytes-reads
-use Rattle.blocks_run.proofs.put_bytes.Reads as put-bytes-reads
-use Rattle.blocks_run.proofs.run_bytes.Reads as run-bytes-reads
-use Rattle.blocks_run.proofs.write_case.Reads as write-case-reads
 
--- src/main.rt:178:9
 write-case-requires : tie.Need-write-case-requires
 write-case-requires c κs = search needs
 
--- src/main.rt:180:25
 blank-bytes-requires : tie.Need-blank-bytes-requires
 blank-bytes-requires c κs = search needs
 
--- src/main.rt:181:29
 slice-aggregate-put-bytes : tie.Need-slice-aggregate-put-bytes
 slice-aggregate-put-bytes c = search needs
 
--- src/main.rt:181:13
 put-bytes-requires : tie.Need-put-bytes-requires
 put-bytes-requires c κs = search needs
 
--- src/main.rt:182:25
 array-share-prefix-bytes : tie.Need-array-share-prefix-bytes
 array-share-prefix-bytes c = search needs
 
--- src/main.rt:182:25
 slice-aggregate-run-bytes : tie.Need-slice-aggregate-run-bytes
 slice-aggregate-run-bytes c = sym (length-take-le (c .before .before .put-bytes .result) (c .before .before .put-bytes .last .0) (c .before .before .put-bytes .ensures))
 
--- src/main.rt:182:9
 run-bytes-requires : tie.Need-run-bytes-requires
 run-bytes-requires c κs = search needs
 
--- src/main.rt:176:1
 returns : tie.Need-returns
 returns c = search needs
 
--- src/main.rt:176:1
 returns-2 : tie.Need-returns-2
 returns-2 c = search needs
 

@@ -1,14 +1,9 @@
 use Prim.Native.Nat.{_-_, _≤_}
 use lib.ListN.{length}
-use mathlib.Core.Path.{_≡_, refl}
 use borrow.Author.Needs.{needs}
 use native.Mathlib.Omega.{arith}
 use Rattle.blocks_run.proofs.say_bytes.Statement.{statement}
 use Rattle.blocks_run.proofs.say_bytes.Tie as tie
-use Rattle.blocks_run.proofs.say_bytes.Reads as reads
-use Rattle.blocks_run.proofs.say_bytes.Lts as lts
-use Rattle.blocks_run.proofs.say.Reads as say-reads
-use Rattle.io.proofs.write_all.Reads as write-all-reads
 
 abbrev Inv-loop : tie.InvT-loop
 Inv-loop bytes i₀ t3 t4 i = i ≤ length bytes
@@ -16,47 +11,36 @@ Inv-loop bytes i₀ t3 t4 i = i ≤ length bytes
 abbrev μ-loop : tie.MeasureT-loop
 μ-loop bytes i₀ t3 t4 i = length bytes - i
 
--- src/main.rt:59:5
 loop-holds : tie.Need-loop-holds Inv-loop μ-loop
 loop-holds c = omega arith
 
--- src/main.rt:60:13
 slice-aggregate-say : tie.Need-slice-aggregate-say Inv-loop μ-loop
 slice-aggregate-say c = search needs
 
--- src/main.rt:60:19
 shared-slice-read-say : tie.Need-shared-slice-read-say Inv-loop μ-loop
 shared-slice-read-say c = search needs
 
--- src/main.rt:60:19
 cast-say : tie.Need-cast-say Inv-loop μ-loop
 cast-say c = omega (arith, c .shared-slice-known2 .given (c .before .before .before .loop .i))
 
--- src/main.rt:60:9
 say-requires : tie.Need-say-requires Inv-loop μ-loop
 say-requires c κs = search needs
 
--- src/main.rt:61:9
 add-i : tie.Need-add-i Inv-loop μ-loop
 add-i c = search needs
 
--- src/main.rt:59:5
 loop-less : tie.Need-loop-less Inv-loop μ-loop
 loop-less c = omega arith
 
--- src/main.rt:59:5
 loop-again : tie.Need-loop-again Inv-loop μ-loop
 loop-again c = omega arith
 
--- src/main.rt:63:34
 slice-aggregate-write-all : tie.Need-slice-aggregate-write-all Inv-loop μ-loop
 slice-aggregate-write-all c = search needs
 
--- src/main.rt:63:5
 write-all-requires : tie.Need-write-all-requires Inv-loop μ-loop
 write-all-requires c κs = search needs
 
--- src/main.rt:57:1
 returns : tie.Need-returns Inv-loop μ-loop
 returns c = search needs
 

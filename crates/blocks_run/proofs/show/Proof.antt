@@ -1,26 +1,18 @@
 use mathlib.Core.Path.{sym}
 use lib.Seq.{length-take-le}
-use native.Mathlib.Omega.{arith}
 use borrow.Author.Needs.{needs}
 use Rattle.blocks_run.proofs.show.Statement.{statement}
 use Rattle.blocks_run.proofs.show.Tie as tie
-use Rattle.blocks_run.proofs.show.Reads as reads
-use Rattle.blocks_run.proofs.show.Lts as lts
-use Rattle.io.proofs.write_all.Reads as write-all-reads
 
--- src/main.rt:123:38
 slice-aggregate-write-all : tie.Need-slice-aggregate-write-all
 slice-aggregate-write-all c = sym (length-take-le (c .before .before .before .args .end) (c .before .before .before .args .text .now) (c .before .if1 .taken))
 
--- src/main.rt:123:9
 write-all-requires : tie.Need-write-all-requires
 write-all-requires c κs = search needs
 
--- src/main.rt:121:1
 returns : tie.Need-returns
 returns c = search needs
 
--- src/main.rt:121:1
 returns-2 : tie.Need-returns-2
 returns-2 c = search needs
 

@@ -4,26 +4,19 @@ use native.Mathlib.Omega.{arith}
 use borrow.Author.Needs.{needs}
 use Rattle.writing.proofs.put.Statement.{statement}
 use Rattle.writing.proofs.put.Tie as tie
-use Rattle.writing.proofs.put.Reads as reads
-use Rattle.writing.proofs.put.Lts as lts
 
--- src/lib.rt:12:9
 slice-write-out : tie.Need-slice-write-out
 slice-write-out c = search needs
 
--- src/lib.rt:13:16
 add-result : tie.Need-add-result
 add-result c = search needs
 
--- src/lib.rt:13:9
 same-length : tie.Need-same-length
 same-length c = search needs
 
--- src/lib.rt:13:9
 returns : tie.Need-returns
 returns c = wrote-one _ _ _ (c .if1 .taken)
 
--- src/lib.rt:8:1
 returns-2 : tie.Need-returns-2
 returns-2 c = wrote-out _ _ _ (omega arith)
 

@@ -1,20 +1,14 @@
 use Rattle.block_file.proofs.Steps.{end-over, end-right}
-use native.Mathlib.Omega.{arith}
 use borrow.Author.Needs.{needs}
 use Rattle.block_file.proofs.read.end_of.Statement.{statement}
 use Rattle.block_file.proofs.read.end_of.Tie as tie
-use Rattle.block_file.proofs.read.end_of.Reads as reads
-use Rattle.block_file.proofs.read.end_of.Lts as lts
 
--- src/read.rt:20:8
 mul-if1 : tie.Need-mul-if1
 mul-if1 c = search needs
 
--- src/read.rt:21:9
 returns : tie.Need-returns
 returns c = end-over _ _ _ (c .if1 .taken)
 
--- src/read.rt:16:1
 returns-2 : tie.Need-returns-2
 returns-2 c = end-right _ _ _ (c .if1 .left)
 

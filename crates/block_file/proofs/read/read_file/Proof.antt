@@ -1,14 +1,10 @@
 use Rattle.block_file.proofs.Steps.{reads-tail}
 use Prim.Native.Nat.{_-_}
-use Rattle.block_file.proofs.Steps.{Onward, onward-begins, onward-refused, onward-long, onward-next, onward-ends, onward-over}
+use Rattle.block_file.proofs.Steps.{Onward, onward-begins, onward-refused, onward-next, onward-ends, onward-over}
 use borrow.Author.Needs.{needs}
 use native.Mathlib.Omega.{arith}
 use Rattle.block_file.proofs.read.read_file.Statement.{statement}
 use Rattle.block_file.proofs.read.read_file.Tie as tie
-use Rattle.block_file.proofs.read.read_file.Reads as reads
-use Rattle.block_file.proofs.read.read_file.Lts as lts
-use Rattle.block_file.proofs.read.end_of.Reads as end-of-reads
-use Rattle.blocks.proofs.read.read_block.Reads as read-block-reads
 
 abbrev Inv-loop : tie.InvT-loop
 Inv-loop bytes output₀ number₀ stated₀ output number stated = Onward bytes output₀ number stated output
@@ -16,79 +12,60 @@ Inv-loop bytes output₀ number₀ stated₀ output number stated = Onward bytes
 abbrev μ-loop : tie.MeasureT-loop
 μ-loop bytes output₀ number₀ stated₀ output number stated = 3 - number
 
--- src/read.rt:35:5
 loop-holds : tie.Need-loop-holds Inv-loop μ-loop
 loop-holds c = onward-begins _ _
 
--- src/read.rt:36:20
 mul-from : tie.Need-mul-from Inv-loop μ-loop
 mul-from c = search needs
 
--- src/read.rt:37:31
 sub-read-block : tie.Need-sub-read-block Inv-loop μ-loop
 sub-read-block c = omega (arith, c .before .loop .inv .room)
 
--- src/read.rt:37:31
 part-read-block-start : tie.Need-part-read-block-start Inv-loop μ-loop
 part-read-block-start c = omega (arith, c .before .loop .inv .room)
 
--- src/read.rt:37:31
 part-read-block-end : tie.Need-part-read-block-end Inv-loop μ-loop
 part-read-block-end c = search needs
 
--- src/read.rt:37:13
 read-block-requires : tie.Need-read-block-requires Inv-loop μ-loop
 read-block-requires c κs = search needs
 
--- src/read.rt:38:27
 enum-known-read : tie.Need-enum-known-read Inv-loop μ-loop
 enum-known-read c = search needs
 
--- src/read.rt:39:13
 enum-told : tie.Need-enum-told Inv-loop μ-loop
 enum-told c = search needs
 
--- src/read.rt:39:13
 same-length : tie.Need-same-length Inv-loop μ-loop
 same-length c = omega (arith, c .before .before .before .before .read-block .kept .1 .1 .1 .0, c .before .before .before .before .before .before .before .before .loop .inv .same)
 
--- src/read.rt:39:13
 returns : tie.Need-returns Inv-loop μ-loop
 returns c = onward-refused (c .before .before .before .before .before .before .before .before .loop .inv) (c .before .before .before .before .before .before .before .loop-test .taken) (reads-tail (c .before .before .before .before .before .before .before .before .before .before .before .args .bytes .now) _ (c .before .before .before .before .read-block .ensures)) (c .enum-told .given .1)
 
--- src/read.rt:42:9
 add-number : tie.Need-add-number Inv-loop μ-loop
 add-number c = search needs
 
--- src/read.rt:43:22
 mul-if1 : tie.Need-mul-if1 Inv-loop μ-loop
 mul-if1 c = search needs
 
--- src/read.rt:44:13
 end-of-requires : tie.Need-end-of-requires Inv-loop μ-loop
 end-of-requires c κs = search needs
 
--- src/read.rt:44:13
 same-length-2 : tie.Need-same-length-2 Inv-loop μ-loop
 same-length-2 c = omega (arith, c .before .before .before .before .before .before .before .read-block .kept .1 .1 .1 .0, c .before .before .before .before .before .before .before .before .before .before .before .loop .inv .same)
 
--- src/read.rt:44:13
 returns-2 : tie.Need-returns-2 Inv-loop μ-loop
 returns-2 c = onward-ends (c .before .before .before .before .before .before .before .before .before .before .before .loop .inv) (c .before .before .before .before .before .before .before .before .before .before .loop-test .taken) (reads-tail (c .before .before .before .before .before .before .before .before .before .before .before .before .before .before .args .bytes .now) _ (c .before .before .before .before .before .before .before .read-block .ensures)) (c .before .before .before .read .given .1) (c .before .if1 .taken) (c .end-of .ensures)
 
--- src/read.rt:35:5
 loop-less : tie.Need-loop-less Inv-loop μ-loop
 loop-less c = search needs
 
--- src/read.rt:35:5
 loop-again : tie.Need-loop-again Inv-loop μ-loop
 loop-again c = onward-next (c .before .before .before .before .before .before .before .before .before .before .loop .inv) (c .before .before .before .before .before .before .before .before .before .loop-test .taken) (reads-tail (c .before .before .before .before .before .before .before .before .before .before .before .before .before .args .bytes .now) _ (c .before .before .before .before .before .before .read-block .ensures)) (c .before .before .read .given .1) (c .before .before .before .before .before .before .read-block .kept .1 .1 .1 .0) (omega (arith, c .if1 .left))
 
--- src/read.rt:30:1
 same-length-3 : tie.Need-same-length-3 Inv-loop μ-loop
 same-length-3 c = c .before .loop .inv .same
 
--- src/read.rt:30:1
 returns-3 : tie.Need-returns-3 Inv-loop μ-loop
 returns-3 c = onward-over (c .before .loop .inv) (omega arith)
 

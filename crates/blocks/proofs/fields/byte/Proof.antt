@@ -6,22 +6,16 @@ use native.Mathlib.Omega.{arith}
 use borrow.Author.Needs.{needs}
 use Rattle.blocks.proofs.fields.byte.Statement.{statement}
 use Rattle.blocks.proofs.fields.byte.Tie as tie
-use Rattle.blocks.proofs.fields.byte.Reads as reads
-use Rattle.blocks.proofs.fields.byte.Lts as lts
 
--- src/fields.rt:13:27
 shared-slice-read-result : tie.Need-shared-slice-read-result
 shared-slice-read-result c = search needs
 
--- src/fields.rt:13:27
 cast-result : tie.Need-cast-result
 cast-result c = omega (arith, c .shared-slice-known .given (c .before .before .args .at))
 
--- src/fields.rt:10:1
 returns : tie.Need-returns
 returns c = (refl, omega (arith, c .shared-slice-known .given (c .before .before .args .at)))
 
--- src/fields.rt:10:1
 returns-2 : tie.Need-returns-2
 returns-2 c = let h : length (c .before .args .bytes .now) ≤ c .before .args .at = omega arith in (sym (List·getD-eq-default (c .before .args .bytes .now) 0 h), omega arith)
 

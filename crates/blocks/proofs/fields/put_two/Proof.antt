@@ -1,33 +1,23 @@
 use Rattle.writing.proofs.Laws.{wrote-then}
-use native.Mathlib.Omega.{arith}
 use borrow.Author.Needs.{needs}
 use Rattle.blocks.proofs.fields.put_two.Statement.{statement}
 use Rattle.blocks.proofs.fields.put_two.Tie as tie
-use Rattle.blocks.proofs.fields.put_two.Reads as reads
-use Rattle.blocks.proofs.fields.put_two.Lts as lts
-use Rattle.writing.proofs.put.Reads as put-reads
 
--- src/fields.rt:36:29
 cast-put : tie.Need-cast-put
 cast-put c = search needs
 
--- src/fields.rt:36:9
 put-requires : tie.Need-put-requires
 put-requires c κs = search needs
 
--- src/fields.rt:37:20
 cast-put-2 : tie.Need-cast-put-2
 cast-put-2 c = search needs
 
--- src/fields.rt:37:5
 put-requires-2 : tie.Need-put-requires-2
 put-requires-2 c κs = search needs
 
--- src/fields.rt:33:1
 same-length : tie.Need-same-length
 same-length c = search needs
 
--- src/fields.rt:33:1
 returns : tie.Need-returns
 returns c = wrote-then (c .before .before .before .before .before .before .put .ensures) (c .before .before .put2 .ensures)
 

@@ -1,5 +1,5 @@
 use lib.ListN.{length, drop}
-use Prim.Native.Nat.{_+_, _-_, _*_, _≤_}
+use Prim.Native.Nat.{_-_, _≤_}
 use Rattle.blocks.specs.Block.{nodesBytes}
 use Rattle.writing.proofs.Laws.{Still, still-begins, still-part, still-none}
 use Rattle.blocks.proofs.Places.{bytes-next, bytes-none}
@@ -7,10 +7,6 @@ use borrow.Author.Needs.{needs}
 use native.Mathlib.Omega.{arith}
 use Rattle.blocks.proofs.nodes.put_nodes.Statement.{statement}
 use Rattle.blocks.proofs.nodes.put_nodes.Tie as tie
-use Rattle.blocks.proofs.nodes.put_nodes.Reads as reads
-use Rattle.blocks.proofs.nodes.put_nodes.Lts as lts
-use Rattle.blocks.proofs.nodes.put_node.Reads as put-node-reads
-use Rattle.diagram.proofs.node.word.Reads as word-reads
 
 abbrev Inv-loop : tie.InvT-loop
 Inv-loop out₀ at words place₀ i₀ out place i = (i ≤ length words) × Still (nodesBytes words) out₀ at (nodesBytes (drop i words)) out place
@@ -18,55 +14,42 @@ Inv-loop out₀ at words place₀ i₀ out place i = (i ≤ length words) × Sti
 abbrev μ-loop : tie.MeasureT-loop
 μ-loop out₀ at words place₀ i₀ out place i = length words - i
 
--- src/nodes.rt:55:5
 loop-holds : tie.Need-loop-holds Inv-loop μ-loop
 loop-holds c = (omega arith, still-begins _ _ _)
 
--- src/nodes.rt:55:11
 add-loop : tie.Need-add-loop Inv-loop μ-loop
 add-loop c = search needs
 
--- src/nodes.rt:59:13
 word-requires : tie.Need-word-requires Inv-loop μ-loop
 word-requires c κs = search needs
 
--- src/nodes.rt:60:25
 add-word : tie.Need-add-word Inv-loop μ-loop
 add-word c = search needs
 
--- src/nodes.rt:60:13
 word-requires-2 : tie.Need-word-requires-2 Inv-loop μ-loop
 word-requires-2 c κs = search needs
 
--- src/nodes.rt:61:25
 add-word-2 : tie.Need-add-word-2 Inv-loop μ-loop
 add-word-2 c = search needs
 
--- src/nodes.rt:61:13
 word-requires-3 : tie.Need-word-requires-3 Inv-loop μ-loop
 word-requires-3 c κs = search needs
 
--- src/nodes.rt:56:9
 put-node-requires : tie.Need-put-node-requires Inv-loop μ-loop
 put-node-requires c κs = search needs
 
--- src/nodes.rt:63:9
 add-i : tie.Need-add-i Inv-loop μ-loop
 add-i c = search needs
 
--- src/nodes.rt:55:5
 loop-less : tie.Need-loop-less Inv-loop μ-loop
 loop-less c = search needs
 
--- src/nodes.rt:55:5
 loop-again : tie.Need-loop-again Inv-loop μ-loop
 loop-again c = (omega arith, still-part (c .before .before .before .before .before .before .before .before .loop .inv .1) _ _ (bytes-next _ _ (c .before .before .before .before .before .before .before .loop-test .taken) (c .before .before .before .before .before .word .ensures) (c .before .before .before .before .word2 .ensures) (c .before .before .before .word3 .ensures)) (c .before .before .put-node .ensures))
 
--- src/nodes.rt:50:1
 same-length : tie.Need-same-length Inv-loop μ-loop
 same-length c = c .before .loop .inv .1 .size
 
--- src/nodes.rt:50:1
 returns : tie.Need-returns Inv-loop μ-loop
 returns c = still-none (c .before .loop .inv .1) (bytes-none _ _ (c .loop-test .left))
 

@@ -3,49 +3,34 @@ use native.Mathlib.Omega.{arith}
 use borrow.Author.Needs.{needs}
 use Rattle.blocks.proofs.read.read_block.Statement.{statement}
 use Rattle.blocks.proofs.read.read_block.Tie as tie
-use Rattle.blocks.proofs.read.read_block.Reads as reads
-use Rattle.blocks.proofs.read.read_block.Lts as lts
-use Rattle.blocks.proofs.fields.get_two.Reads as get-two-reads
-use Rattle.blocks.proofs.nodes.get_nodes.Reads as get-nodes-reads
-use Rattle.blocks.proofs.read.test_block.Reads as test-block-reads
 
--- src/read.rt:114:9
 test-block-requires : tie.Need-test-block-requires
 test-block-requires c κs = search needs
 
--- src/read.rt:115:23
 enum-known-tested : tie.Need-enum-known-tested
 enum-known-tested c = search needs
 
--- src/read.rt:116:9
 enum-told : tie.Need-enum-told
 enum-told c = search needs
 
--- src/read.rt:116:9
 returns : tie.Need-returns
 returns c = reads-refused (c .before .before .before .before .before .args .block .now) (c .before .before .before .before .before .args .output .now) (c .before .before .before .before .before .args .number) (c .before .before .before .before .before .args .stated) (c .before .before .test-block .ensures) (c .enum-told .given .1)
 
--- src/read.rt:118:16
 get-two-requires : tie.Need-get-two-requires
 get-two-requires c κs = search needs
 
--- src/read.rt:118:16
 cast-held : tie.Need-cast-held
 cast-held c = search needs
 
--- src/read.rt:119:36
 mul-get-nodes : tie.Need-mul-get-nodes
 mul-get-nodes c = omega (arith, number-small (c .before .before .before .before .before .before .before .before .args .block .now) (c .before .before .before .before .before .before .before .before .args .output .now) (c .before .before .before .before .before .before .before .before .args .number) (c .before .before .before .before .before .before .before .before .args .stated) (c .before .before .before .before .before .test-block .ensures) (c .before .before .before .tested .given .1))
 
--- src/read.rt:119:5
 get-nodes-requires : tie.Need-get-nodes-requires
 get-nodes-requires c κs = omega (arith, c .before .get-two .ensures .0, count-small (c .before .before .before .before .before .before .before .before .args .block .now) (c .before .before .before .before .before .before .before .before .args .output .now) (c .before .before .before .before .before .before .before .before .args .number) (c .before .before .before .before .before .before .before .before .args .stated) (c .before .before .before .before .before .test-block .ensures) (c .before .before .before .tested .given .1))
 
--- src/read.rt:111:1
 same-length : tie.Need-same-length
 same-length c = search needs
 
--- src/read.rt:111:1
 returns-2 : tie.Need-returns-2
 returns-2 c = reads-taken (c .before .before .before .before .before .before .before .before .before .before .before .args .block .now) (c .before .before .before .before .before .before .before .before .before .before .before .args .output .now) (c .before .before .before .before .before .before .before .before .before .before .before .args .number) (c .before .before .before .before .before .before .before .before .before .before .before .args .stated) (c .before .before .before .before .before .before .before .before .test-block .ensures) (c .before .before .before .before .before .before .tested .given .1) (c .before .before .before .before .get-two .ensures .0) (c .before .before .get-nodes .ensures)
 

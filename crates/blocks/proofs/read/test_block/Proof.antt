@@ -1,113 +1,81 @@
 use Rattle.blocks.specs.Block.{nodes}
 use mathlib.Core.Path.{ap}
-use Rattle.blocks.specs.Block.{two, four}
-use Prim.Native.Nat.{_≤_, _<_}
-use mathlib.Core.Bool.{true, false}
-use mathlib.Core.Path.{_≡_, sym, _∙_}
+use Rattle.blocks.specs.Block.{two}
+use Prim.Native.Nat.{_≤_}
+use mathlib.Core.Path.{sym, _∙_}
 use borrow.Author.Tests.{not-true, not-false}
 use Rattle.blocks.proofs.Testing.{refused-21, refused-22, refused-23, refused-25, refused-24, refused-4, taken, held-few, due-small}
 use native.Mathlib.Omega.{arith}
 use borrow.Author.Needs.{needs}
 use Rattle.blocks.proofs.read.test_block.Statement.{statement}
 use Rattle.blocks.proofs.read.test_block.Tie as tie
-use Rattle.blocks.proofs.read.test_block.Reads as reads
-use Rattle.blocks.proofs.read.test_block.Lts as lts
-use Rattle.blocks.proofs.fields.get_four.Reads as get-four-reads
-use Rattle.blocks.proofs.fields.get_two.Reads as get-two-reads
-use Rattle.blocks.proofs.read.counts_right.Reads as counts-right-reads
-use Rattle.blocks.proofs.read.refused.Reads as refused-reads
-use Rattle.blocks.proofs.read.unused_zero.Reads as unused-zero-reads
-use Rattle.blocks.proofs.sums.sums_right.Reads as sums-right-reads
 
--- src/read.rt:88:9
 refused-requires : tie.Need-refused-requires
 refused-requires c κs = search needs
 
--- src/read.rt:88:9
 returns : tie.Need-returns
 returns c = c .refused .ensures ∙ refused-21 (c .before .before .before .args .block .now) (c .before .before .before .args .number) (c .before .before .before .args .stated) (c .before .before .before .args .lent) (c .before .if1 .taken)
 
--- src/read.rt:90:9
 sums-right-requires : tie.Need-sums-right-requires
 sums-right-requires c κs = search needs
 
--- src/read.rt:91:9
 refused-requires-2 : tie.Need-refused-requires-2
 refused-requires-2 c κs = search needs
 
--- src/read.rt:91:9
 returns-2 : tie.Need-returns-2
 returns-2 c = c .refused2 .ensures ∙ refused-22 (c .before .before .before .before .before .args .block .now) (c .before .before .before .before .before .args .number) (c .before .before .before .before .before .args .stated) (c .before .before .before .before .before .args .lent) (c .before .before .before .if1 .left) (sym (c .before .before .sums-right .ensures) ∙ not-true _ (c .before .if2 .taken))
 
--- src/read.rt:93:9
 counts-right-requires : tie.Need-counts-right-requires
 counts-right-requires c κs = search needs
 
--- src/read.rt:94:9
 refused-requires-3 : tie.Need-refused-requires-3
 refused-requires-3 c κs = search needs
 
--- src/read.rt:94:9
 returns-3 : tie.Need-returns-3
 returns-3 c = c .refused3 .ensures ∙ refused-23 (c .before .before .before .before .before .before .before .args .block .now) (c .before .before .before .before .before .before .before .args .number) (c .before .before .before .before .before .before .before .args .stated) (c .before .before .before .before .before .before .before .args .lent) (c .before .before .before .before .before .if1 .left) (sym (c .before .before .before .before .sums-right .ensures) ∙ not-false _ (c .before .before .before .if2 .left)) (sym (c .before .before .counts-right .ensures) ∙ not-true _ (c .before .if3 .taken))
 
--- src/read.rt:96:17
 get-four-requires : tie.Need-get-four-requires
 get-four-requires c κs = search needs
 
--- src/read.rt:96:17
 cast-nodes : tie.Need-cast-nodes
 cast-nodes c = search needs
 
--- src/read.rt:98:9
 refused-requires-4 : tie.Need-refused-requires-4
 refused-requires-4 c κs = search needs
 
--- src/read.rt:98:9
 returns-4 : tie.Need-returns-4
 returns-4 c = c .refused4 .ensures ∙ refused-25 (c .before .before .before .before .before .before .before .before .before .args .block .now) (c .before .before .before .before .before .before .before .before .before .args .number) (c .before .before .before .before .before .before .before .before .before .args .stated) (c .before .before .before .before .before .before .before .before .before .args .lent) (c .before .before .before .before .before .before .before .if1 .left) (sym (c .before .before .before .before .before .before .sums-right .ensures) ∙ not-false _ (c .before .before .before .before .before .if2 .left)) (sym (c .before .before .before .before .counts-right .ensures) ∙ not-false _ (c .before .before .before .if3 .left)) (omega (arith, c .before .if4 .taken, c .before .before .get-four .ensures))
 
--- src/read.rt:100:16
 get-two-requires : tie.Need-get-two-requires
 get-two-requires c κs = search needs
 
--- src/read.rt:100:16
 cast-held : tie.Need-cast-held
 cast-held c = search needs
 
--- src/read.rt:101:9
 unused-zero-requires : tie.Need-unused-zero-requires
 unused-zero-requires c κs = (let h : two (c .before .before .before .before .before .before .before .before .before .args .block .now) 2 ≤ 50 = held-few (c .before .before .before .before .before .before .before .before .before .args .block .now) (c .before .before .before .before .before .before .before .before .before .args .number) (c .before .before .before .before .before .before .before .before .before .args .stated) (sym (c .before .before .before .before .counts-right .ensures) ∙ not-false _ (c .before .before .before .if3 .left)) in omega (arith, c .get-two .ensures .0), c .before .before .before .before .before .before .before .if1 .left)
 
--- src/read.rt:102:9
 refused-requires-5 : tie.Need-refused-requires-5
 refused-requires-5 c κs = search needs
 
--- src/read.rt:102:9
 returns-5 : tie.Need-returns-5
 returns-5 c = c .refused5 .ensures ∙ refused-24 (c .before .before .before .before .before .before .before .before .before .before .before .before .args .block .now) (c .before .before .before .before .before .before .before .before .before .before .before .before .args .number) (c .before .before .before .before .before .before .before .before .before .before .before .before .args .stated) (c .before .before .before .before .before .before .before .before .before .before .before .before .args .lent) (c .before .before .before .before .before .before .before .before .before .before .if1 .left) (sym (c .before .before .before .before .before .before .before .before .before .sums-right .ensures) ∙ not-false _ (c .before .before .before .before .before .before .before .before .if2 .left)) (sym (c .before .before .before .before .before .before .before .counts-right .ensures) ∙ not-false _ (c .before .before .before .before .before .before .if3 .left)) (omega (arith, c .before .before .before .before .if4 .left, c .before .before .before .before .before .get-four .ensures)) (rw (c .before .before .before .get-two .ensures .0) at (sym (c .before .before .unused-zero .ensures) ∙ not-true _ (c .before .if5 .taken)))
 
--- src/read.rt:104:15
 mul-if6 : tie.Need-mul-if6
 mul-if6 c = omega (arith, due-small (c .before .before .before .before .before .before .before .before .before .before .before .args .block .now) (c .before .before .before .before .before .before .before .before .before .before .before .args .number) (c .before .before .before .before .before .before .before .before .before .before .before .args .stated) (sym (c .before .before .before .before .before .before .counts-right .ensures) ∙ not-false _ (c .before .before .before .before .before .if3 .left)) (omega (arith, c .before .before .before .if4 .left, c .before .before .before .before .get-four .ensures)))
 
--- src/read.rt:104:32
 mul-if6-2 : tie.Need-mul-if6-2
 mul-if6-2 c = search needs
 
--- src/read.rt:104:15
 add-if6 : tie.Need-add-if6
 add-if6 c = omega (arith, due-small (c .before .before .before .before .before .before .before .before .before .before .before .args .block .now) (c .before .before .before .before .before .before .before .before .before .before .before .args .number) (c .before .before .before .before .before .before .before .before .before .before .before .args .stated) (sym (c .before .before .before .before .before .before .counts-right .ensures) ∙ not-false _ (c .before .before .before .before .before .if3 .left)) (omega (arith, c .before .before .before .if4 .left, c .before .before .before .before .get-four .ensures)), c .before .before .get-two .ensures .1)
 
--- src/read.rt:105:9
 refused-requires-6 : tie.Need-refused-requires-6
 refused-requires-6 c κs = search needs
 
--- src/read.rt:105:9
 returns-6 : tie.Need-returns-6
 returns-6 c = c .refused6 .ensures ∙ refused-4 (c .before .before .before .before .before .before .before .before .before .before .before .before .before .args .block .now) (c .before .before .before .before .before .before .before .before .before .before .before .before .before .args .number) (c .before .before .before .before .before .before .before .before .before .before .before .before .before .args .stated) (c .before .before .before .before .before .before .before .before .before .before .before .before .before .args .lent) (c .before .before .before .before .before .before .before .before .before .before .before .if1 .left) (sym (c .before .before .before .before .before .before .before .before .before .before .sums-right .ensures) ∙ not-false _ (c .before .before .before .before .before .before .before .before .before .if2 .left)) (sym (c .before .before .before .before .before .before .before .before .counts-right .ensures) ∙ not-false _ (c .before .before .before .before .before .before .before .if3 .left)) (omega (arith, c .before .before .before .before .before .if4 .left, c .before .before .before .before .before .before .get-four .ensures)) (rw (c .before .before .before .before .get-two .ensures .0) at (sym (c .before .before .before .unused-zero .ensures) ∙ not-false _ (c .before .before .if5 .left))) (omega (arith, c .before .if6 .taken, c .before .before .before .before .get-two .ensures .0))
 
--- src/read.rt:84:1
 returns-7 : tie.Need-returns-7
 returns-7 c = ap nodes (c .before .before .before .before .before .get-four .ensures) ∙ taken (c .before .before .before .before .before .before .before .before .before .before .before .before .args .block .now) (c .before .before .before .before .before .before .before .before .before .before .before .before .args .number) (c .before .before .before .before .before .before .before .before .before .before .before .before .args .stated) (c .before .before .before .before .before .before .before .before .before .before .before .before .args .lent) (c .before .before .before .before .before .before .before .before .before .before .if1 .left) (sym (c .before .before .before .before .before .before .before .before .before .sums-right .ensures) ∙ not-false _ (c .before .before .before .before .before .before .before .before .if2 .left)) (sym (c .before .before .before .before .before .before .before .counts-right .ensures) ∙ not-false _ (c .before .before .before .before .before .before .if3 .left)) (omega (arith, c .before .before .before .before .if4 .left, c .before .before .before .before .before .get-four .ensures)) (rw (c .before .before .before .get-two .ensures .0) at (sym (c .before .before .unused-zero .ensures) ∙ not-false _ (c .before .if5 .left))) (omega (arith, c .if6 .left, c .before .before .before .get-two .ensures .0))
 

@@ -1,39 +1,28 @@
 use Prim.Native.Nat.{ℕ}
 use lib.Dec.{eqb}
 use mathlib.Core.Path.{ap}
-use native.Mathlib.Omega.{arith}
 use borrow.Author.Needs.{needs}
 use Rattle.blocks.proofs.read.unused_zero.Statement.{statement}
 use Rattle.blocks.proofs.read.unused_zero.Tie as tie
-use Rattle.blocks.proofs.read.unused_zero.Reads as reads
-use Rattle.blocks.proofs.read.unused_zero.Lts as lts
-use Rattle.blocks.proofs.sums.sum.Reads as sum-reads
 
--- src/read.rt:59:25
 mul-from : tie.Need-mul-from
 mul-from c = search needs
 
--- src/read.rt:59:16
 add-from : tie.Need-add-from
 add-from c = search needs
 
--- src/read.rt:60:9
 sub-sum : tie.Need-sub-sum
 sub-sum c = search needs
 
--- src/read.rt:60:9
 part-sum-start : tie.Need-part-sum-start
 part-sum-start c = search needs
 
--- src/read.rt:60:9
 part-sum-end : tie.Need-part-sum-end
 part-sum-end c = search needs
 
--- src/read.rt:60:5
 sum-requires : tie.Need-sum-requires
 sum-requires c κs = search needs
 
--- src/read.rt:55:1
 returns : tie.Need-returns
 returns c = ap (λ (x : ℕ). eqb x 0) (c .sum .ensures)
 

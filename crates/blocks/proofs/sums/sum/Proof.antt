@@ -1,13 +1,11 @@
 use Rattle.blocks.proofs.Adding.{Summed, summed-begins, summed-goes-on, summed-ends}
-use Prim.Native.Nat.{_-_, _≤_}
+use Prim.Native.Nat.{_-_}
 use lib.ListN.{length}
 use native.Mathlib.Omega.{arith}
 use borrow.Author.Needs.{needs}
 use native.Mathlib.Omega.{arith}
 use Rattle.blocks.proofs.sums.sum.Statement.{statement}
 use Rattle.blocks.proofs.sums.sum.Tie as tie
-use Rattle.blocks.proofs.sums.sum.Reads as reads
-use Rattle.blocks.proofs.sums.sum.Lts as lts
 
 abbrev Inv-loop : tie.InvT-loop
 Inv-loop bytes sum₀ i₀ sum i = Summed bytes i sum
@@ -15,35 +13,27 @@ Inv-loop bytes sum₀ i₀ sum i = Summed bytes i sum
 abbrev μ-loop : tie.MeasureT-loop
 μ-loop bytes sum₀ i₀ sum i = length bytes - i
 
--- src/sums.rt:15:5
 loop-holds : tie.Need-loop-holds Inv-loop μ-loop
 loop-holds c = summed-begins _
 
--- src/sums.rt:16:16
 shared-slice-read-sum : tie.Need-shared-slice-read-sum Inv-loop μ-loop
 shared-slice-read-sum c = search needs
 
--- src/sums.rt:16:16
 cast-sum : tie.Need-cast-sum Inv-loop μ-loop
 cast-sum c = omega (arith, c .shared-slice-known .given (c .before .before .loop .i))
 
--- src/sums.rt:16:9
 add-sum : tie.Need-add-sum Inv-loop μ-loop
 add-sum c = omega (arith, c .shared-slice-known .given (c .before .before .loop .i))
 
--- src/sums.rt:17:9
 add-i : tie.Need-add-i Inv-loop μ-loop
 add-i c = search needs
 
--- src/sums.rt:15:5
 loop-less : tie.Need-loop-less Inv-loop μ-loop
 loop-less c = search needs
 
--- src/sums.rt:15:5
 loop-again : tie.Need-loop-again Inv-loop μ-loop
 loop-again c = summed-goes-on (c .before .before .loop .inv) (c .before .loop-test .taken) (omega (arith, c .shared-slice-known .given (c .before .before .loop .i)))
 
--- src/sums.rt:9:1
 returns : tie.Need-returns Inv-loop μ-loop
 returns c = summed-ends (c .before .loop .inv) (c .loop-test .left)
 

@@ -8,8 +8,6 @@ use borrow.Author.Needs.{needs}
 use native.Mathlib.Omega.{arith}
 use Rattle.blocks.proofs.sums.weighted_sum.Statement.{statement}
 use Rattle.blocks.proofs.sums.weighted_sum.Tie as tie
-use Rattle.blocks.proofs.sums.weighted_sum.Reads as reads
-use Rattle.blocks.proofs.sums.weighted_sum.Lts as lts
 
 abbrev Inv-loop : tie.InvT-loop
 Inv-loop bytes sum₀ i₀ sum i = Weighted bytes i sum
@@ -17,47 +15,36 @@ Inv-loop bytes sum₀ i₀ sum i = Weighted bytes i sum
 abbrev μ-loop : tie.MeasureT-loop
 μ-loop bytes sum₀ i₀ sum i = length bytes - i
 
--- src/sums.rt:29:5
 loop-holds : tie.Need-loop-holds Inv-loop μ-loop
 loop-holds c = weighted-begins _
 
--- src/sums.rt:30:17
 cast-sum : tie.Need-cast-sum Inv-loop μ-loop
 cast-sum c = search needs
 
--- src/sums.rt:30:17
 add-sum : tie.Need-add-sum Inv-loop μ-loop
 add-sum c = search needs
 
--- src/sums.rt:30:34
 shared-slice-read-sum : tie.Need-shared-slice-read-sum Inv-loop μ-loop
 shared-slice-read-sum c = search needs
 
--- src/sums.rt:30:34
 cast-sum-2 : tie.Need-cast-sum-2 Inv-loop μ-loop
 cast-sum-2 c = omega (arith, c .shared-slice-known .given (c .before .before .loop .i))
 
--- src/sums.rt:30:16
 mul-sum : tie.Need-mul-sum Inv-loop μ-loop
 mul-sum c = let h : c .before .before .loop .i + 1 ≤ 512 = omega arith in omega (arith, product-small (c .before .before .loop .i + 1) (getD (c .before .before .before .args .bytes .now) (c .before .before .loop .i) 0) h (omega (arith, c .shared-slice-known .given (c .before .before .loop .i))))
 
--- src/sums.rt:30:9
 add-sum-2 : tie.Need-add-sum-2 Inv-loop μ-loop
 add-sum-2 c = let h : c .before .before .loop .i + 1 ≤ 512 = omega arith in omega (arith, product-small (c .before .before .loop .i + 1) (getD (c .before .before .before .args .bytes .now) (c .before .before .loop .i) 0) h (omega (arith, c .shared-slice-known .given (c .before .before .loop .i))))
 
--- src/sums.rt:31:9
 add-i : tie.Need-add-i Inv-loop μ-loop
 add-i c = search needs
 
--- src/sums.rt:29:5
 loop-less : tie.Need-loop-less Inv-loop μ-loop
 loop-less c = search needs
 
--- src/sums.rt:29:5
 loop-again : tie.Need-loop-again Inv-loop μ-loop
 loop-again c = weighted-goes-on (c .before .before .loop .inv) (c .before .before .before .pre) (c .before .loop-test .taken) (omega (arith, c .shared-slice-known .given (c .before .before .loop .i)))
 
--- src/sums.rt:23:1
 returns : tie.Need-returns Inv-loop μ-loop
 returns c = weighted-ends (c .before .loop .inv) (c .loop-test .left)
 

@@ -6,71 +6,49 @@ use native.Mathlib.Omega.{arith}
 use borrow.Author.Needs.{needs}
 use Rattle.blocks.proofs.write.write_block.Statement.{statement}
 use Rattle.blocks.proofs.write.write_block.Tie as tie
-use Rattle.blocks.proofs.write.write_block.Reads as reads
-use Rattle.blocks.proofs.write.write_block.Lts as lts
-use Rattle.blocks.proofs.fields.put_two.Reads as put-two-reads
-use Rattle.blocks.proofs.sums.sum.Reads as sum-reads
-use Rattle.blocks.proofs.sums.weighted_sum.Reads as weighted-sum-reads
-use Rattle.blocks.proofs.write.put_front.Reads as put-front-reads
-use Rattle.writing.proofs.write.Reads as write-reads
 
--- src/write.rt:40:15
 slice-aggregate-put-front : tie.Need-slice-aggregate-put-front
 slice-aggregate-put-front c = search needs
 
--- src/write.rt:40:5
 put-front-requires : tie.Need-put-front-requires
 put-front-requires c κs = search needs
 
--- src/write.rt:41:21
 array-share-prefix-block : tie.Need-array-share-prefix-block
 array-share-prefix-block c = search needs
 
--- src/write.rt:41:21
 slice-aggregate-sum : tie.Need-slice-aggregate-sum
 slice-aggregate-sum c = let h : length (c .before .before .put-front .last .0) ≡ 512 = c .before .before .put-front .kept .0 in sym (length-take-le 508 (c .before .before .put-front .last .0) (omega arith))
 
--- src/write.rt:41:9
 sum-requires : tie.Need-sum-requires
 sum-requires c κs = let h : length (c .before .before .put-front .last .0) ≡ 512 = c .before .before .put-front .kept .0 in let k : length (take 508 (c .before .before .put-front .last .0)) ≡ 508 = length-take-le 508 (c .before .before .put-front .last .0) (omega arith) in omega arith
 
--- src/write.rt:42:31
 array-share-prefix-block-2 : tie.Need-array-share-prefix-block-2
 array-share-prefix-block-2 c = search needs
 
--- src/write.rt:42:31
 slice-aggregate-weighted-sum : tie.Need-slice-aggregate-weighted-sum
 slice-aggregate-weighted-sum c = let h : length (c .before .before .before .before .put-front .last .0) ≡ 512 = c .before .before .before .before .put-front .kept .0 in sym (length-take-le 508 (c .before .before .before .before .put-front .last .0) (omega arith))
 
--- src/write.rt:42:9
 weighted-sum-requires : tie.Need-weighted-sum-requires
 weighted-sum-requires c κs = let h : length (c .before .before .before .before .put-front .last .0) ≡ 512 = c .before .before .before .before .put-front .kept .0 in let k : length (take 508 (c .before .before .before .before .put-front .last .0)) ≡ 508 = length-take-le 508 (c .before .before .before .before .put-front .last .0) (omega arith) in omega arith
 
--- src/write.rt:43:33
 array-share-prefix-block-3 : tie.Need-array-share-prefix-block-3
 array-share-prefix-block-3 c = search needs
 
--- src/write.rt:43:33
 slice-aggregate-write : tie.Need-slice-aggregate-write
 slice-aggregate-write c = let h : length (c .before .before .before .before .before .before .before .put-front .last .0) ≡ 512 = c .before .before .before .before .before .before .before .put-front .kept .0 in sym (length-take-le 508 (c .before .before .before .before .before .before .before .put-front .last .0) (omega arith))
 
--- src/write.rt:43:9
 write-requires : tie.Need-write-requires
 write-requires c κs = search needs
 
--- src/write.rt:44:9
 put-two-requires : tie.Need-put-two-requires
 put-two-requires c κs = search needs
 
--- src/write.rt:45:5
 put-two-requires-2 : tie.Need-put-two-requires-2
 put-two-requires-2 c κs = search needs
 
--- src/write.rt:35:1
 same-length : tie.Need-same-length
 same-length c = search needs
 
--- src/write.rt:35:1
 returns : tie.Need-returns
 returns c = wrote-block (c .before .before .before .before .before .before .before .before .before .before .before .before .before .before .before .before .before .before .before .before .before .before .args .nodes) (c .before .before .before .before .before .before .before .before .before .before .before .before .before .before .before .before .before .before .before .before .before .before .args .number) (c .before .before .before .before .before .before .before .before .before .before .before .before .before .before .before .before .before .before .before .before .before .before .args .words .now) (front-stands (c .before .before .before .before .before .before .before .before .before .before .before .before .before .before .before .before .before .before .before .before .before .before .args .nodes) (c .before .before .before .before .before .before .before .before .before .before .before .before .before .before .before .before .before .before .before .before .before .before .args .number) (c .before .before .before .before .before .before .before .before .before .before .before .before .before .before .before .before .before .before .before .before .before .before .args .words .now) (c .before .before .before .before .before .before .before .before .before .before .before .before .before .before .before .before .before .before .before .before .before .before .pre .few) (omega arith) (c .before .before .before .before .before .before .before .before .before .before .before .before .before .before .before .before .before .before .put-front .ensures)) (c .before .before .before .before .before .before .before .before .before .before .before .before .before .before .before .sum .ensures) (c .before .before .before .before .before .before .before .before .before .before .before .before .before .weighted-sum .ensures) (c .before .before .before .before .before .before .before .before .before .before .write .ensures) (c .before .before .before .before .before .before .put-two .ensures) (c .before .before .put-two2 .ensures)
 

@@ -7,9 +7,6 @@ use borrow.Author.Needs.{needs}
 use native.Mathlib.Omega.{arith}
 use Rattle.report.proofs.lines.write_nodes.Statement.{statement}
 use Rattle.report.proofs.lines.write_nodes.Tie as tie
-use Rattle.report.proofs.lines.write_nodes.Reads as reads
-use Rattle.report.proofs.lines.write_nodes.Lts as lts
-use Rattle.report.proofs.lines.write_node.Reads as write-node-reads
 
 abbrev Inv-loop : tie.InvT-loop
 Inv-loop out₀ at words weights nodes place₀ node₀ out place node = (node ≤ size words) × Still (lines words (weightIn weights) 0 (size words)) out₀ at (lines words (weightIn weights) node (size words - node)) out place
@@ -17,31 +14,24 @@ Inv-loop out₀ at words weights nodes place₀ node₀ out place node = (node �
 abbrev μ-loop : tie.MeasureT-loop
 μ-loop out₀ at words weights nodes place₀ node₀ out place node = size words - node
 
--- src/lines.rt:79:5
 loop-holds : tie.Need-loop-holds Inv-loop μ-loop
 loop-holds c = (omega arith, lines-begin (c .before .before .before .args .words .now) (weightIn (c .before .before .before .args .weights .now)) (size (c .before .before .before .args .words .now)) (c .before .before .before .args .out .now) (c .before .before .before .args .at))
 
--- src/lines.rt:80:9
 write-node-requires : tie.Need-write-node-requires Inv-loop μ-loop
 write-node-requires c κs = search needs
 
--- src/lines.rt:81:9
 add-node : tie.Need-add-node Inv-loop μ-loop
 add-node c = search needs
 
--- src/lines.rt:79:5
 loop-less : tie.Need-loop-less Inv-loop μ-loop
 loop-less c = search needs
 
--- src/lines.rt:79:5
 loop-again : tie.Need-loop-again Inv-loop μ-loop
 loop-again c = (omega arith, still-part (c .before .before .before .before .before .loop .inv .1) _ _ (lines-next (c .before .before .before .before .before .before .before .before .before .args .words .now) (weightIn (c .before .before .before .before .before .before .before .before .before .args .weights .now)) (size (c .before .before .before .before .before .before .before .before .before .args .words .now)) (c .before .before .before .before .before .loop .node) (c .before .before .before .before .loop-test .taken)) (c .before .before .write-node .ensures))
 
--- src/lines.rt:72:1
 same-length : tie.Need-same-length Inv-loop μ-loop
 same-length c = c .before .loop .inv .1 .size
 
--- src/lines.rt:72:1
 returns : tie.Need-returns Inv-loop μ-loop
 returns c = still-none (c .before .loop .inv .1) (lines-none (c .before .before .before .before .before .args .words .now) (weightIn (c .before .before .before .before .before .args .weights .now)) (size (c .before .before .before .before .before .args .words .now)) (c .before .loop .node) (c .loop-test .left))
 

@@ -1,39 +1,27 @@
 use Rattle.report.specs.Report.{refusal}
 use Rattle.writing.proofs.Laws.{wrote-then}
-use native.Mathlib.Omega.{arith}
 use borrow.Author.Needs.{needs}
 use Rattle.report.proofs.lines.write_refusal.Statement.{statement}
 use Rattle.report.proofs.lines.write_refusal.Tie as tie
-use Rattle.report.proofs.lines.write_refusal.Reads as reads
-use Rattle.report.proofs.lines.write_refusal.Lts as lts
-use Rattle.report.proofs.lines.write_number.Reads as write-number-reads
-use Rattle.writing.proofs.put.Reads as put-reads
 
--- src/lines.rt:37:38
 slice-aggregate-write-number : tie.Need-slice-aggregate-write-number
 slice-aggregate-write-number c = search needs
 
--- src/lines.rt:37:9
 write-number-requires : tie.Need-write-number-requires
 write-number-requires c κs = search needs
 
--- src/lines.rt:38:43
 slice-aggregate-write-number-2 : tie.Need-slice-aggregate-write-number-2
 slice-aggregate-write-number-2 c = search needs
 
--- src/lines.rt:38:9
 write-number-requires-2 : tie.Need-write-number-requires-2
 write-number-requires-2 c κs = search needs
 
--- src/lines.rt:39:5
 put-requires : tie.Need-put-requires
 put-requires c κs = search needs
 
--- src/lines.rt:34:1
 same-length : tie.Need-same-length
 same-length c = search needs
 
--- src/lines.rt:34:1
 returns : tie.Need-returns
 unfolding refusal
 returns c = wrote-then (wrote-then (c .before .before .before .before .before .before .before .before .before .before .before .write-number .ensures) (c .before .before .before .before .before .before .write-number2 .ensures)) (c .before .before .put .ensures)

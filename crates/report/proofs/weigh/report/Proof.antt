@@ -1,67 +1,49 @@
 use lib.ListN.{length}
 use lib.Seq.{length-take-le}
-use Prim.Native.Nat.{_*_, _≤_}
+use Prim.Native.Nat.{_*_}
 use mathlib.Core.Path.{_≡_, refl, sym}
 use Rattle.report.proofs.Answering.{file-refused, file-read, file-few}
 use native.Mathlib.Omega.{arith}
 use borrow.Author.Needs.{needs}
 use Rattle.report.proofs.weigh.report.Statement.{statement}
 use Rattle.report.proofs.weigh.report.Tie as tie
-use Rattle.report.proofs.weigh.report.Reads as reads
-use Rattle.report.proofs.weigh.report.Lts as lts
-use Rattle.block_file.proofs.read.read_file.Reads as read-file-reads
-use Rattle.report.proofs.lines.write_refusal.Reads as write-refusal-reads
-use Rattle.report.proofs.weigh.report_diagram.Reads as report-diagram-reads
 
--- src/weigh.rt:38:35
 slice-aggregate-read-file : tie.Need-slice-aggregate-read-file
 slice-aggregate-read-file c = search needs
 
--- src/weigh.rt:38:9
 read-file-requires : tie.Need-read-file-requires
 read-file-requires c κs = search needs
 
--- src/weigh.rt:40:23
 enum-known-stored : tie.Need-enum-known-stored
 enum-known-stored c = search needs
 
--- src/weigh.rt:40:62
 mul-words : tie.Need-mul-words
 mul-words c = omega (arith, file-few (c .before .before .before .before .before .before .before .before .before .args .bytes .now) _ _ (c .before .before .before .before .before .read-file .ensures) refl (c .before .before .stored .given .1))
 
--- src/weigh.rt:40:53
 array-share-prefix-words : tie.Need-array-share-prefix-words
 array-share-prefix-words c = omega (arith, file-few (c .before .before .before .before .before .before .before .before .before .args .bytes .now) _ _ (c .before .before .before .before .before .read-file .ensures) refl (c .before .before .stored .given .1), c .before .before .before .before .before .read-file .kept .1 .0)
 
--- src/weigh.rt:40:53
 slice-aggregate-report-diagram : tie.Need-slice-aggregate-report-diagram
 slice-aggregate-report-diagram c = let h : length (c .before .before .before .before .before .before .read-file .last .1 .0) ≡ 360 = c .before .before .before .before .before .before .read-file .kept .1 .0 in sym (length-take-le (3 * c .before .before .before .stored .given .0 .0) (c .before .before .before .before .before .before .read-file .last .1 .0) (omega (arith, file-few (c .before .before .before .before .before .before .before .before .before .before .args .bytes .now) _ _ (c .before .before .before .before .before .before .read-file .ensures) refl (c .before .before .before .stored .given .1))))
 
--- src/weigh.rt:40:33
 report-diagram-requires : tie.Need-report-diagram-requires
 report-diagram-requires c κs = search needs
 
--- src/weigh.rt:41:27
 enum-known-stored-2 : tie.Need-enum-known-stored-2
 enum-known-stored-2 c = search needs
 
--- src/weigh.rt:41:46
 write-refusal-requires : tie.Need-write-refusal-requires
 write-refusal-requires c κs = search needs
 
--- src/weigh.rt:34:1
 same-length : tie.Need-same-length
 same-length c = search needs
 
--- src/weigh.rt:34:1
 returns : tie.Need-returns
 returns c = file-read (c .before .before .before .before .before .before .before .before .before .before .before .before .before .args .bytes .now) _ _ (c .before .before .before .before .before .before .before .before .before .read-file .ensures) refl (c .before .before .before .before .before .before .stored .given .1) (c .before .before .report-diagram .ensures)
 
--- src/weigh.rt:34:1
 same-length-2 : tie.Need-same-length-2
 same-length-2 c = search needs
 
--- src/weigh.rt:34:1
 returns-2 : tie.Need-returns-2
 returns-2 c = file-refused (c .before .before .before .before .before .before .before .before .before .before .before .before .args .bytes .now) _ _ (c .before .before .before .before .before .before .before .before .read-file .ensures) refl (c .before .before .before .before .before .stored2 .given .1) (c .before .before .write-refusal .ensures)
 

@@ -4,57 +4,40 @@ use native.Mathlib.Omega.{arith}
 use borrow.Author.Needs.{needs}
 use Rattle.report.proofs.weigh.report_diagram.Statement.{statement}
 use Rattle.report.proofs.weigh.report_diagram.Tie as tie
-use Rattle.report.proofs.weigh.report_diagram.Reads as reads
-use Rattle.report.proofs.weigh.report_diagram.Lts as lts
-use Rattle.report.proofs.lines.write_lines.Reads as write-lines-reads
-use Rattle.report.proofs.lines.write_refusal.Reads as write-refusal-reads
-use Rattle.weights.proofs.node_valuation_weights.Reads as node-valuation-weights-reads
 
--- src/weigh.rt:26:49
 slice-aggregate-node-valuation-weights : tie.Need-slice-aggregate-node-valuation-weights
 slice-aggregate-node-valuation-weights c = search needs
 
--- src/weigh.rt:26:63
 slice-aggregate-node-valuation-weights-2 : tie.Need-slice-aggregate-node-valuation-weights-2
 slice-aggregate-node-valuation-weights-2 c = search needs
 
--- src/weigh.rt:26:9
 node-valuation-weights-requires : tie.Need-node-valuation-weights-requires
 node-valuation-weights-requires c κs = search needs
 
--- src/weigh.rt:28:64
 enum-told : tie.Need-enum-told
 enum-told c = search needs
 
--- src/weigh.rt:28:76
 slice-aggregate-write-lines : tie.Need-slice-aggregate-write-lines
 slice-aggregate-write-lines c = search needs
 
--- src/weigh.rt:28:52
 write-lines-requires : tie.Need-write-lines-requires
 write-lines-requires c κs = omega (arith, two-nodes (c .before .before .before .before .before .before .before .before .before .before .before .args .words .now) _ _ _ _ (c .before .before .before .before .before .before .node-valuation-weights .ensures) refl refl (c .before .before .enum-told .given .1) .1)
 
--- src/weigh.rt:29:28
 enum-known-verdict : tie.Need-enum-known-verdict
 enum-known-verdict c = search needs
 
--- src/weigh.rt:29:47
 write-refusal-requires : tie.Need-write-refusal-requires
 write-refusal-requires c κs = search needs
 
--- src/weigh.rt:21:1
 same-length : tie.Need-same-length
 same-length c = search needs
 
--- src/weigh.rt:21:1
 returns : tie.Need-returns
 returns c = diagram-weighed (c .before .before .before .before .before .before .before .before .before .before .before .before .before .before .args .words .now) _ _ _ _ (c .before .before .before .before .before .before .before .before .before .node-valuation-weights .ensures) refl refl (c .before .before .before .before .before .enum-told .given .1) (c .before .before .write-lines .ensures)
 
--- src/weigh.rt:21:1
 same-length-2 : tie.Need-same-length-2
 same-length-2 c = search needs
 
--- src/weigh.rt:21:1
 returns-2 : tie.Need-returns-2
 returns-2 c = diagram-refused (c .before .before .before .before .before .before .before .before .before .before .before .before .before .before .args .words .now) _ _ _ _ (c .before .before .before .before .before .before .before .before .before .node-valuation-weights .ensures) refl refl (c .before .before .before .before .before .verdict .given .1) (c .before .before .write-refusal .ensures)
 
