@@ -1,7 +1,7 @@
 // The operations for C and Rust: numbers, slices as pointer and length, and structs by value.
 // include/houayletan.h declares the same for C.
-pub mod cuts;
-pub mod queries;
+pub mod asking;
+pub mod cutting;
 
 use cardinality::CountedFloat;
 use cardinality::cardinality;

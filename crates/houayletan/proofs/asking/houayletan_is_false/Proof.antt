@@ -1,0 +1,20 @@
+use Rattle.houayletan.proofs.Flattening.{yes-told}
+use borrow.Author.Needs.{needs}
+use Rattle.houayletan.proofs.asking.houayletan_is_false.Statement.{statement}
+use Rattle.houayletan.proofs.asking.houayletan_is_false.Tie as tie
+
+is-false-requires : tie.Need-is-false-requires
+is-false-requires c κs = search needs
+
+flat-answer-requires : tie.Need-flat-answer-requires
+flat-answer-requires c κs = search needs
+
+same-length : tie.Need-same-length
+same-length c = search needs
+
+returns : tie.Need-returns
+returns c = yes-told (c .before .before .before .is-false .ensures) _ (c .flat-answer .ensures)
+
+pub houayletan-is-false-spec : {M : Type 1} → statement M
+houayletan-is-false-spec =
+    tie.close (tie.spec is-false-requires flat-answer-requires same-length returns)

@@ -1,0 +1,24 @@
+use mathlib.Core.Path.{refl}
+use Rattle.houayletan.proofs.Flattening.{not-told}
+use borrow.Author.Needs.{needs}
+use Rattle.houayletan.proofs.asking.houayletan_not.Statement.{statement}
+use Rattle.houayletan.proofs.asking.houayletan_not.Tie as tie
+
+not-requires : tie.Need-not-requires
+not-requires c κs = search needs
+
+flat-requires : tie.Need-flat-requires
+flat-requires c κs = search needs
+
+same-length : tie.Need-same-length
+same-length c = search needs
+
+same-length-2 : tie.Need-same-length-2
+same-length-2 c = search needs
+
+returns : tie.Need-returns
+returns c = not-told (c .before .before .before .before .before .not .ensures) _ (c .flat .ensures) refl
+
+pub houayletan-not-spec : {M : Type 1} → statement M
+houayletan-not-spec =
+    tie.close (tie.spec not-requires flat-requires same-length same-length-2 returns)

@@ -1,0 +1,20 @@
+use Rattle.houayletan.proofs.Flattening.{amount-told}
+use borrow.Author.Needs.{needs}
+use Rattle.houayletan.proofs.asking.houayletan_num_vars.Statement.{statement}
+use Rattle.houayletan.proofs.asking.houayletan_num_vars.Tie as tie
+
+num-vars-requires : tie.Need-num-vars-requires
+num-vars-requires c κs = search needs
+
+flat-amount-requires : tie.Need-flat-amount-requires
+flat-amount-requires c κs = search needs
+
+same-length : tie.Need-same-length
+same-length c = search needs
+
+returns : tie.Need-returns
+returns c = amount-told (c .before .before .before .num-vars .ensures) _ (c .flat-amount .ensures)
+
+pub houayletan-num-vars-spec : {M : Type 1} → statement M
+houayletan-num-vars-spec =
+    tie.close (tie.spec num-vars-requires flat-amount-requires same-length returns)

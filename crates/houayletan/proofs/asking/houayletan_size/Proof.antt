@@ -1,0 +1,19 @@
+use Rattle.houayletan.proofs.Flattening.{amount-told}
+use borrow.Author.Needs.{needs}
+use Rattle.houayletan.proofs.asking.houayletan_size.Statement.{statement}
+use Rattle.houayletan.proofs.asking.houayletan_size.Tie as tie
+
+size-requires : tie.Need-size-requires
+size-requires c κs = search needs
+
+flat-amount-requires : tie.Need-flat-amount-requires
+flat-amount-requires c κs = search needs
+
+same-length : tie.Need-same-length
+same-length c = search needs
+
+returns : tie.Need-returns
+returns c = amount-told (c .before .before .before .size .ensures) _ (c .flat-amount .ensures)
+
+pub houayletan-size-spec : {M : Type 1} → statement M
+houayletan-size-spec = tie.close (tie.spec size-requires flat-amount-requires same-length returns)

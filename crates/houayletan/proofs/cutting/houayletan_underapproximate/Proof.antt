@@ -1,0 +1,24 @@
+use Rattle.houayletan.proofs.Flattening.{cut-told}
+use borrow.Author.Needs.{needs}
+use Rattle.houayletan.proofs.cutting.houayletan_underapproximate.Statement.{statement}
+use Rattle.houayletan.proofs.cutting.houayletan_underapproximate.Tie as tie
+
+underapproximate-requires : tie.Need-underapproximate-requires
+underapproximate-requires c κs = search needs
+
+flat-cut-requires : tie.Need-flat-cut-requires
+flat-cut-requires c κs = search needs
+
+same-length : tie.Need-same-length
+same-length c = search needs
+
+same-length-2 : tie.Need-same-length-2
+same-length-2 c = search needs
+
+returns : tie.Need-returns
+returns c = cut-told (c .before .before .before .before .before .underapproximate .ensures) _ (c .flat-cut .ensures)
+
+pub houayletan-underapproximate-spec : {M : Type 1} → statement M
+houayletan-underapproximate-spec =
+    tie.close
+    (tie.spec underapproximate-requires flat-cut-requires same-length same-length-2 returns)
