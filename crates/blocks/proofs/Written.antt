@@ -1,15 +1,15 @@
 -- A block that is written is taken, and its nodes come back.
-use Prim.Native.Nat.{ℕ, zero, suc, _+_, _-_, _*_, _/_, _%_, _≤_, _<_, _^_, min}
+use Prim.Native.Nat.{ℕ, zero, suc, _+_, _-_, _*_, _/_, _%_, _≤_, _<_, _^_}
 use mathlib.Core.Path.{_≡_, refl, sym, ap, _∙_}
-use mathlib.Core.Bool.{Bool, true, false, cond, not, _&&_, _||_}
-use mathlib.Core.List.{List, [], _∷_, _++_, append-assoc, append-nil}
+use mathlib.Core.Bool.{Bool, true, _&&_, _||_}
+use mathlib.Core.List.{List, [], _∷_, _++_, append-assoc}
 use native.Mathlib.Omega.{arith}
-use lib.ListN.{length, getD, take, drop, replicate, length-append, length-drop, length-take, length-replicate}
+use lib.ListN.{length, getD, take, drop, replicate, length-append, length-replicate}
 use lib.Seq.{take-at, drop-at, drop-drop, getD-drop}
-use lib.Dec.{eqb, ltb}
+use lib.Dec.{eqb}
 use borrow.Author.Tests.{eq-eqb, ne-eqb, lt-ltb}
 use Rattle.diagram.specs.Diagram.{varOf}
-use Rattle.blocks.specs.Block.{two, four, twoBytes, fourBytes, nodesBytes, nodeAt, nodesAt, nodesIn, total, weighted, front, blockOf, here, unused, sumsRight, countsRight, blockOutcome, nodes}
+use Rattle.blocks.specs.Block.{two, four, twoBytes, fourBytes, nodesBytes, nodesAt, nodesIn, total, weighted, front, blockOf, here, unused, sumsRight, countsRight, blockOutcome, nodes}
 use Rattle.blocks.proofs.Testing.{taken}
 use Rattle.blocks.proofs.Front.{nodes-length, front-length, block-length}
 
