@@ -2,6 +2,8 @@
 --     Steps      reading block by block
 --     Storing    the tests of the writer, and its blocks one after another
 --     Reading    every file that is read is the file of its nodes
+--     Returning  what is written reads back to the same nodes
 pub mod Steps
 pub mod Storing
 pub mod Reading
+pub mod Returning

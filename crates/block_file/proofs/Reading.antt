@@ -18,27 +18,27 @@ use Rattle.block_file.specs.File.{Reading, reading, endOf, after, readOn
 -- ---- words put in the middle of a list
 
 module _ (out mid : List ℕ) (a h : ℕ) (fits : a + h ≤ length out) (len : length mid ≡ h) where
-  abbrev put : List ℕ
+  abbrev pub put : List ℕ
   put = take a out ++ mid ++ drop (a + h) out
 
   front-len : length (take a out) ≡ a
   front-len = length-take-le a out (omega arith)
 
-  both-len : length (take a out ++ mid) ≡ a + h
+  pub both-len : length (take a out ++ mid) ≡ a + h
   both-len = length-append (take a out) mid ∙ omega (arith, front-len)
 
-  put-length : length put ≡ length out
+  pub put-length : length put ≡ length out
   put-length = length-append (take a out ++ mid) (drop (a + h) out) ∙ omega (arith, both-len, length-drop (a + h) out)
 
-  put-before : take a put ≡ take a out
+  pub put-before : take a put ≡ take a out
   put-before = rw (append-assoc (take a out) mid (drop (a + h) out)) (take-at (take a out) (mid ++ drop (a + h) out) a front-len)
 
-  put-here : take h (drop a put) ≡ mid
+  pub put-here : take h (drop a put) ≡ mid
   put-here =
       rw (append-assoc (take a out) mid (drop (a + h) out))
       (ap (take h) (drop-at (take a out) (mid ++ drop (a + h) out) a front-len) ∙ take-at mid (drop (a + h) out) h len)
 
-  put-after : (k : ℕ) → a + h ≤ k → drop k put ≡ drop k out
+  pub put-after : (k : ℕ) → a + h ≤ k → drop k put ≡ drop k out
   put-after k l =
       let e : a + h + (k - (a + h)) ≡ k = omega arith in
       let d : drop (a + h) put ≡ drop (a + h) out = drop-at (take a out ++ mid) (drop (a + h) out) (a + h) both-len in

@@ -4,10 +4,12 @@
 --     Testing    the tests of a block, row by row
 --     Front      lengths of what is written, and a block from its parts
 --     Answering  what reading the block due answers and leaves
---     Meaning    what is read is what would be written, and the other way round
+--     Meaning    what is read is what would be written
+--     Written    a block that is written is taken, and its nodes come back
 pub mod Adding
 pub mod Places
 pub mod Testing
 pub mod Front
 pub mod Answering
 pub mod Meaning
+pub mod Written

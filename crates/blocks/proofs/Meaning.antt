@@ -1,5 +1,4 @@
--- A block that is taken is the block that would be written for its nodes, and a block that is written is taken, with its
--- nodes.
+-- A block that is taken is the block that would be written for its nodes.
 use Prim.Native.Nat.{ℕ, zero, suc, _+_, _-_, _*_, _/_, _%_, _≤_, _<_, _^_, min}
 use mathlib.Core.Path.{_≡_, refl, sym, ap, _∙_}
 use mathlib.Core.Bool.{Bool, true, false, cond, not, _&&_, _||_}

@@ -1,5 +1,7 @@
 -- Laws that belong to no one function.
 --     Composing  lines from their parts
 --     Answering  what is reported of a diagram and of a file
+--     Fitting    the report fits what the program lends
 pub mod Composing
 pub mod Answering
+pub mod Fitting
