@@ -1,10 +1,10 @@
-// Runs the cuts over the cases of standard input and prints a line for each. A case is a line: the letter of the operation
-// (u and o cut by a list, s and t to a size; u and s from below, o and t from above), right after it the length of the working
-// room, and then, with blanks between, the word that the room is filled with beforehand, the same two of the output, how many
-// words the list or the target has, these words, and the words of the diagram. The answer is the verdict; how many nodes and
-// trials were answered; of the room afterwards how many words at its front are zero and how many after these are as they were;
-// how many words of the output beyond the result are as they were; and the result's words. Both files are made by
-// tests/cuts_cases.py, which has the Rust text answer what document 01 does not refuse.
+// Runs the cuts over the cases of standard input and prints a line for each. A case is a line: the letter of the operation,
+// right after it the length of the working room, and then, with blanks between, the word that the room is filled with beforehand,
+// the same two of the output, how many words the list or the target has, these words, and the words of the diagram. Letters: u
+// and o cut by a list, s and t to a size; u and s from below, o and t from above.
+// The answer is the verdict; how many nodes and trials were answered; of the room afterwards how many words at its front are
+// zero and how many after these are as they were; how many words of the output beyond the result are as they were; and the
+// result's words. Both files are made by tests/cuts_cases.py, which has the Rust text answer what document 01 does not refuse.
 use cases::fill;
 use cases::least;
 use cases::run_of;
