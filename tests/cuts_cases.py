@@ -20,6 +20,7 @@ from weights_cases import by_chances
 HERE = os.path.dirname(os.path.abspath(__file__))
 FOLDER = os.path.join(HERE, '..', 'crates', 'cuts_run')
 BENCH = os.path.join(HERE, '..', 'bench')
+SINGLE, BOTH = [1, 0, 0, 1, 1, 1, 0, 1, 1], [2, 0, 0, 2, 1, 1, 1, 1, 1, 0, 2, 2]   # true, in three nodes and in four
 MARKED, FILLED = 7, 9                                   # the words of room and output beforehand
 COUNTS = False                                          # whether the program knows the letters c and d
 LETTERS = 'uostcd' if COUNTS else 'uost'
@@ -184,8 +185,8 @@ def refusal(letter, target, words, room, lent):
 
 
 def worked():
-    """C3 to C12 of 01 and its cases that are only run: a request, and its answer's nodes after the terminals, its count, its
-    trials (None: not said); or the refusal."""
+    """C3 to C12 of 01, its cases that are only run, and others settled by hand: a request, and its answer's nodes after the
+    terminals, its count, its trials (None: not said); or the refusal."""
     yield 'u', [2], D, [(1, 0, 1), (0, 0, 2)], 2, 0
     yield 'u', [3], D, [(2, 0, 1), (0, 2, 0)], 2, 0
     yield 'o', [3], D, [(2, 0, 1), (0, 2, 1)], 6, 0
@@ -205,6 +206,25 @@ def worked():
     yield 'u', [], [256, 0, 0], 7, 0
     yield 's', [3], terminals(256), 7, 0
     yield 'c', count_words(4), terminals(3), 19, 0
+    # where a plausible port goes wrong
+    for target, place in (([2, 9], 1), ([0, 9], 1), ([4, 5], 1), ([4294967295], 0)):
+        yield 'u', target, D, 13, place
+    yield 'u', [1, 2], terminals(0), 13, 1
+    yield 'u', [2, 1, 0], D, 14, 1
+    yield 'u', [0], terminals(0), 14, 0
+    yield 'u', [0, 1], terminals(0), None, 0, 0
+    yield 'o', [0], [0, 0, 0], [], 1, 0
+    yield 's', [3], BOTH, [], 4, 2                      # the last cut counts, though the list was tried before
+    yield 't', [2], [0, 0, 0], None, 0, 0               # the early rules look at the negation's array
+    yield 't', [1], [0, 0, 0], [], 1, 0
+    yield 't', [0], [0, 0, 0], [], 1, 0
+    yield 's', [2], SINGLE, None, 0, 0                  # true, but not by array length
+    yield 'c', count_words(1), SINGLE, None, 0, 1
+    yield 'c', count_words(0), terminals(1) + [0, 0, 0], None, 0, 0
+    yield 'c', count_words(2), terminals(0), [], 1, 0   # only over refuses 16
+    yield 'd', count_words(2), terminals(0), 16, 0
+    yield 'd', count_words(1), [0, 0, 0], [], 1, 0
+    yield 'd', count_words(4), [3, 0, 0], 19, 0
 
 
 def exact(letter, target, words, room=0, output=0):
@@ -217,7 +237,6 @@ def by_hand():
     for case in worked():
         yield exact(*case[:3])
         yield exact(*case[:3], 3, 4)                    # more than is asked for is as it was
-    single, both = [1, 0, 0, 1, 1, 1, 0, 1, 1], [2, 0, 0, 2, 1, 1, 1, 1, 1, 0, 2, 2]
     targets = {'u': [2], 'o': [2], 's': [3], 't': [3], 'c': count_words(1), 'd': count_words(1)}
     broken = [
         [],                                             # 1
@@ -239,10 +258,6 @@ def by_hand():
         yield exact(letter, [4294967295] * len(target), [256, 0, 0])    # whatever is asked for
     yield 'u', [2], [9] * 12291, 262144, 12288          # 3, at 4,097 nodes
     # listed roots and terminals of constants; places in the list; 13 before 14, and whether or not the root is listed
-    yield exact('u', [1, 2], terminals(0))
-    yield exact('o', [0], [0, 0, 0])
-    yield exact('u', [0], terminals(0))
-    yield exact('u', [0, 1], terminals(0))
     yield exact('o', [1], terminals(0))
     yield exact('u', [0], [0, 0, 0])
     yield exact('u', [2], terminals(0), 2)
@@ -252,7 +267,7 @@ def by_hand():
         yield exact('o', target, D, 1, 1)
     for t in (0, 1, 2, 3, 4, 4294967295):
         for letter in 'st':
-            for words in ([0, 0, 0], terminals(0), [255, 0, 0], terminals(255), single, both, D):
+            for words in ([0, 0, 0], terminals(0), [255, 0, 0], terminals(255), SINGLE, BOTH, D):
                 yield exact(letter, [t], words)
     for v in (0, 1, 3, 255):                            # counts of constants, by array length and in longer arrays
         for letter in 'cd':
@@ -263,7 +278,7 @@ def by_hand():
                     for link in (0, 1):
                         yield exact(letter, count_words(k), terminals(v) + [v - 1, link, link])
     for letter, target in (('c', 0), ('c', 1), ('c', 3), ('d', 1), ('d', 4), ('d', 5)):
-        yield exact(letter, count_words(target), both)
+        yield exact(letter, count_words(target), BOTH)
         yield exact(letter, count_words(target), terminals(2) + [1, 0, 0, 0, 2, 2])
 
 
@@ -380,12 +395,11 @@ def main():
     asked = [case for _, case in made if refusal(*case)[0] == 'accepted']
     readings = [by_reading(case) for case in asked]
     check = sys.argv[1:] == ['check']
-    if not check:
-        answers = list(by_rust(asked))
-        assert len(answers) == len(asked)
-        for case, rust, reading in zip(asked, answers, readings):
-            assert rust == reading, case
-    found = iter(readings)
+    answers = readings if check else list(by_rust(asked))
+    assert len(answers) == len(asked)
+    for case, one, reading in zip(asked, answers, readings):
+        assert one == reading, case
+    found = iter(answers)
     stdin = ''.join(line for line, _ in made)
     stdout = ''.join(answer(case, next(found) if refusal(*case)[0] == 'accepted' else None) for _, case in made)
     for name, text in (('stdin', stdin), ('stdout', stdout)):
