@@ -117,4 +117,5 @@ def main():
     open(os.path.join(FOLDER, 'stdout'), 'w').writelines(answers)
 
 
-main()
+if __name__ == '__main__':
+    main()

@@ -9,6 +9,8 @@ use std::fmt::{Display, Formatter};
 
 mod _impl_bdd;
 
+pub use _impl_bdd::ands;
+
 #[derive(Clone, Debug, Eq, Hash, PartialEq)]
 pub struct Bdd(Vec<BddNode>);
 

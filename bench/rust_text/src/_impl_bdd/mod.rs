@@ -1,9 +1,17 @@
 //! STAND-IN, as ../lib.rs says: words as diagrams, and `and` and `not` from document 01.
 use crate::*;
 use std::hash::{BuildHasherDefault, Hasher};
+use std::sync::atomic::{AtomicUsize, Ordering::Relaxed};
 
 mod _impl_approximation;
 mod _impl_util;
+
+static ANDS: AtomicUsize = AtomicUsize::new(0);
+
+/// How often `and` was called.
+pub fn ands() -> usize {
+    ANDS.load(Relaxed)
+}
 
 impl Bdd {
     /// Three words for a node: variable, low link, high link.
@@ -36,6 +44,7 @@ impl Bdd {
 
     /// A plain apply with two hash maps. The result is reduced, numbered on the way back, low branch first, root last.
     pub fn and(&self, other: &Bdd) -> Bdd {
+        ANDS.fetch_add(1, Relaxed);
         let mut apply = Apply {
             left: self,
             right: other,

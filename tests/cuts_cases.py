@@ -1,0 +1,415 @@
+"""Writes crates/cuts_run/stdin and stdout: requests to cut, and their answers.
+
+    python3 tests/cuts_cases.py          has the Rust text answer all that document 01 does not refuse (cargo, and Debian's
+                                         librust-num-bigint-dev, as for bench/run.sh), holds every answer to the reading of 01
+                                         below, and writes both files
+    python3 tests/cuts_cases.py check    holds the stored files to the reading of 01, without the Rust
+
+Refusals, and what is left in output and room, come from 01 alone; nodes, trials and words from the Rust text
+(bench/rust_text/examples/stored_cuts.rs, which says how trials are counted). The reading cuts nodes of dictionaries and
+reduces by recursion; weights come from chances (weights_cases.py)."""
+import os
+import random
+import subprocess
+import sys
+
+from diagram_cases import D, layered, terminals
+from reading import ROOM, most, nodes, room_after, verdict
+from weights_cases import by_chances
+
+HERE = os.path.dirname(os.path.abspath(__file__))
+FOLDER = os.path.join(HERE, '..', 'crates', 'cuts_run')
+BENCH = os.path.join(HERE, '..', 'bench')
+SINGLE, BOTH = [1, 0, 0, 1, 1, 1, 0, 1, 1], [2, 0, 0, 2, 1, 1, 1, 1, 1, 0, 2, 2]   # true, in three nodes and in four
+MARKED, FILLED = 7, 9                                   # the words of room and output beforehand
+COUNTS = False                                          # whether the program knows the letters c and d
+LETTERS = 'uostcd' if COUNTS else 'uost'
+
+
+def flat(ns):
+    return [x for node in ns for x in node]
+
+
+def constant(v, t):
+    return nodes(terminals(v))[:t + 1]
+
+
+def reduced(ns):
+    v = ns[0][0]
+    made, places, known = [], {}, {0: 0, 1: 1}
+
+    def at(p):
+        if p not in known:
+            var, low, high = ns[p]
+            node = var, at(low), at(high)
+            if node[1] == node[2]:
+                known[p] = node[1]
+            else:
+                if node not in places:
+                    places[node] = 2 + len(made)
+                    made.append(node)
+                known[p] = places[node]
+        return known[p]
+
+    root = at(len(ns) - 1)
+    return constant(v, root) if root < 2 else constant(v, 1) + made
+
+
+def cut(ns, marked, t):
+    if len(ns) - 1 in marked:
+        return constant(ns[0][0], t)
+
+    def sent(link):
+        return t if link in marked else link
+    return reduced(ns[:2] + [(var, sent(low), sent(high)) for var, low, high in ns[2:]])
+
+
+def negated(ns):
+    if len(ns) <= 2:
+        return constant(ns[0][0], 2 - len(ns))
+
+    def other(link):
+        return 1 - link if link < 2 else link
+    return ns[:2] + [(var, other(low), other(high)) for var, low, high in ns[2:]]
+
+
+def count(ns):
+    known = {0: 0, 1: 1}
+
+    def at(p):
+        if p not in known:
+            var, low, high = ns[p]
+            known[p] = sum(at(q) << (ns[q][0] - var - 1) for q in (low, high))
+        return known[p]
+    root = len(ns) - 1
+    return at(root) << ns[root][0]
+
+
+def priorities(ns):
+    weights = by_chances(flat(ns))
+    order = sorted(range(2, len(ns)), key=lambda p: (weights[p], -p))
+    return order, weights
+
+
+def under_to_size(ns, t):
+    n, v = len(ns), ns[0][0]
+    if t <= 1:
+        return constant(v, 0), 0
+    if t == 2:
+        return constant(v, 1 if n == 2 else 0), 0
+    if t >= n:
+        return ns, 0
+    order, _ = priorities(ns)
+    start, stop, trials = 0, n - t, 0
+    while start < stop:
+        middle = (start + stop) // 2
+        found = cut(ns, set(order[:middle]), 0)
+        trials += 1
+        if len(found) == t:
+            return found, trials
+        if len(found) < t:
+            stop = middle
+        else:
+            start = middle + 1
+    return cut(ns, set(order[:stop]), 0), trials + 1
+
+
+def under_to_count(ns, k):
+    whole = count(ns)
+    if k == 0:
+        return constant(ns[0][0], 0), 0
+    if k >= whole:
+        return ns, 0
+    order, weights = priorities(ns)
+    rest, taken, trials = whole - k, 0, 0
+    while True:
+        while taken < len(order):
+            taken += 1
+            if weights[order[taken - 1]] >= rest:
+                break
+            rest -= weights[order[taken - 1]]
+        found = cut(ns, set(order[:taken]), 0)
+        trials += 1
+        if count(found) <= k:
+            return found, trials
+        rest = count(found) - k
+
+
+def cuts(letter, target, words):
+    """The nodes of the answer, and the trials."""
+    ns = nodes(words)
+    if letter in 'uo':
+        return cut(ns, set(target), 'uo'.index(letter)), 0
+    if letter == 's':
+        return under_to_size(ns, target[0])
+    if letter == 't':
+        found, trials = under_to_size(negated(ns), target[0])
+        return negated(found), trials
+    k = number(target)
+    if letter == 'c':
+        return under_to_count(ns, k)
+    if k <= count(ns):
+        return ns, 0
+    found, trials = under_to_count(negated(ns), count(negated(ns)) - (k - count(ns)))
+    return negated(found), trials
+
+
+def number(words):
+    return sum(x << (32 * i) for i, x in enumerate(words))
+
+
+def count_words(k):
+    return [k >> (32 * i) & 0xffffffff for i in range(8)]
+
+
+def refusal(letter, target, words, room, lent):
+    """The check's verdict, and then 13 and 14, or 16 and 19."""
+    said = verdict(words, room, ('diagram', lent))
+    if said[0] == 'refused' or letter in 'st':
+        return said
+    _, n, v = said
+    if letter in 'uo':
+        outside = [i for i, p in enumerate(target) if p >= n]
+        terminal = [i for i, p in enumerate(target) if p < 2]
+        if outside:
+            return 'refused', 13, outside[0]
+        if terminal and n - 1 not in target:
+            return 'refused', 14, terminal[0]
+        return said
+    k = number(target)
+    if letter == 'd' and k > 2 ** v:
+        return 'refused', 16, 0
+    if 0 < k < 2 ** v and n == {'c': 2, 'd': 1}[letter]:
+        return 'refused', 19, 0
+    return said
+
+
+def worked():
+    """C3 to C12 of 01, its cases that are only run, and others settled by hand: a request, and its answer's nodes after the
+    terminals, its count, its trials (None: not said); or the refusal."""
+    yield 'u', [2], D, [(1, 0, 1), (0, 0, 2)], 2, 0
+    yield 'u', [3], D, [(2, 0, 1), (0, 2, 0)], 2, 0
+    yield 'o', [3], D, [(2, 0, 1), (0, 2, 1)], 6, 0
+    yield 's', [4], D, [(2, 0, 1), (0, 2, 0)], 2, 2
+    yield 's', [3], D, None, 0, 2
+    yield 't', [4], D, [(2, 0, 1), (0, 2, 1)], 6, 2
+    yield 'c', count_words(4), D, [(2, 0, 1), (0, 2, 0)], 2, 1
+    yield 'c', count_words(1), D, None, 0, 1
+    yield 's', [4], terminals(3) + [2, 0, 1, 1, 0, 2, 0, 0, 3], None, 0, None
+    yield 'd', count_words(8), D, [], 8, None
+    yield 'd', count_words(9), D, 16, 0
+    yield 'u', [0, 4], D, None, 0, 0
+    yield 'u', [0], D, 14, 0
+    yield 's', [5], D, nodes(D)[2:], 5, 0
+    yield 'u', [], [255, 0, 0], None, 0, 0
+    yield 'u', [], terminals(255), [], 2 ** 255, 0
+    yield 'u', [], [256, 0, 0], 7, 0
+    yield 's', [3], terminals(256), 7, 0
+    yield 'c', count_words(4), terminals(3), 19, 0
+    # where a plausible port goes wrong
+    for target, place in (([2, 9], 1), ([0, 9], 1), ([4, 5], 1), ([4294967295], 0)):
+        yield 'u', target, D, 13, place
+    yield 'u', [1, 2], terminals(0), 13, 1
+    yield 'u', [2, 1, 0], D, 14, 1
+    yield 'u', [0], terminals(0), 14, 0
+    yield 'u', [0, 1], terminals(0), None, 0, 0
+    yield 'o', [0], [0, 0, 0], [], 1, 0
+    yield 's', [3], BOTH, [], 4, 2                      # the last cut counts, though the list was tried before
+    yield 't', [2], [0, 0, 0], None, 0, 0               # the early rules look at the negation's array
+    yield 't', [1], [0, 0, 0], [], 1, 0
+    yield 't', [0], [0, 0, 0], [], 1, 0
+    yield 's', [2], SINGLE, None, 0, 0                  # true, but not by array length
+    yield 'c', count_words(1), SINGLE, None, 0, 1
+    yield 'c', count_words(0), terminals(1) + [0, 0, 0], None, 0, 0
+    yield 'c', count_words(2), terminals(0), [], 1, 0   # only over refuses 16
+    yield 'd', count_words(2), terminals(0), 16, 0
+    yield 'd', count_words(1), [0, 0, 0], [], 1, 0
+    yield 'd', count_words(4), [3, 0, 0], 19, 0
+
+
+def exact(letter, target, words, room=0, output=0):
+    m = most(len(words) // 3)
+    return letter, target, words, ROOM * m + room, 3 * m + output
+
+
+def by_hand():
+    """(letter, list or target, words, room length, output length)"""
+    for case in worked():
+        yield exact(*case[:3])
+        yield exact(*case[:3], 3, 4)                    # more than is asked for is as it was
+    targets = {'u': [2], 'o': [2], 's': [3], 't': [3], 'c': count_words(1), 'd': count_words(1)}
+    broken = [
+        [],                                             # 1
+        [3] * 4,                                        # 2
+        [0, 0, 1], [1, 0, 0, 0, 1, 1], [0, 0, 0, 0, 0, 0],  # 6 at 0, at 1
+        [256, 0, 0], terminals(256) + [300, 9, 9],      # 7, also before 8
+        terminals(3) + [2, 0, 1, 3, 9, 9],              # 8, 9, 10
+        terminals(3) + [2, 0, 1, 2, 4, 9],
+        terminals(3) + [2, 0, 1, 2, 0, 4],
+        [1, 0, 0, 1, 1, 1, 0, 2, 0, 0, 2, 1],           # 11, through another violator
+        [2, 0, 0, 2, 1, 1, 1, 0, 1, 1, 0, 1],           # 12
+    ]
+    for letter, target in targets.items():
+        for words in broken:
+            yield exact(letter, target, words, 1, 1)
+        for room, output in ((0, -1), (-1, 0), (-1, -1)):   # 4 and 5, and 4 before 5
+            yield exact(letter, target, D, room, output)
+            yield exact(letter, target, [0, 0, 0], room, output)
+        yield exact(letter, [4294967295] * len(target), [256, 0, 0])    # whatever is asked for
+    yield 'u', [2], [9] * 12291, 262144, 12288          # 3, at 4,097 nodes
+    # listed roots and terminals of constants; places in the list; 13 before 14, and whether or not the root is listed
+    yield exact('o', [1], terminals(0))
+    yield exact('u', [0], [0, 0, 0])
+    yield exact('u', [2], terminals(0), 2)
+    yield exact('o', [5], [0, 0, 0], 2, 2)
+    for target in ([2, 9], [2, 1, 0], [0, 9], [9, 0], [4, 9], [4, 5], [1, 4, 0], [3, 3, 3], [2, 3], [3, 2, 4], [4294967295]):
+        yield exact('u', target, D, 1, 1)
+        yield exact('o', target, D, 1, 1)
+    for t in (0, 1, 2, 3, 4, 4294967295):
+        for letter in 'st':
+            for words in ([0, 0, 0], terminals(0), [255, 0, 0], terminals(255), SINGLE, BOTH, D):
+                yield exact(letter, [t], words)
+    for v in (0, 1, 3, 255):                            # counts of constants, by array length and in longer arrays
+        for letter in 'cd':
+            for k in sorted({0, 1, 2, 2 ** v - 1, 2 ** v, 2 ** v + 1, 2 ** 255, 2 ** 256 - 1}):
+                yield exact(letter, count_words(k), [v, 0, 0])
+                yield exact(letter, count_words(k), terminals(v))
+                if v:
+                    for link in (0, 1):
+                        yield exact(letter, count_words(k), terminals(v) + [v - 1, link, link])
+    for letter, target in (('c', 0), ('c', 1), ('c', 3), ('d', 1), ('d', 4), ('d', 5)):
+        yield exact(letter, count_words(target), BOTH)
+        yield exact(letter, count_words(target), terminals(2) + [1, 0, 0, 0, 2, 2])
+
+
+def lists(rng, n):
+    """Lists of non-terminals, now and then with the root, repeats or a terminal."""
+    yield []
+    for size in (1, 1, 2, n // 3):
+        target = [rng.randrange(2, n - 1) for _ in range(size)] if n > 3 else []
+        if rng.random() < 0.1:
+            target.append(n - 1)
+        if rng.random() < 0.1:
+            target.insert(0, rng.choice((0, 1, n)))
+        yield target
+
+
+def chain(v, one):
+    """A conjunction of all variables, or where `one` is 1 their disjunction: all weights equal 1, or a power of 2 each."""
+    links = [(1 + i if i else 1) if one == 0 else 0 for i in range(v)]
+    made = []
+    for i in range(v):
+        rest = 1 - one if i == 0 else 1 + i
+        made += [v - 1 - i, 0, links[i]] if one == 0 else [v - 1 - i, rest, 1]
+    return terminals(v) + made
+
+
+def at_random():
+    rng = random.Random(1986)
+    orders = ('children first', 'children last', 'random')
+    for i in range(75):
+        n = rng.choice((3, 4, 4, 5, 5, 6, 6, 7, 8, 9, 12))
+        words = layered(rng, n, rng.choice((1, 2, 3, 4, 5, 6, 8)) if n < 12 else rng.choice((6, 8, 33)), orders[i % 3])
+        yield from requests(rng, words, lists(rng, len(words) // 3), range(len(words) // 3 + 2), 2)
+    for i, (n, v) in enumerate(((14, 255), (16, 200), (30, 40), (40, 255), (60, 12), (60, 64), (120, 255))):
+        words = layered(rng, n, v, orders[i % 3])
+        n = len(words) // 3
+        sizes = sorted({3, n // 4, n // 2, 2 * n // 3, n - 2, n - 1, n})
+        yield from requests(rng, words, list(lists(rng, n))[1:3], sizes, 2)
+    for words in (chain(6, 0), chain(6, 1), chain(60, 0), chain(60, 1)):
+        n = len(words) // 3
+        yield from requests(rng, words, [[n // 2]], sorted({3, 4, n // 2, n - 1}), 1)
+    yield exact('s', [2000], layered(rng, 4096, 40))    # 4,096 nodes
+
+
+def requests(rng, words, targets, sizes, some):
+    v, whole = words[0], count(nodes(words))
+    for target in targets:
+        yield exact(rng.choice('uo'), target, words, rng.choice((0, 0, 2)), rng.choice((0, 0, 2)))
+    for t in sizes:
+        yield exact(rng.choice('st'), [t], words, rng.choice((0, 0, 2)), rng.choice((0, 0, 2)))
+    below, above = [rng.randrange(whole + 1) for _ in range(some)], [rng.randrange(whole, 2 ** v + 1) for _ in range(some)]
+    for k in sorted({0, 1, max(whole - 1, 0), whole, 2 ** v, *below}):
+        if k < whole or rng.random() < 0.3:
+            yield exact('c', count_words(k), words, rng.choice((0, 0, 2)), rng.choice((0, 0, 2)))
+    for k in sorted({0, whole, whole + 1, 2 ** v - 1, 2 ** v, 2 ** v + 1, *above}):
+        if whole < k or rng.random() < 0.3:
+            yield exact('d', count_words(k), words, rng.choice((0, 0, 2)), rng.choice((0, 0, 2)))
+
+
+def cases():
+    """Each request once."""
+    seen = set()
+    for case in [*by_hand(), *at_random()]:
+        line = request(*case)
+        if case[0] in LETTERS and line not in seen:
+            seen.add(line)
+            yield line, case
+
+
+def request(letter, target, words, room, lent):
+    return letter + ' '.join(str(x) for x in [room, MARKED, lent, FILLED, len(target), *target, *words]) + '\n'
+
+
+def answer(case, found):
+    """The program's line, where `found` has the numbers of nodes and trials and the words of what is not refused."""
+    letter, target, words, room, lent = case
+    kind, a, b = refusal(letter, target, words, room, lent)
+    zero = room_after(words, room, ('diagram', lent))
+    said = f'accepted nodes {a} vars {b}' if kind == 'accepted' else f'refused {a} at {b}'
+    size, trials, result = found if kind == 'accepted' else (0, 0, [])
+    said += f', answer nodes {size} trials {trials}, room zero {zero} kept {room - zero}, output kept {lent - len(result)}'
+    return said + (', words ' + ' '.join(str(x) for x in result) if result else '') + '\n'
+
+
+def by_reading(case):
+    found, trials = cuts(*case[:3])
+    return len(found), trials, flat(found)
+
+
+def by_rust(asked):
+    subprocess.run(['cargo', 'build', '--release', '--quiet', '-p', 'rust-text', '--examples'], cwd=BENCH, check=True)
+    lines = [letter + ' '.join(str(x) for x in [len(target), *target, *words]) for letter, target, words, _, _ in asked]
+    run = subprocess.run([os.path.join(BENCH, 'target', 'release', 'examples', 'stored_cuts')], check=True, text=True,
+                         input='\n'.join(lines) + '\n', stdout=subprocess.PIPE)
+    for line in run.stdout.splitlines():
+        size, trials, *words = (int(x) for x in line.split())
+        yield size, trials, words
+
+
+def hold_to_paper():
+    for letter, target, words, *said in worked():
+        if isinstance(said[0], int):
+            assert refusal(*exact(letter, target, words)) == ('refused', *said)
+        else:
+            after, whole, trials = said
+            found, made = cuts(letter, target, words)
+            assert found == constant(words[0], 0 if after is None else 1) + (after or [])
+            assert count(found) == whole and trials in (None, made)
+
+
+def main():
+    sys.setrecursionlimit(10000)
+    hold_to_paper()
+    made = list(cases())
+    asked = [case for _, case in made if refusal(*case)[0] == 'accepted']
+    readings = [by_reading(case) for case in asked]
+    check = sys.argv[1:] == ['check']
+    answers = readings if check else list(by_rust(asked))
+    assert len(answers) == len(asked)
+    for case, one, reading in zip(asked, answers, readings):
+        assert one == reading, case
+    found = iter(answers)
+    stdin = ''.join(line for line, _ in made)
+    stdout = ''.join(answer(case, next(found) if refusal(*case)[0] == 'accepted' else None) for _, case in made)
+    for name, text in (('stdin', stdin), ('stdout', stdout)):
+        path = os.path.join(FOLDER, name)
+        if check:
+            assert open(path).read() == text, name
+        else:
+            open(path, 'w').write(text)
+    letters = {x: sum(case[0] == x for case in asked) for x in LETTERS}
+    print(f'{len(made)} requests, {len(asked)} of them answered: {letters}; {len(stdin)} and {len(stdout)} bytes')
+
+
+main()
