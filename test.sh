@@ -63,7 +63,7 @@ rust_tests() {
     HOUAYLETAN_LIB="$PWD/target/staticlib" CARGO_TARGET_DIR="$PWD/$built/rust" cargo test --offline --quiet --manifest-path bindings/rust/Cargo.toml
 }
 make_archive() {
-    rm -f "$archive"
+    mkdir -p target && rm -f "$archive"
     rt staticlib houayletan > target/staticlib.log 2>&1 && [ -f "$archive" ] && return
     cat target/staticlib.log
     return 1

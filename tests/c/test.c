@@ -1,5 +1,5 @@
 /* The archive as a C program sees it: worked examples, every row of the table of refusals, lengths exact and one short,
- * and what a call leaves in the lent buffers. Prints what fails; the last line is 'N passed, M failed'. */
+ * and what a call leaves in the lent buffers. Prints what fails; the last line has the counts. */
 #include "operations.h"
 #include <stdio.h>
 #include <stdlib.h>
@@ -291,6 +291,6 @@ int main(void) {
     }
 
     if (skipped) printf("%d operations are not in the archive yet and were not tested\n", skipped);
-    printf("%d passed, %d failed\n", passed, failed);
+    printf("C test: %d passed, %d failed\n", passed, failed);
     return failed != 0;
 }
