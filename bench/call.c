@@ -8,9 +8,10 @@ int main(void) {
     HouayletanVerdict v = houayletan_validate(words, 15, room, 320);
     printf("from C: number %u, place %zu, nodes %zu, vars %u", v.number, v.place, v.nodes, v.vars);
     HouayletanCount c = houayletan_exact_cardinality(words, 15, room, 320);
+    HouayletanFloat f = houayletan_cardinality(words, 15, room, 320);
     uint32_t output[40];
     HouayletanDiagram d = houayletan_reduce(words, 15, room, 320, output, 15);
-    printf("; count %u, reduced to %zu nodes", c.count[0], d.nodes);
+    printf("; count %u, as a double %g, reduced to %zu nodes", c.count[0], f.count, d.nodes);
     v = houayletan_node_valuation_weights(words, 15, room, 320, output, 40);
     printf(", weights %u %u %u %u %u", output[0], output[8], output[16], output[24], output[32]);
     words[11] = 5;

@@ -76,6 +76,12 @@ typedef struct {
     uint32_t count[8];
 } HouayletanCount;
 
+/* A verdict with a count as a double, which is 0.0 where the input is refused. */
+typedef struct {
+    HouayletanVerdict verdict;
+    double count;
+} HouayletanFloat;
+
 /* A verdict, whose counts are those of the input, with the number of nodes in the output, 0 where the input is refused. */
 typedef struct {
     HouayletanVerdict verdict;
@@ -87,6 +93,9 @@ HouayletanVerdict houayletan_validate(const uint32_t *words, size_t words_len, u
 
 /* How many of the 2^v valuations the diagram holds for. Refusals 1 to 3 and 5 to 12. */
 HouayletanCount houayletan_exact_cardinality(const uint32_t *words, size_t words_len, uint32_t *room, size_t room_len);
+
+/* The same as a double: exact up to 2^53; beyond, each node's sum is rounded once. Refusals 1 to 3 and 5 to 12. */
+HouayletanFloat houayletan_cardinality(const uint32_t *words, size_t words_len, uint32_t *room, size_t room_len);
 
 /* How many paths lead from the root to node 1, in the array as it stands. Refusals 1 to 3 and 5 to 12. */
 HouayletanCount houayletan_exact_clause_cardinality(const uint32_t *words, size_t words_len, uint32_t *room, size_t room_len);
@@ -105,12 +114,6 @@ HouayletanDiagram houayletan_reduce(const uint32_t *words, size_t words_len, uin
 void houayletan_clear(uint32_t *room, size_t room_len, size_t count);
 
 #ifdef HOUAYLETAN_NEXT /* declared, and not in the archive yet */
-
-/* A verdict with a count as a double, which is 0.0 where the input is refused. */
-typedef struct {
-    HouayletanVerdict verdict;
-    double count;
-} HouayletanFloat;
 
 /* A verdict with a number, which is 0 where the input is refused. */
 typedef struct {
@@ -135,9 +138,6 @@ typedef struct {
 typedef struct {
     uint32_t count[8];
 } HouayletanTarget;
-
-/* The count as a double: exact up to 2^53; beyond, each node's sum is rounded once. Refusals 1 to 3 and 5 to 12. */
-HouayletanFloat houayletan_cardinality(const uint32_t *words, size_t words_len, uint32_t *room, size_t room_len);
 
 /* The number of nodes of the array, and of variables. Refusals 1 to 3 and 5 to 12. */
 HouayletanAmount houayletan_size(const uint32_t *words, size_t words_len, uint32_t *room, size_t room_len);

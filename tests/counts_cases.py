@@ -2,6 +2,7 @@
 import itertools
 import os
 import random
+import struct
 
 from diagram_cases import D, layered, terminals
 from reading import ROOM, most, room_after, verdict
@@ -48,6 +49,19 @@ def paths(words):
             known[p] = at(low) + at(high)
         return known[p]
     return at(len(words) // 3 - 1)
+
+
+def float_bits(words):
+    """The count as a double: Python's floats are IEEE doubles, and `*` by a power of two and `+` round as the Rust's. Nodes are taken by
+    falling variable; where the true count is at most 2 ** 53, the double has to be that number."""
+    v, n = words[0], len(words) // 3
+    known = {0: 0.0, 1: 1.0}
+    for p in sorted(range(2, n), key=lambda p: -words[3 * p]):
+        var, low, high = node(words, p)
+        known[p] = known[low] * 2.0 ** (words[3 * low] - var - 1) + known[high] * 2.0 ** (words[3 * high] - var - 1)
+    total = known[n - 1] * 2.0 ** words[3 * (n - 1)]
+    assert count(words) > 2 ** 53 or total == count(words)
+    return struct.unpack('<Q', struct.pack('<d', total))[0]
 
 
 def walk(words, every):
@@ -98,7 +112,7 @@ def line(words, room, word):
         result = negated(words)
     left = result + filled[len(result):]
     return ''.join([
-        said(plain), f', count {count(words) if ok else 0:064x}', f', paths {paths(words) if ok else 0:064x}',
+        said(plain), f', count {count(words) if ok else 0:064x}', f', paths {paths(words) if ok else 0:064x}', f', float {float_bits(words) if ok else 0:016x}',
         f', size {n}, vars {v}', f', true {yes[ok and n == 2]}, false {yes[ok and n == 1]}',
         f', clause {yes[ok and walk(words, False)]}, valuation {yes[ok and walk(words, True)]}',
         f', room zero {zeros} kept {room - zeros}',

@@ -88,8 +88,11 @@ pub const OPERATIONS: [Operation; 8] = [
         name: "cardinality",
         targets: false,
         rust: |c| _ = black_box(c.bdd.cardinality()),
-        ours: None,
-        compare: |_, _| (),
+        ours: Some(|c, lent| _ = black_box(ours::cardinality(&c.words, c.room(lent)))),
+        compare: |c, lent| {
+            let ours = ours::cardinality(&c.words, c.room(lent));
+            assert_eq!(ours.count.to_bits(), c.bdd.cardinality().to_bits());
+        },
     },
     Operation {
         name: "node_valuation_weights",

@@ -15,6 +15,12 @@ pub struct Count {
 }
 
 #[repr(C)]
+pub struct Float {
+    pub verdict: Verdict,
+    pub count: f64,
+}
+
+#[repr(C)]
 pub struct Diagram {
     pub verdict: Verdict,
     pub nodes: usize,
@@ -24,6 +30,7 @@ extern "C" {
     fn houayletan_validate(words: *const u32, words_len: usize, room: *mut u32, room_len: usize) -> Verdict;
     fn houayletan_clear(room: *mut u32, room_len: usize, count: usize);
     fn houayletan_exact_cardinality(words: *const u32, words_len: usize, room: *mut u32, room_len: usize) -> Count;
+    fn houayletan_cardinality(words: *const u32, words_len: usize, room: *mut u32, room_len: usize) -> Float;
     fn houayletan_exact_clause_cardinality(words: *const u32, words_len: usize, room: *mut u32, room_len: usize) -> Count;
     fn houayletan_node_valuation_weights(words: *const u32, words_len: usize, room: *mut u32, room_len: usize, output: *mut u32, output_len: usize) -> Verdict;
     fn houayletan_reduce(words: *const u32, words_len: usize, room: *mut u32, room_len: usize, output: *mut u32, output_len: usize) -> Diagram;
@@ -39,6 +46,10 @@ pub fn clear(room: &mut [u32], count: usize) {
 
 pub fn exact_cardinality(words: &[u32], room: &mut [u32]) -> Count {
     unsafe { houayletan_exact_cardinality(words.as_ptr(), words.len(), room.as_mut_ptr(), room.len()) }
+}
+
+pub fn cardinality(words: &[u32], room: &mut [u32]) -> Float {
+    unsafe { houayletan_cardinality(words.as_ptr(), words.len(), room.as_mut_ptr(), room.len()) }
 }
 
 pub fn exact_clause_cardinality(words: &[u32], room: &mut [u32]) -> Count {

@@ -4,8 +4,7 @@ use std::path::PathBuf;
 
 /// Declared, and perhaps not in the archive yet: `#[cfg(has = "..")]` takes those that are. With all of them exported this
 /// list, what looks for it below and the attributes in src/ go.
-const NEXT: [&str; 15] = [
-    "cardinality",
+const NEXT: [&str; 14] = [
     "size",
     "num_vars",
     "is_true",

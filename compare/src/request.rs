@@ -36,7 +36,7 @@ pub const OPERATIONS: [(Operation, &str, Output, bool); 20] = [
     (Validate, "validate", Output::Nothing, true),
     (ExactCardinality, "exact_cardinality", Output::Nothing, true),
     (ExactClauseCardinality, "exact_clause_cardinality", Output::Nothing, true),
-    (Cardinality, "cardinality", Output::Nothing, cfg!(has = "cardinality")),
+    (Cardinality, "cardinality", Output::Nothing, true),
     (Size, "size", Output::Nothing, cfg!(has = "size")),
     (NumVars, "num_vars", Output::Nothing, cfg!(has = "num_vars")),
     (IsTrue, "is_true", Output::Nothing, cfg!(has = "is_true")),
@@ -151,10 +151,10 @@ fn call(request: &Request, w: &[u32], list: &[u32], room: &mut [u32], out: &mut 
             (verdict, vec![], 8 * verdict.nodes)
         }
         Reduce => diagram(lent::reduce(w, room, out)),
-        Cardinality => if_there!("cardinality", {
+        Cardinality => {
             let c = lent::cardinality(w, room);
             (c.verdict, vec![c.count.to_bits()], 0)
-        }),
+        }
         Size => if_there!("size", amount(lent::size(w, room))),
         NumVars => if_there!("num_vars", amount(lent::num_vars(w, room))),
         IsTrue => if_there!("is_true", answer(lent::is_true(w, room))),

@@ -53,7 +53,7 @@ pub fn held_to(request: &Request, expected: &Reply) -> Result<(), String> {
         ExactClauseCardinality => count(houayletan::exact_clause_cardinality(w)),
         NodeValuationWeights => houayletan::node_valuation_weights(w).map(|c| (vec![], c.iter().flat_map(|c| c.words()).collect())),
         Reduce => diagram(houayletan::reduce(w)),
-        Cardinality => if_there!("cardinality", houayletan::cardinality(w).map(|c| (vec![c.to_bits()], vec![]))),
+        Cardinality => houayletan::cardinality(w).map(|c| (vec![c.to_bits()], vec![])),
         Size => if_there!("size", houayletan::size(w).map(|x| (vec![x as u64], vec![]))),
         NumVars => if_there!("num_vars", houayletan::num_vars(w).map(|x| (vec![x as u64], vec![]))),
         IsTrue => if_there!("is_true", houayletan::is_true(w).map(|x| (vec![x as u64], vec![]))),

@@ -11,7 +11,6 @@
 
 static const HouayletanVerdict absent = {UINT32_MAX, 0, 0, 0};
 
-WEAK HouayletanFloat houayletan_cardinality(V, R) { return (HouayletanFloat){absent, 0}; }
 WEAK HouayletanAmount houayletan_size(V, R) { return (HouayletanAmount){absent, 0}; }
 WEAK HouayletanAmount houayletan_num_vars(V, R) { return (HouayletanAmount){absent, 0}; }
 WEAK HouayletanAnswer houayletan_is_true(V, R) { return (HouayletanAnswer){absent, 0}; }

@@ -152,10 +152,10 @@ macro_rules! cuts_to {
 asks!(validate, houayletan_validate, Verdict);
 asks!(exact_cardinality, houayletan_exact_cardinality, Counted);
 asks!(exact_clause_cardinality, houayletan_exact_clause_cardinality, Counted);
+asks!(cardinality, houayletan_cardinality, CountedFloat);
 writes!(node_valuation_weights, houayletan_node_valuation_weights, Verdict);
 writes!(reduce, houayletan_reduce, Diagram);
 
-asks!(#[cfg(has = "cardinality")] cardinality, houayletan_cardinality, CountedFloat);
 asks!(#[cfg(has = "size")] size, houayletan_size, Amount);
 asks!(#[cfg(has = "num_vars")] num_vars, houayletan_num_vars, Amount);
 asks!(#[cfg(has = "is_true")] is_true, houayletan_is_true, Answer);

@@ -149,7 +149,6 @@ pub fn reduce(words: &[u32]) -> Result<Vec<u32>, Refusal> {
 /// assert_eq!(houayletan::cardinality(&words)?, 5.0);
 /// # Ok::<(), houayletan::Refusal>(())
 /// ```
-#[cfg(has = "cardinality")]
 pub fn cardinality(words: &[u32]) -> Result<f64, Refusal> {
     let counted = lent::cardinality(words, &mut room_for(words));
     accepted(counted.verdict).map(|_| counted.count)

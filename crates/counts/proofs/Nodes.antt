@@ -8,7 +8,8 @@ use native.Mathlib.Nat.{pow-suc, mul-one, mul-assoc, mul-le-mul, sub-zero, le-tr
 use lib.Pow.{pow-pos, pow-add, pow-mono, pow-lt}
 use lib.Dec.{eqb}
 use borrow.Author.Tests.{lt-ltb, le-ltb}
-use Rattle.naturals.specs.Natural.{limit}
+use Rattle.naturals.specs.Natural.{limit, wordCount}
+use Rattle.diagram.specs.Limits.{maxVariables}
 use Rattle.diagram.specs.Diagram.{varOf, lowOf, highOf, size, vars, root, holds, Ordered}
 use Rattle.diagram.specs.Reading.{eval, pass}
 use Rattle.diagram.specs.Valuations.{tally, countOf}
@@ -157,9 +158,12 @@ unfolding doublings
 doublings-most true d = omega arith
 doublings-most false d = omega arith
 
-pub under-limit : (x k : ℕ) → x ≤ 2 ^ k → k ≤ 255 → x < limit
+pub under-limit : (x k : ℕ) → x ≤ 2 ^ k → k ≤ maxVariables → x < limit
 unfolding limit
-under-limit x k a b = let m = pow-mono b in let l : 2 ^ 255 < 2 ^ 256 = pow-lt {i = 255} {j = 256} (omega arith) in lt-of-le-of-lt (le-trans a m) l
+under-limit x k a b =
+    let m = pow-mono b in
+    let l : 2 ^ maxVariables < 2 ^ (32 * wordCount) = pow-lt {i = maxVariables} {j = 32 * wordCount} (omega arith) in
+    lt-of-le-of-lt (le-trans a m) l
 
 scaled-most : (x a d e : ℕ) → x ≤ 2 ^ a → d ≤ e → x * 2 ^ d ≤ 2 ^ (a + e)
 scaled-most x a d e h l = rw (pow-add 2 a e) (mul-le-mul h (pow-mono l))

@@ -2,7 +2,9 @@
 --     Paths      paths from the root to node 1
 --     Counted    what a count answers
 -- and, for the code inside, which no promise to a caller names:
+--     Table      tables of numbers in lent words
 --     Worth      what a node is worth, and the worths noted in the working room
 pub mod Paths
 pub mod Counted
+pub mod Table
 pub mod Worth

@@ -1,15 +1,17 @@
 -- What the walk over the nodes works out, for valuations and for paths alike. Auxiliary: no promise to a caller names it.
-use Prim.Native.Nat.{ℕ, _+_, _-_, _*_, _^_, _≤_, _<_}
+use Prim.Native.Nat.{ℕ, suc, _+_, _-_, _*_, _^_, _≤_, _<_}
 use mathlib.Core.Path.{_≡_}
-use mathlib.Core.Bool.{Bool, true, cond, _||_}
+use mathlib.Core.Logic.{_≢_}
+use mathlib.Core.Bool.{Bool, cond}
 use mathlib.Core.List.{List}
-use lib.ListN.{length, getD, set, take, drop}
-use lib.Dec.{ltb}
-use Rattle.naturals.specs.Natural.{value, wordCount, Holds, stored}
-use Rattle.diagram.specs.Diagram.{varOf, lowOf, highOf, size, vars, root, Ordered}
+use lib.ListN.{length, getD}
+use Rattle.naturals.specs.Natural.{wordCount, limit, Holds}
+use Rattle.diagram.specs.Diagram.{varOf, size, vars, root}
 use Rattle.diagram.specs.Reading.{eval}
 use Rattle.diagram.specs.Valuations.{tally}
+use Rattle.levels.specs.Chains.{Last, Given, Node, Known}
 use Rattle.counts.specs.Paths.{paths}
+use Rattle.counts.specs.Table.{entry as entryOf, num, In}
 
 -- A node's worth: how many valuations of the variables from its own on lead from it to node 1, or how many paths do.
 unfoldable pub worthOf : Bool → List ℕ → ℕ → ℕ
@@ -28,37 +30,35 @@ partOf valuations w p child n = n * 2 ^ doublings valuations (varOf w child - va
 abbrev pub totalOf : Bool → List ℕ → ℕ
 totalOf valuations w = worthOf valuations w (root w) * 2 ^ doublings valuations (varOf w (root w))
 
--- The room has nine words for each node: whether its worth is noted, and the worth. Terminals need no note.
+-- The room has nine words for each node: a link, and its worth.
 abbrev pub entry : ℕ
 entry = 1 + wordCount
 
-unfoldable pub isKnown : List ℕ → ℕ → Bool
-isKnown r p = ltb p 2 || ltb 0 (getD r (entry * p) 0)
+-- The walk goes from the last variable to the first, and in each by the chain of its nodes. Where it stands at variable c and
+-- node b, the worths of the nodes that it has been at are noted; the chains' links stand first.
+pub record Worths (valuations : Bool) (w room : List ℕ) (c b : ℕ) : Type 0 where
+  pub long : size w + wordCount * size w ≤ length room
+  pub next : (p : ℕ) → 2 ≤ p → p < size w → Last w (varOf w p) p (getD room p 0)
+  pub right : (q : ℕ) → q < size w → Known w c b q → Holds (worthOf valuations w q) (entryOf (size w) room q)
 
-unfoldable pub known : List ℕ → ℕ → ℕ
-known r p = cond (ltb p 2) p (value (take wordCount (drop (entry * p + 1) r)))
+-- What a child's part, one node, and the nodes of one variable ask for.
+pub record Parting (valuations : Bool) (w room : List ℕ) (n p q : ℕ) : Type 0 where
+  pub inside : In n room q
+  pub above : varOf w p < varOf w q
+  pub fits : partOf valuations w p q (num n room q) < limit
 
--- Every worth that is noted is right.
-pub record Noted (valuations : Bool) (w r : List ℕ) : Type 0 where
-  pub long : length r ≡ entry * size w
-  pub right : (p : ℕ) → p < size w → isKnown r p ≡ true → known r p ≡ worthOf valuations w p
+pub record Joining (valuations : Bool) (w room : List ℕ) (n p : ℕ) : Type 0 where
+  pub given : Given w n
+  pub node : Node w p
+  pub worths : Worths valuations w room (varOf w p) (suc p)
 
--- The room after a worth is noted.
-abbrev pub withNote : List ℕ → ℕ → List ℕ → List ℕ
-withNote r p words = set (stored wordCount r (entry * p + 1) words) (entry * p) 1
+pub record Descending (valuations : Bool) (w heads room : List ℕ) (n c : ℕ) : Type 0 where
+  pub given : Given w n
+  pub level : c < vars w
+  pub head : (c : ℕ) → c < vars w → Last w c (size w) (getD heads c 0)
+  pub worths : Worths valuations w room (suc c) 0
 
--- What the walk asks for, what it gives, and what joining two children asks for.
-pub record Walking (valuations : Bool) (w r : List ℕ) (p : ℕ) : Type 0 where
-  pub ordered : Ordered w
-  pub inside : p < size w
-  pub noted : Noted valuations w r
-
-pub record Worked (valuations : Bool) (w : List ℕ) (p : ℕ) (r words : List ℕ) : Type 0 where
-  pub worth : Holds (worthOf valuations w p) words
-  pub noted : Noted valuations w r
-
-pub record Joining (valuations : Bool) (w r : List ℕ) (p : ℕ) (below above : List ℕ) : Type 0 where
-  pub walking : Walking valuations w r p
-  pub node : 2 ≤ p
-  pub low : Holds (worthOf valuations w (lowOf w p)) below
-  pub high : Holds (worthOf valuations w (highOf w p)) above
+-- In the chain of c, at p, or at its end where p is 0.
+pub record AtDown (valuations : Bool) (w room : List ℕ) (c p : ℕ) : Type 0 where
+  pub node : p ≢ 0 → Node w p × (varOf w p ≡ c)
+  pub worths : Worths valuations w room c (suc p)

@@ -1,7 +1,7 @@
 // Counts of a decision diagram: the valuations that it holds for, and the paths from its root to node 1.
-mod notes;
+pub mod down;
+pub mod table;
 pub mod total;
-mod worth;
 
 use diagram::validate::admit;
 use diagram::verdict::Output;
@@ -31,7 +31,7 @@ fn count_by(words: &[u32], room: &mut [u32], valuations: bool) -> Counted
             count: zero(),
         };
     };
-    let used = notes::ENTRY * nodes;
+    let used = total::ENTRY * nodes;
     let count = total(words, &mut room[..used], nodes, valuations);
     Counted { verdict, count }
 }

@@ -1,7 +1,9 @@
 // Runs the counts, the small queries and negation over the cases of standard input and prints a line for each. A case is a
 // line of decimal numbers: the length of the working room, the word that room and outputs are filled with beforehand, and
 // the words of the diagram. Both files are made by tests/counts_cases.py: small diagrams are counted by trying every
-// valuation, others by a recursion over whole numbers that shares nothing with this code.
+// valuation, others by a recursion over whole numbers that shares nothing with this code; floats by Python's own, which are IEEE
+// doubles.
+use cardinality::cardinality;
 use cases::fill;
 use cases::least;
 use cases::line_ends;
@@ -22,7 +24,10 @@ use queries::num_vars;
 use queries::per_variable::size_per_variable;
 use queries::size;
 ghost use Prim.Native.Nat.{_≤_, _<_};
+ghost use mathlib.Core.Bool.{not};
 ghost use lib.ListN.{length};
+ghost use lib.Dec.{T};
+ghost use lib.Ieee.{isNan};
 
 const TEXT: usize = 524288;
 
@@ -60,6 +65,14 @@ fn say_natural(text: &[u8], natural: Natural) {
     }
 }
 
+// The sixteen hexadecimal digits of a float's bits.
+fn say_float(text: &[u8], x: f64)
+    requires { ⌜ T (not (isNan x)) ⌝ }
+{
+    io::write_all(STDOUT_FILENO, text);
+    io::print_hex(STDOUT_FILENO, f64::to_bits(x), 16);
+}
+
 fn say_yes(text: &[u8], yes: bool) {
     io::write_all(STDOUT_FILENO, text);
     if yes {
@@ -78,6 +91,11 @@ fn say_words(words: &[u32], count: usize) {
     }
 }
 
+fn run_float(words: &[u32], room: &mut [u32]) {
+    let float = cardinality(words, room);
+    say_float(b", float ", float.count);
+}
+
 fn run_counts(words: &[u32], room: &mut [u32]) {
     let valuations = exact_cardinality(words, room);
     let verdict = valuations.verdict;
@@ -87,6 +105,7 @@ fn run_counts(words: &[u32], room: &mut [u32]) {
     let paths = exact_clause_cardinality(words, room);
     let number_of_paths = paths.count;
     say_natural(b", paths ", number_of_paths);
+    run_float(words, room);
 }
 
 fn run_sizes(words: &[u32], room: &mut [u32]) {

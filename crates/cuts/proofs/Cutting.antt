@@ -78,16 +78,16 @@ six s at h =
 
 -- The words of false, written at a place; then those of true.
 module _ (r : List ℕ) (at v : ℕ) where
-  abbrev none : List ℕ
+  abbrev pub none : List ℕ
   none = set (set (set r at v) (at + 1) 0) (at + 2) 0
 
-  abbrev all : List ℕ
+  abbrev pub all : List ℕ
   all = set (set (set none (at + 3) v) (at + 4) 1) (at + 5) 1
 
-  none-length : length none ≡ length r
+  pub none-length : length none ≡ length r
   none-length = simp length-set
 
-  all-length : length all ≡ length r
+  pub all-length : length all ≡ length r
   all-length = simp length-set
 
   module _ (h : at + 2 < length r) where
@@ -141,7 +141,7 @@ module _ (r : List ℕ) (at v : ℕ) where
       take-set-le k (set (set r at v) (at + 1) 0) (at + 2) 0 (omega arith)
       ∙ take-set-le k (set r at v) (at + 1) 0 (omega arith) ∙ take-set-le k r at v h
 
-  none-beyond : (k : ℕ) → at + 2 < k → drop k none ≡ drop k r
+  pub none-beyond : (k : ℕ) → at + 2 < k → drop k none ≡ drop k r
   none-beyond k h =
       drop-set-lt k (set (set r at v) (at + 1) 0) (at + 2) 0 h
       ∙ drop-set-lt k (set r at v) (at + 1) 0 (omega arith) ∙ drop-set-lt k r at v (omega arith)
@@ -151,7 +151,7 @@ module _ (r : List ℕ) (at v : ℕ) where
       take-set-le k (set (set none (at + 3) v) (at + 4) 1) (at + 5) 1 (omega arith)
       ∙ take-set-le k (set none (at + 3) v) (at + 4) 1 (omega arith) ∙ take-set-le k none (at + 3) v (omega arith) ∙ none-before k h
 
-  all-beyond : (k : ℕ) → at + 5 < k → drop k all ≡ drop k r
+  pub all-beyond : (k : ℕ) → at + 5 < k → drop k all ≡ drop k r
   all-beyond k h =
       drop-set-lt k (set (set none (at + 3) v) (at + 4) 1) (at + 5) 1 h
       ∙ drop-set-lt k (set none (at + 3) v) (at + 4) 1 (omega arith) ∙ drop-set-lt k none (at + 3) v (omega arith) ∙ none-beyond k (omega arith)

@@ -7,8 +7,10 @@ use Rattle.naturals.specs.Natural.{Holds}
 use Rattle.diagram.specs.Diagram.{size}
 use Rattle.diagram.specs.Verdict.{Outcome, accepted, refused, verdictOf, roomAfter, ifAccepted}
 use Rattle.diagram.specs.declared.verdict.Output.the-variants.{Nothing, Diagram, Weights}
+use Rattle.cardinality.specs.Cardinality.{nought, cardinalityOf}
 use Rattle.weights.specs.Weighed.{weightsVerdict, Weighed}
 use Rattle.houayletan.specs.declared.HouayletanCount.{HouayletanCount}
+use Rattle.houayletan.specs.declared.HouayletanFloat.{HouayletanFloat}
 use Rattle.houayletan.specs.declared.HouayletanDiagram.{HouayletanDiagram}
 use Rattle.houayletan.specs.declared.HouayletanVerdict.{HouayletanVerdict}
 
@@ -21,6 +23,12 @@ flatOf (refused number place) = record { number = number; place = place; nodes =
 pub record FlatCount (w : List ℕ) (n : ℕ) (before after : List ℕ) (r : HouayletanCount) : Type 0 where
   pub verdict : r .verdict ≡ flatOf (verdictOf w Nothing (length before))
   pub count : Holds (ifAccepted (verdictOf w Nothing (length before)) n 0) (r .count)
+  pub left : after ≡ roomAfter w Nothing before
+
+-- A count as an f64: the verdict, the count or 0.0 where the words are refused, and the working room afterwards.
+pub record FlatFloat (w before after : List ℕ) (r : HouayletanFloat) : Type 0 where
+  pub verdict : r .verdict ≡ flatOf (verdictOf w Nothing (length before))
+  pub count : r .count ≡ ifAccepted (verdictOf w Nothing (length before)) (cardinalityOf w) nought
   pub left : after ≡ roomAfter w Nothing before
 
 -- A diagram in the output: the verdict, the number of nodes that were made, which is 0 where the words are refused, the

@@ -1,5 +1,7 @@
 // The operations for C and Rust: numbers, slices as pointer and length, and structs by value.
 // include/houayletan.h declares the same for C.
+use cardinality::CountedFloat;
+use cardinality::cardinality;
 use counts::Counted;
 use counts::exact_cardinality;
 use counts::exact_clause_cardinality;
@@ -18,7 +20,7 @@ ghost use Rattle.diagram.specs.Verdict.{said, verdictOf, roomAfter};
 ghost use Rattle.diagram.specs.Valuations.{countOf};
 ghost use Rattle.counts.specs.Paths.{pathCountOf};
 ghost use Rattle.reduction.specs.Reduce.{reduce as reducedOf};
-ghost use Rattle.houayletan.specs.Flat.{flatOf, FlatCount, FlatDiagram, FlatWeights};
+ghost use Rattle.houayletan.specs.Flat.{flatOf, FlatCount, FlatFloat, FlatDiagram, FlatWeights};
 
 // A verdict without an enum: number 0 where it is accepted, and all else zero where it is refused.
 #[repr(C)]
@@ -34,6 +36,13 @@ pub struct HouayletanVerdict {
 pub struct HouayletanCount {
     pub verdict: HouayletanVerdict,
     pub count: [u32; 8],
+}
+
+// A verdict with a count as an f64, which is 0.0 where the words are refused.
+#[repr(C)]
+pub struct HouayletanFloat {
+    pub verdict: HouayletanVerdict,
+    pub count: f64,
 }
 
 // A verdict with the number of nodes in the output, which is zero where the words are refused.
@@ -98,6 +107,24 @@ pub extern "C" fn houayletan_exact_clause_cardinality(
     ensures { λ r. ⌜ FlatCount (now (words .entry)) (pathCountOf (now (words .entry))) (now (room .entry)) (now (room .exit)) r ⌝ }
 {
     flat_count(exact_clause_cardinality(words, room))
+}
+
+fn flat_float(counted: CountedFloat) -> HouayletanFloat
+    ensures { λ r. ⌜ (r .verdict ≡ flatOf (said (counted .verdict))) × (r .count ≡ counted .count) ⌝ }
+{
+    let verdict = counted.verdict;
+    HouayletanFloat {
+        verdict: flat(verdict),
+        count: counted.count,
+    }
+}
+
+// How many valuations the diagram holds for, as an f64: exact up to 2^53.
+#[no_mangle]
+pub extern "C" fn houayletan_cardinality(words: &[u32], room: &mut [u32]) -> HouayletanFloat
+    ensures { λ r. ⌜ FlatFloat (now (words .entry)) (now (room .entry)) (now (room .exit)) r ⌝ }
+{
+    flat_float(cardinality(words, room))
 }
 
 // For each node, in eight words of the output, how many valuations that the diagram holds for have a path that visits it.

@@ -61,8 +61,8 @@ pub record Tried (w : List ℕ) (c : ℕ) (r after : List ℕ) (k : ℕ) : Type 
   pub beyond : drop (23 * size w) after ≡ drop (23 * size w) r
 
 -- A search has found an answer of k nodes, whose words stand in the room.
-pub record Found (w : List ℕ) (a : Answer) (r after : List ℕ) (k trials : ℕ) : Type 0 where
-  pub trials : trials ≡ a .trials
+pub record Found (w : List ℕ) (a : Answer) (r after : List ℕ) (k made-trials : ℕ) : Type 0 where
+  pub trials : made-trials ≡ a .trials
   pub count : k ≡ size (a .words)
   pub words : length (a .words) ≡ 3 * k
   pub fits : k ≤ most w

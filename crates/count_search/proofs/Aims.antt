@@ -1,0 +1,177 @@
+-- The answers to a count target that take no search, and what a search begins with.
+use Prim.Native.Nat.{ℕ, _+_, _*_, _≤_, _<_, max}
+use mathlib.Core.Path.{_≡_, refl, sym, ap, _∙_}
+use mathlib.Core.Bool.{cond}
+use mathlib.Core.List.{List}
+use native.Mathlib.Omega.{arith}
+use lib.ListN.{length, getD, take, drop, replicate, length-drop, length-replicate, getD-replicate}
+use lib.Seq.{getD-take, getD-drop, ext-getD, length-take-le}
+use lib.Dec.{eqb}
+use Rattle.diagram.specs.Limits.{maxNodes}
+use Rattle.diagram.specs.Diagram.{size, Ordered}
+use Rattle.diagram.specs.Verdict.{most}
+use Rattle.diagram.specs.Valuations.{countOf}
+use Rattle.diagram.proofs.Reading.{accepted-ordered}
+use Rattle.approximation.specs.Cut.{listed}
+use Rattle.approximation.specs.Search.{Answer, underToCount}
+use Rattle.approximation.proofs.Listing.{under-accepted-open}
+use Rattle.approximation.proofs.Targets.{to-count-none, to-count-same, search-many}
+use Rattle.cuts.specs.Marks.{constantAt}
+use Rattle.cuts.proofs.Answering.{drop-more}
+use Rattle.trials.specs.Trials.{Preparing, Prepared, Found}
+use Rattle.trials.specs.First.{Unmarkable, Unmarked}
+use Rattle.trials.specs.Answers.{Keeping, Kept}
+use Rattle.trials.proofs.Readying.{ready-marks}
+use Rattle.size_search.proofs.Early.{searching-few, searching-keeps, falsely}
+use Rattle.count_search.specs.Rounds.{Countable, Taken, Seeking, Aiming, Above}
+
+-- A part of a room that is zero.
+zeros-part : (r : List ℕ) (at k : ℕ) → at + k ≤ length r → ((j : ℕ) → j < at + k → getD r j 0 ≡ 0) → take k (drop at r) ≡ replicate k 0
+zeros-part r at k long zero =
+    let rest = length-drop at r in
+    let zeros = length-replicate {A = ℕ} k 0 in
+    let part : length (take k (drop at r)) ≡ k = length-take-le k (drop at r) (omega arith) in
+    ext-getD 0 (take k (drop at r)) (replicate k 0) (part ∙ sym zeros)
+    (λ j h.
+    let inside : j < k = omega arith in
+    getD-take k (drop at r) j 0 inside ∙ getD-drop at r j 0 ∙ zero (at + j) (omega arith) ∙ sym (getD-replicate k j 0 0 inside))
+
+module _ {w r : List ℕ} {k n v : ℕ} (a : Aiming w r k n v) where
+  ordered : Ordered w
+  ordered = accepted-ordered w (a .searching .accepted)
+
+  pub aiming-few : n ≤ maxNodes
+  aiming-few = searching-few (a .searching)
+
+  module _ {m : ℕ} (is-m : m ≡ max n 2) where
+    is-most : m ≡ most w
+    is-most = is-m ∙ ap (λ (i : ℕ). max i 2) (a .searching .is-size)
+
+    pub aiming-none : k ≡ 0 → {after : List ℕ} {j : ℕ} → (after ≡ constantAt r (18 * m) 0 v) × (j ≡ cond (eqb 0 0) 1 2)
+        → Found w (underToCount w k) r after j 0
+    aiming-none e (f, g) =
+        falsely (a .searching) (record { room = f ∙ ap (λ (i : ℕ). constantAt r (18 * i) 0 v) is-m; count = g; trials = refl }) (to-count-none w k e)
+
+    pub aiming-countable : Countable w r (17 * m) n
+    aiming-countable =
+        let few = aiming-few in
+        let long = a .searching .long in
+        let is = is-most in
+        let zero = a .searching .zero in
+        record {
+          ordered = ordered;
+          is-size = a .searching .is-size;
+          place = omega arith;
+          long = omega arith;
+          zero = zeros-part r (17 * m) (9 * n) (omega arith) (λ j h. zero j (omega arith));
+        }
+
+    module _ {s : List ℕ} (same : s ≡ r) where
+      pub aiming-keeps : Keeping w s m
+      aiming-keeps = rw same (searching-keeps (a .searching) is-m)
+
+      -- the input words
+      pub aiming-kept : (k ≡ 0 → ⊥) → {count : ℕ} → count ≡ countOf w → count ≤ k → {after : List ℕ} → Kept w m s after → Found w (underToCount w k) r after n 0
+      aiming-kept ne e h {after} x =
+          let is = a .searching .is-size in
+          let whole = ordered .formed .whole in
+          let m-most = is-most in
+          let three : length w ≡ 3 * n = omega arith in
+          rw (to-count-same w k (omega arith) (omega arith)) (record {
+            trials = refl;
+            count = is;
+            words = three;
+            fits = omega arith;
+            kept = x .kept ∙ ap (λ (l : List ℕ). length l) same;
+            made = ap (λ (i : ℕ). take i (drop (18 * most w) after)) (sym three)
+                ∙ ap (λ (i : ℕ). take (length w) (drop (18 * i) after)) (sym m-most) ∙ x .made;
+            beyond = ap (λ (i : ℕ). drop (26 * i) after) (sym m-most) ∙ x .beyond ∙ ap (λ (i : ℕ). drop (26 * i) s) m-most
+                ∙ ap (λ (l : List ℕ). drop (26 * most w) l) same;
+          })
+
+      pub aiming-above : (k ≡ 0 → ⊥) → {count : ℕ} → count ≡ countOf w → k < count → Above w s k count n v
+      aiming-above ne e h = rw same (record { aiming = a; low = omega arith; high = omega arith; is-count = e })
+
+      pub aiming-found : {b : Answer} {after : List ℕ} {j trials : ℕ} → Found w b s after j trials → Found w b r after j trials
+      aiming-found f = rw same at f
+
+-- ---- the search
+
+module _ {w r : List ℕ} {k count n v : ℕ} (a : Above w r k count n v) where
+  above-many : 2 < n
+  above-many =
+      let is = a .aiming .searching .is-size in
+      let many = search-many w k (a .aiming .searching .accepted) (under-accepted-open w k (a .aiming .target)) (a .low) (a .high) in
+      omega arith
+
+  above-most : most w ≡ n
+  above-most = let many = above-many in let is = a .aiming .searching .is-size in omega arith
+
+  pub above-prepares : Preparing w r n v
+  above-prepares =
+      let is = a .aiming .searching .is-size in
+      let long = a .aiming .searching .long in
+      record { ordered = ordered (a .aiming); is-size = is; is-vars = a .aiming .searching .is-vars; many = above-many; long = omega arith }
+
+  module _ {s : List ℕ} (p : Prepared w r s) where
+    pub above-unmarkable : Unmarkable s n
+    above-unmarkable =
+        let is = a .aiming .searching .is-size in
+        let long = a .aiming .searching .long in
+        let kept = p .kept in
+        record { few = aiming-few (a .aiming); long = omega arith }
+
+    module _ {t : List ℕ} (u : Unmarked n s t) where
+      is : n ≡ size w
+      is = a .aiming .searching .is-size
+
+      back : (j : ℕ) → 17 * size w ≤ j → drop j t ≡ drop j r
+      back j h = let e = is in drop-more (2 * n) j t s (omega arith) (u .beyond) ∙ drop-more (17 * size w) j s r h (p .beyond)
+
+      nothing-taken : Taken w t t 0
+      unfolding listed
+      nothing-taken = record {
+        few = omega arith;
+        kept = refl;
+        ready = ready-marks (p .ready) (u .kept) (rw (sym is) (u .before)) (rw (sym is) (u .beyond));
+        marks = λ q h. rw (sym is) (u .none q (let e = is in omega arith));
+        beyond = refl;
+      }
+
+      pub above-seeking : {sent : List ℕ} → 3 * maxNodes ≤ length sent → Seeking w sent t k count n v
+      above-seeking long-sent =
+          let few = ordered (a .aiming) .formed .few in
+          let whole = ordered (a .aiming) .formed .whole in
+          let e = is in
+          let is-most = above-most in
+          let long = a .aiming .searching .long in
+          let zero = a .aiming .searching .zero in
+          let kept = p .kept in
+          let same = u .kept in
+          record {
+            ordered = ordered (a .aiming);
+            is-size = e;
+            is-vars = a .aiming .searching .is-vars;
+            many = above-many;
+            copy = omega arith;
+            long = omega arith;
+            zero = ap (λ (l : List ℕ). take (9 * n) l) (back (17 * n) (omega arith)) ∙ zeros-part r (17 * n) (9 * n) (omega arith) (λ j h. zero j (omega arith));
+            taken = nothing-taken;
+            low = a .low;
+            high = a .high;
+            is-count = a .is-count;
+          }
+
+      pub above-found : {b : Answer} {after : List ℕ} {j trials : ℕ} → Found w b t after j trials → Found w b r after j trials
+      above-found f =
+          let is-most = above-most in
+          let e = is in
+          record {
+            trials = f .trials;
+            count = f .count;
+            words = f .words;
+            fits = f .fits;
+            kept = f .kept ∙ u .kept ∙ p .kept;
+            made = f .made;
+            beyond = f .beyond ∙ back (26 * most w) (omega arith);
+          }

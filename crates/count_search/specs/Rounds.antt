@@ -1,0 +1,69 @@
+-- What the functions of the search for a count ask. No promise to a caller rests on this file. The room is as crates/trials
+-- has it; where counts are made it is zero.
+use Prim.Native.Nat.{ℕ, _+_, _-_, _*_, _≤_, _<_}
+use mathlib.Core.Path.{_≡_}
+use mathlib.Core.List.{List}
+use lib.ListN.{length, getD, take, drop, replicate}
+use Rattle.diagram.specs.Limits.{maxNodes}
+use Rattle.diagram.specs.Diagram.{size, vars, Ordered}
+use Rattle.diagram.specs.Verdict.{accepted}
+use Rattle.diagram.specs.Valuations.{countOf}
+use Rattle.approximation.specs.Cut.{listed, underCountOf}
+use Rattle.approximation.specs.Search.{order}
+use Rattle.cuts.specs.Marks.{markedIn}
+use Rattle.trials.specs.Trials.{Ready, Searching}
+
+-- An ordered array can be counted at a place of the room.
+pub record Countable (w r : List ℕ) (at n : ℕ) : Type 0 where
+  pub ordered : Ordered w
+  pub is-size : n ≡ size w
+  pub place : at ≤ 64 * maxNodes
+  pub long : at + 9 * n ≤ length r
+  pub zero : take (9 * n) (drop at r) ≡ replicate (9 * n) 0
+
+pub record Recounting (w sent r : List ℕ) (n : ℕ) : Type 0 where
+  pub ordered : Ordered w
+  pub is-size : n ≡ size w
+  pub copy : length w ≤ length sent
+  pub long : 26 * n ≤ length r
+  pub zero : take (9 * n) (drop (17 * n) r) ≡ replicate (9 * n) 0
+
+-- A node stands at place i of the priorities.
+pub record Takeable (r : List ℕ) (n i : ℕ) : Type 0 where
+  pub few : n ≤ maxNodes
+  pub inside : getD r i 0 < n
+  pub long : 17 * n ≤ length r
+
+-- The first c priorities are marked, and no other node; from the counting part on the room is as it was at the start.
+pub record Taken (w start r : List ℕ) (c : ℕ) : Type 0 where
+  pub few : c ≤ size w - 2
+  pub kept : length r ≡ length start
+  pub ready : Ready w r
+  pub marks : (q : ℕ) → q < size w → markedIn (size w) r q ≡ listed (take c (order w)) q
+  pub beyond : drop (17 * size w) r ≡ drop (17 * size w) start
+
+-- The search itself begins: nothing is taken.
+pub record Seeking (w sent r : List ℕ) (k count n v : ℕ) : Type 0 where
+  pub ordered : Ordered w
+  pub is-size : n ≡ size w
+  pub is-vars : v ≡ vars w
+  pub many : 2 < n
+  pub copy : length w ≤ length sent
+  pub long : 26 * n ≤ length r
+  pub zero : take (9 * n) (drop (17 * n) r) ≡ replicate (9 * n) 0
+  pub taken : Taken w r r 0
+  pub low : 0 < k
+  pub high : k < countOf w
+  pub is-count : count ≡ countOf w
+
+-- A room that is zero, and a target that is not refused.
+pub record Aiming (w r : List ℕ) (k n v : ℕ) : Type 0 where
+  pub searching : Searching w r n v
+  pub target : underCountOf w k ≡ accepted (size w) (vars w)
+
+-- A count that is above the target.
+pub record Above (w r : List ℕ) (k count n v : ℕ) : Type 0 where
+  pub aiming : Aiming w r k n v
+  pub low : 0 < k
+  pub high : k < countOf w
+  pub is-count : count ≡ countOf w

@@ -1,0 +1,73 @@
+// The search for a count (document 01, "The evening's cut"): nodes are taken by priority until their weights cover what is to
+// be removed, and all that are taken are cut; while the count is still too large, the walk goes on where it stopped. The
+// answer stands in the working room.
+pub mod amounts;
+pub mod counting;
+mod rounds;
+
+use amounts::at_most;
+use counting::count_in;
+use cuts::cut::SENT;
+use cuts::cut::constant;
+use diagram::lengths::most;
+use diagram::node::BddPointer;
+use naturals::Natural;
+use naturals::is_zero;
+use rounds::search;
+use trials::answers::keep;
+use trials::first::unmark;
+use trials::prepare;
+ghost use Rattle.naturals.specs.Natural.{value};
+ghost use Rattle.approximation.specs.Search.{underToCount};
+ghost use Rattle.trials.specs.Trials.{Found};
+ghost use Rattle.count_search.specs.Rounds.{Aiming, Above};
+
+// How many nodes the answer has, and how many cuts by a list were made for it.
+pub struct Answer {
+    pub nodes: usize,
+    pub trials: usize,
+}
+
+// The search with all it needs, for a count that is above the target.
+fn seek(
+    words: &[u32],
+    room: &mut [u32],
+    target: Natural,
+    count: Natural,
+    nodes: usize,
+    vars: u32,
+) -> Answer
+    requires { ⌜ Above (now words) (now room) (value (target .words)) (value (count .words)) nodes vars ⌝ }
+    ensures { λ r. ⌜ Found (now (words .entry)) (underToCount (now (words .entry)) (value (target .words))) (now (room .entry)) (now (room .exit)) (r .nodes) (r .trials) ⌝ }
+{
+    let mut sent = [0u32; SENT];
+    prepare(words, room, nodes, vars);
+    unmark(room, nodes);
+    search(words, &mut sent, room, target, count, nodes, vars)
+}
+
+pub fn under_count(
+    words: &[u32],
+    room: &mut [u32],
+    target: Natural,
+    nodes: usize,
+    vars: u32,
+) -> Answer
+    requires { ⌜ Aiming (now words) (now room) (value (target .words)) nodes vars ⌝ }
+    ensures { λ r. ⌜ Found (now (words .entry)) (underToCount (now (words .entry)) (value (target .words))) (now (room .entry)) (now (room .exit)) (r .nodes) (r .trials) ⌝ }
+{
+    let most = most(nodes);
+    if is_zero(target) {
+        let none = constant(room, 18 * most, BddPointer(0), vars);
+        return Answer {
+            nodes: none,
+            trials: 0,
+        };
+    }
+    let count = count_in(words, room, 17 * most, nodes);
+    if at_most(count, target) {
+        keep(words, room, most);
+        return Answer { nodes, trials: 0 };
+    }
+    seek(words, room, target, count, nodes, vars)
+}

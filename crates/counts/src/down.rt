@@ -1,0 +1,115 @@
+// The worths of all nodes, from the last variable to the first: a node's children stand at larger variables, so theirs are noted
+// before, wherever they stand in the array. The room has the chains' links, and behind them the table of the worths.
+use crate::table::count_at;
+use crate::table::note;
+use crate::table::scaled;
+use diagram::node::BddPointer;
+use diagram::node::BddVariable;
+use diagram::node::high_link_of;
+use diagram::node::low_link_of;
+use levels::CHAINS;
+use levels::head_of;
+use levels::link;
+use levels::next_of;
+use naturals::Natural;
+use naturals::add;
+use naturals::from_word;
+use naturals::zero;
+ghost use mathlib.Core.Path.{_≡_};
+ghost use Prim.Native.Nat.{_+_, _*_, _≤_};
+ghost use lib.ListN.{length};
+ghost use Rattle.naturals.specs.Natural.{wordCount, Holds};
+ghost use Rattle.diagram.specs.Diagram.{varOf, vars as varsOf};
+ghost use Rattle.levels.specs.Chains.{Given, Linked};
+ghost use Rattle.counts.specs.Table.{num};
+ghost use Rattle.counts.specs.Worth.{partOf, Parting, Joining, Descending, Worths};
+
+// A child's worth as it counts at its parent: valuations are doubled for each variable that the link skips.
+fn part(
+    words: &[u32],
+    room: &[u32],
+    nodes: usize,
+    node: BddPointer,
+    child: BddPointer,
+    valuations: bool,
+) -> Natural
+    requires { ⌜ Parting valuations (now words) (now room) nodes (node .0) (child .0) ⌝ }
+    ensures { λ r. ⌜ Holds (partOf valuations (now (words .entry)) (node .0) (child .0) (num nodes (now (room .entry)) (child .0))) (r .words) ⌝ }
+{
+    let count = count_at(room, nodes, child);
+    if !valuations {
+        return count;
+    }
+    scaled(words, node, child, count)
+}
+
+// One node, whose children's worths are noted.
+fn join(words: &[u32], room: &mut [u32], nodes: usize, node: BddPointer, valuations: bool)
+    requires { ⌜ Joining valuations (now words) (now room) nodes (node .0) ⌝ }
+    ensures { λ _. ⌜ Worths valuations (now (words .entry)) (now (room .exit)) (varOf (now (words .entry)) (node .0)) (node .0) ⌝ }
+{
+    let low = low_link_of(words, node);
+    let below = part(words, room, nodes, node, low, valuations);
+    let high = high_link_of(words, node);
+    let above = part(words, room, nodes, node, high, valuations);
+    let sum = add(below, above);
+    note(room, nodes, node, sum.natural);
+}
+
+// The nodes of one variable.
+fn level(
+    words: &[u32],
+    heads: &[u32],
+    room: &mut [u32],
+    nodes: usize,
+    variable: u32,
+    valuations: bool,
+)
+    requires { ⌜ Descending valuations (now words) (now heads) (now room) nodes variable ⌝ }
+    ensures { λ _. ⌜ Worths valuations (now (words .entry)) (now (room .exit)) variable 0 ⌝ }
+{
+    let mut node = head_of(heads, BddVariable(variable));
+    while node.0 != 0 {
+        join(words, room, nodes, node, valuations);
+        node = next_of(room, node);
+    }
+}
+
+// The terminals' worths: none goes on from node 0, and from node 1 the one that is at its end.
+fn terminals(words: &[u32], heads: &[u32], room: &mut [u32], nodes: usize, valuations: bool)
+    requires { ⌜ Given (now words) nodes × Linked (now words) (now heads) (now room) nodes × (nodes + wordCount * nodes ≤ length (now room)) ⌝ }
+    ensures { λ _. ⌜ Worths valuations (now (words .entry)) (now (room .exit)) (varsOf (now (words .entry))) 0 ⌝ }
+{
+    note(room, nodes, BddPointer(0), zero());
+    note(room, nodes, BddPointer(1), from_word(1));
+}
+
+// The worths of all nodes, by chains that are made already.
+pub fn count_down(
+    words: &[u32],
+    heads: &[u32],
+    room: &mut [u32],
+    nodes: usize,
+    vars: u32,
+    valuations: bool,
+)
+    requires { ⌜ Given (now words) nodes × Linked (now words) (now heads) (now room) nodes × (nodes + wordCount * nodes ≤ length (now room)) × (vars ≡ varsOf (now words)) ⌝ }
+    ensures { λ _. ⌜ Worths valuations (now (words .entry)) (now (room .exit)) 0 0 ⌝ }
+{
+    terminals(words, heads, room, nodes, valuations);
+    let mut c = vars;
+    while 0 < c {
+        level(words, heads, room, nodes, c - 1, valuations);
+        c -= 1;
+    }
+}
+
+// The worths of all nodes.
+pub(crate) fn count_all(words: &[u32], room: &mut [u32], nodes: usize, vars: u32, valuations: bool)
+    requires { ⌜ Given (now words) nodes × (vars ≡ varsOf (now words)) × (nodes + wordCount * nodes ≤ length (now room)) ⌝ }
+    ensures { λ _. ⌜ Worths valuations (now (words .entry)) (now (room .exit)) 0 0 ⌝ }
+{
+    let mut heads = [0u32; CHAINS];
+    link(words, &mut heads, room, nodes);
+    count_down(words, &heads, room, nodes, vars, valuations);
+}

@@ -1,0 +1,35 @@
+-- What the search for a size asks. No promise to a caller rests on this file.
+use Prim.Native.Nat.{ℕ, suc, _+_, _-_, _*_, _≤_, _<_}
+use mathlib.Core.Path.{_≡_}
+use mathlib.Core.Bool.{cond}
+use mathlib.Core.List.{List}
+use lib.ListN.{length}
+use lib.Dec.{eqb}
+use Rattle.diagram.specs.Diagram.{size, vars, Ordered}
+use Rattle.approximation.specs.Search.{sizeSearch}
+use Rattle.cuts.specs.Marks.{constantAt}
+use Rattle.trials.specs.Trials.{Ready}
+
+-- A diagram of n nodes, more than the target, with its priorities in the room.
+pub record Halving (w sent r : List ℕ) (t n v : ℕ) : Type 0 where
+  pub ordered : Ordered w
+  pub is-size : n ≡ size w
+  pub is-vars : v ≡ vars w
+  pub least : 2 < t
+  pub more : t < n
+  pub copy : length w ≤ length sent
+  pub long : 26 * n ≤ length r
+  pub ready : Ready w r
+
+-- The search stands between start and stop, after some trials, of which there are at most c.
+pub record At (w : List ℕ) (t c start stop trials : ℕ) : Type 0 where
+  pub within : start ≤ stop
+  pub most : stop ≤ c
+  pub tried : trials ≤ c
+  pub left : stop ≤ start + (c - trials)
+  pub same : sizeSearch w t c 0 c 0 ≡ sizeSearch w t (c - trials) start stop trials
+
+pub record Constant (m t v : ℕ) (r after : List ℕ) (k made-trials : ℕ) : Type 0 where
+  pub room : after ≡ constantAt r (18 * m) t v
+  pub count : k ≡ cond (eqb t 0) 1 2
+  pub trials : made-trials ≡ 0

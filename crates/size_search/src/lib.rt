@@ -1,0 +1,101 @@
+// The search for a size (document 01, "The evening's cut"). Its answer stands in the working room.
+use cuts::cut::SENT;
+use cuts::cut::constant;
+use diagram::lengths::most;
+use diagram::node::BddPointer;
+use trials::answers::keep;
+use trials::first::cut_first;
+use trials::prepare;
+ghost use mathlib.Core.Path.{_≡_};
+ghost use Prim.Native.Nat.{_-_, _<_, _≤_, max};
+ghost use Rattle.diagram.specs.Limits.{maxNodes};
+ghost use Rattle.approximation.specs.Search.{sizeSearch, underToSize};
+ghost use Rattle.trials.specs.Trials.{Searching, Found};
+ghost use Rattle.size_search.specs.Search.{Halving, Constant};
+
+// How many nodes the answer has, and how many cuts by a list were made for it.
+pub struct Sized {
+    pub nodes: usize,
+    pub trials: usize,
+}
+
+// Between none and as many priorities as there are nodes too many, by halves.
+fn search(
+    words: &[u32],
+    sent: &mut [u32],
+    room: &mut [u32],
+    target: usize,
+    nodes: usize,
+    vars: u32,
+) -> Sized
+    requires { ⌜ Halving (now words) (now sent) (now room) target nodes vars ⌝ }
+    ensures { λ r. ⌜ Found (now (words .entry)) (sizeSearch (now (words .entry)) target (nodes - target) 0 (nodes - target) 0) (now (room .entry)) (now (room .exit)) (r .nodes) (r .trials) ⌝ }
+{
+    let mut start = 0;
+    let mut stop = nodes - target;
+    let mut trials = 0;
+    while start < stop {
+        let check = (start + stop) / 2;
+        let made = cut_first(words, sent, room, check, nodes, vars);
+        if made == target {
+            return Sized {
+                nodes: made,
+                trials: trials + 1,
+            };
+        }
+        if made < target {
+            stop = check;
+            trials += 1;
+        } else {
+            start = check + 1;
+            trials += 1;
+        }
+    }
+    let made = cut_first(words, sent, room, stop, nodes, vars);
+    Sized {
+        nodes: made,
+        trials: trials + 1,
+    }
+}
+
+// The search with all it needs, for a target that the early answers don't meet.
+fn searched(words: &[u32], room: &mut [u32], target: usize, nodes: usize, vars: u32) -> Sized
+    requires { ⌜ Searching (now words) (now room) nodes vars × (2 < target) × (target < nodes) ⌝ }
+    ensures { λ r. ⌜ Found (now (words .entry)) (underToSize (now (words .entry)) target) (now (room .entry)) (now (room .exit)) (r .nodes) (r .trials) ⌝ }
+{
+    let mut sent = [0u32; SENT];
+    prepare(words, room, nodes, vars);
+    search(words, &mut sent, room, target, nodes, vars)
+}
+
+// A constant as an answer.
+fn constantly(room: &mut [u32], target: BddPointer, nodes: usize, vars: u32) -> Sized
+    requires { ⌜ nodes ≤ maxNodes ⌝ }
+    ensures { λ r. ⌜ Constant (max nodes 2) (target .0) vars (now (room .entry)) (now (room .exit)) (r .nodes) (r .trials) ⌝ }
+{
+    let made = constant(room, 18 * most(nodes), target, vars);
+    Sized {
+        nodes: made,
+        trials: 0,
+    }
+}
+
+pub fn under_size(words: &[u32], room: &mut [u32], target: u32, nodes: usize, vars: u32) -> Sized
+    requires { ⌜ Searching (now words) (now room) nodes vars ⌝ }
+    ensures { λ r. ⌜ Found (now (words .entry)) (underToSize (now (words .entry)) target) (now (room .entry)) (now (room .exit)) (r .nodes) (r .trials) ⌝ }
+{
+    if target < 2 {
+        return constantly(room, BddPointer(0), nodes, vars);
+    }
+    if target == 2 {
+        if nodes == 2 {
+            return constantly(room, BddPointer(1), nodes, vars);
+        }
+        return constantly(room, BddPointer(0), nodes, vars);
+    }
+    if nodes <= target as usize {
+        keep(words, room, most(nodes));
+        return Sized { nodes, trials: 0 };
+    }
+    searched(words, room, target as usize, nodes, vars)
+}

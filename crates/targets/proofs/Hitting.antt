@@ -1,0 +1,226 @@
+-- From what a search finds to what is answered: as it is, or negated back.
+use Prim.Native.Nat.{ℕ, _+_, _-_, _*_, _≤_, _<_, max, min}
+use mathlib.Core.Path.{_≡_, refl, sym, ap, _∙_}
+use mathlib.Core.List.{List, _++_}
+use mathlib.Core.Bool.{false}
+use native.Mathlib.Omega.{arith}
+use lib.ListN.{length, getD, take, drop, replicate}
+use lib.Seq.{getD-take, take-append-seam, length-take-le}
+use borrow.Author.Tests.{ltb-false}
+use lib.ListN.{getD-replicate}
+use Rattle.diagram.specs.Limits.{maxNodes}
+use Rattle.diagram.specs.Diagram.{size, vars, Accepted, Ordered}
+use Rattle.diagram.specs.Verdict.{Outcome, accepted, refused, said, andThen, ifAccepted, verdictOf, short, most, roomOf, roomAfter, Checked}
+use Rattle.diagram.specs.declared.verdict.Verdict.{Verdict}
+use Rattle.diagram.specs.declared.verdict.Verdict.the-variants.{Accepted as Yes, Refused as No}
+use Rattle.diagram.specs.declared.verdict.Output.the-variants.{Diagram}
+use Rattle.diagram.proofs.Reading.{accepted-ordered}
+use Rattle.diagram.proofs.Entering.{admitted, lent-fits, lent-zero}
+use Rattle.negation.specs.Negation.{negated, over, Ready}
+use Rattle.negation.proofs.Meaning.{negated-vars, negated-accepted, negated-twice, negated-most}
+use Rattle.approximation.specs.Cut.{Under}
+use Rattle.approximation.specs.Search.{Answer, back}
+use Rattle.cuts.proofs.Answering.{zeros-back}
+use Rattle.trials.specs.Trials.{Searching, Found}
+use Rattle.trials.specs.Answers.{answerIn, Giving, Given, Returning, Returned}
+use Rattle.targets.specs.Targets.{Meets, Targeting, Hit}
+
+-- The negation stands at the front of a list.
+pub record Flipped (w : List ℕ) (made : ℕ) (flipped : List ℕ) : Type 0 where
+  pub count : made ≡ size (negated w)
+  pub words : take (3 * made) flipped ≡ negated w
+
+module _ {w r out : List ℕ} {n v : ℕ} (a : Targeting w r out n v) where
+  ordered : Ordered w
+  ordered = accepted-ordered w (a .accepted)
+
+  pub targeting-searches : Searching w r n v
+  targeting-searches =
+      let long = a .long in
+      record {
+        accepted = a .accepted;
+        is-size = a .is-size;
+        is-vars = a .is-vars;
+        long = omega arith;
+        zero = λ j h. a .zero j (omega arith);
+      }
+
+  module _ {m : ℕ} (is-m : m ≡ max n 2) where
+    m-is : m ≡ most w
+    m-is = is-m ∙ ap (λ (k : ℕ). max k 2) (a .is-size)
+
+    -- The room is as it was.
+    room-back : (s u : List ℕ) → length s ≡ length r → drop (26 * m) s ≡ drop (26 * m) r → u ≡ replicate (26 * m) 0 ++ drop (26 * m) s → u ≡ r
+    room-back s u same rest e =
+        let is = m-is in
+        let long = a .long in
+        let all : 26 * m ≡ min (26 * m) (length s) = omega arith in
+        e ∙ ap (λ (i : ℕ). replicate i 0 ++ drop (26 * m) s) all ∙ zeros-back (26 * m) r s (omega arith) (λ j h. a .zero j (omega arith)) same rest
+
+    -- ---- as it is
+
+    module _ {b : Answer} {s : List ℕ} {k trials : ℕ} (f : Found w b r s k trials) where
+      pub found-gives : Giving s out m k
+      found-gives =
+          let is = m-is in
+          let few = ordered .formed .few in
+          let fits = f .fits in
+          let long = a .long in
+          let kept = f .kept in
+          let output = a .output in
+          record { few = omega arith; nodes = omega arith; long = omega arith; output = omega arith }
+
+      answer-is : answerIn m s k ≡ b .words
+      answer-is = ap (λ (i : ℕ). take (3 * k) (drop (18 * i) s)) m-is ∙ f .made
+
+      rest-is : drop (26 * m) s ≡ drop (26 * m) r
+      rest-is = ap (λ (i : ℕ). drop (26 * i) s) m-is ∙ f .beyond ∙ ap (λ (i : ℕ). drop (26 * i) r) (sym m-is)
+
+      pub found-hits : {u out′ : List ℕ} → Given m k s out u out′ → Hit b r u out out′ k trials
+      found-hits {u} g = record {
+        count = f .count;
+        trials = f .trials;
+        room = room-back s u (f .kept) rest-is (g .room);
+        written = g .written ∙ (rw (answer-is, f .words) refl);
+      }
+
+  -- ---- negated back
+
+  most-same : most (negated w) ≡ most w
+  most-same =
+      let one = negated-most w (a .accepted) in
+      let two = negated-most (negated w) (negated-accepted w (a .accepted)) in
+      let twice = ap (λ (l : List ℕ). size l) (negated-twice w (a .accepted)) in
+      omega arith
+
+  pub negation-ready : Ready w v
+  negation-ready = record { formed = a .accepted .formed; count = a .is-vars }
+
+  length-of : (x : List ℕ) → Accepted x → length x ≡ 3 * size x
+  length-of x acc = let whole = acc .formed .whole in omega arith
+
+  pub negation-few : length (negated w) ≤ 3 * maxNodes
+  negation-few =
+      let l = length-of (negated w) (negated-accepted w (a .accepted)) in
+      let few = negated-accepted w (a .accepted) .formed .few in
+      omega arith
+
+  pub flip : (before : List ℕ) {made : ℕ} {flipped : List ℕ} → (made ≡ size (negated w)) × (flipped ≡ over (negated w) before) → Flipped w made flipped
+  flip before {made} {flipped} (count, written) =
+      let l = length-of (negated w) (negated-accepted w (a .accepted)) in
+      let long : 3 * made ≡ length (negated w) = omega arith in
+      record {
+        count = count;
+        words = ap (λ (k : ℕ). take k flipped) long ∙ ap (λ (l : List ℕ). take (length (negated w)) l) written
+            ∙ take-append-seam (negated w) (drop (length (negated w)) before);
+      }
+
+  module _ {made : ℕ} {flipped : List ℕ} (e : Flipped w made flipped) where
+    pub flipped-few : made ≤ maxNodes
+    flipped-few = let few = negated-accepted w (a .accepted) .formed .few in let m = e .count in omega arith
+
+    pub flipped-searches : Searching (take (3 * made) flipped) r made v
+    flipped-searches =
+        let long = a .long in
+        let same = most-same in
+        rw (e .words) (record {
+          accepted = negated-accepted w (a .accepted);
+          is-size = e .count;
+          is-vars = a .is-vars ∙ sym (negated-vars w (a .accepted));
+          long = omega arith;
+          zero = λ j h. a .zero j (omega arith);
+        })
+
+    module _ {m : ℕ} (is-m : m ≡ max n 2) {b : Answer} {s : List ℕ} {k trials : ℕ} (f : Found (take (3 * made) flipped) b r s k trials)
+        (u : Under (take (3 * made) flipped) (b .words)) where
+      mm : m ≡ most w
+      mm = m-is is-m
+
+      f-is : Found (negated w) b r s k trials
+      f-is = rw (e .words) at f
+
+      u-is : Under (negated w) (b .words)
+      u-is = rw (e .words) at u
+
+      answer-back : answerIn m s k ≡ b .words
+      answer-back = ap (λ (i : ℕ). take (3 * k) (drop (18 * i) s)) (mm ∙ sym most-same) ∙ f-is .made
+
+      pub back-returns : Returning s out m k v
+      back-returns =
+          let is = mm in
+          let same = most-same in
+          let few = ordered .formed .few in
+          let fits = f-is .fits in
+          let long = a .long in
+          let kept = f-is .kept in
+          let output = a .output in
+          let count = f-is .count in
+          let l = length-of (negated (b .words)) (negated-accepted (b .words) (u-is .accepted)) in
+          let less = negated-most (b .words) (u-is .accepted) in
+          record {
+            giving = record { few = omega arith; nodes = omega arith; long = omega arith; output = omega arith };
+            is-size = rw answer-back (f-is .count);
+            ready = rw answer-back (record { formed = u-is .accepted .formed; count = a .is-vars ∙ sym (u-is .variables ∙ negated-vars w (a .accepted)) });
+            fits = rw answer-back (omega arith);
+          }
+
+      pub back-hits : {room-after out′ : List ℕ} {c : ℕ} → Returned m k s out room-after out′ c → Hit (back b) r room-after out out′ c trials
+      unfolding back
+      back-hits {room-after} {out′} {c} g =
+          let rest : drop (26 * m) s ≡ drop (26 * m) r =
+          ap (λ (i : ℕ). drop (26 * i) s) (mm ∙ sym most-same) ∙ f-is .beyond ∙ ap (λ (i : ℕ). drop (26 * i) r) (most-same ∙ sym mm) in
+          record {
+            count = rw answer-back at (g .count);
+            trials = f-is .trials;
+            room = room-back is-m s room-after (f-is .kept) rest (g .room);
+            written = rw answer-back at (g .written);
+          }
+
+-- ---- the verdicts
+
+room-zero : (r : List ℕ) (k : ℕ) → take k r ≡ replicate k 0 → (j : ℕ) → j < k → getD r j 0 ≡ 0
+room-zero r k e j h = sym (getD-take k r j 0 h) ∙ ap (λ (l : List ℕ). getD l j 0) e ∙ getD-replicate k j 0 0 h
+
+lent-enough : (w : List ℕ) (lent : ℕ) → short w (Diagram lent) ≡ false → 3 * most w ≤ lent
+unfolding short
+lent-enough w lent e = ltb-false lent (3 * most w) e
+
+module _ {w before after : List ℕ} (out : List ℕ) {verdict : Verdict} (checked : Checked w (Diagram (length out)) before after verdict) where
+  -- A refusal of the check, whatever would come after it.
+  pub check-refuses : {k p : ℕ} → verdict ≡ No k p → (next : Outcome) (b : Answer)
+      → Meets (andThen (verdictOf w (Diagram (length out)) (length before)) next) b w before after out out verdict 0 0
+  check-refuses {k} {p} e next b =
+      let told : verdictOf w (Diagram (length out)) (length before) ≡ refused k p = sym (checked .verdict) ∙ ap said e in
+      record { verdict = rw told (ap said e); nodes = rw told refl; trials = rw told refl; output = rw told refl; left = checked .left }
+
+  pub size-refuses : {k p : ℕ} → verdict ≡ No k p → (b : Answer)
+      → Meets (verdictOf w (Diagram (length out)) (length before)) b w before after out out verdict 0 0
+  size-refuses {k} {p} e b =
+      let told : verdictOf w (Diagram (length out)) (length before) ≡ refused k p = sym (checked .verdict) ∙ ap said e in
+      record { verdict = rw told (ap said e); nodes = rw told refl; trials = rw told refl; output = rw told refl; left = checked .left }
+
+  module _ {n v : ℕ} (e : verdict ≡ Yes n v) where
+    told : verdictOf w (Diagram (length out)) (length before) ≡ accepted n v
+    told = sym (checked .verdict) ∙ ap said e
+
+    pub check-targets : Targeting w after out n v
+    check-targets =
+        let given = admitted checked e in
+        record {
+          accepted = given .accepted;
+          is-size = given .nodes;
+          is-vars = given .variables;
+          long = lent-fits checked e (roomOf w) (omega arith);
+          zero = λ j h. room-zero after (roomOf w) (lent-zero checked e (roomOf w) (omega arith)) j h;
+          output = lent-enough w (length out) (given .lent);
+        }
+
+    pub size-meets : {b : Answer} {after′ out′ : List ℕ} {k trials : ℕ} → Hit b after after′ out out′ k trials
+        → Meets (verdictOf w (Diagram (length out)) (length before)) b w before after′ out out′ (Yes n v) k trials
+    size-meets h = record {
+      verdict = sym told;
+      nodes = rw told (h .count);
+      trials = rw told (h .trials);
+      output = rw told (h .written);
+      left = h .room ∙ checked .left;
+    }

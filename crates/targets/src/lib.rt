@@ -1,0 +1,11 @@
+// Cutting to a target (document 01, "The evening's cut").
+pub mod size;
+
+use diagram::verdict::Verdict;
+
+// A verdict; how many nodes stand in the output, and how many cuts by a list were made: none where the request is refused.
+pub struct Approximated {
+    pub verdict: Verdict,
+    pub nodes: usize,
+    pub trials: usize,
+}

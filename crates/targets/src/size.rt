@@ -1,0 +1,103 @@
+// To a size.
+use crate::Approximated;
+use cuts::cut::SENT;
+use diagram::lengths::most;
+use diagram::validate::admit;
+use diagram::verdict::Output;
+use diagram::verdict::Verdict;
+use negation::negate;
+use size_search::Sized;
+use size_search::under_size;
+use trials::answers::give;
+use trials::answers::give_back;
+ghost use lib.ListN.{length};
+ghost use Rattle.approximation.specs.Search.{underToSize, overToSize};
+ghost use Rattle.targets.specs.Targets.{sizeVerdict, Meets, Targeting, Hit};
+
+fn under(
+    words: &[u32],
+    target: u32,
+    room: &mut [u32],
+    output: &mut [u32],
+    nodes: usize,
+    vars: u32,
+) -> Sized
+    requires { ⌜ Targeting (now words) (now room) (now output) nodes vars ⌝ }
+    ensures { λ r. ⌜ Hit (underToSize (now (words .entry)) target) (now (room .entry)) (now (room .exit)) (now (output .entry)) (now (output .exit)) (r .nodes) (r .trials) ⌝ }
+{
+    let found = under_size(words, room, target, nodes, vars);
+    give(room, output, most(nodes), found.nodes);
+    found
+}
+
+// Negate, underapproximate, negate.
+fn over(
+    words: &[u32],
+    target: u32,
+    room: &mut [u32],
+    output: &mut [u32],
+    nodes: usize,
+    vars: u32,
+) -> Sized
+    requires { ⌜ Targeting (now words) (now room) (now output) nodes vars ⌝ }
+    ensures { λ r. ⌜ Hit (overToSize (now (words .entry)) target) (now (room .entry)) (now (room .exit)) (now (output .entry)) (now (output .exit)) (r .nodes) (r .trials) ⌝ }
+{
+    let mut flipped = [0u32; SENT];
+    let made = negate(words, &mut flipped, nodes, vars);
+    let found = under_size(&flipped[..3 * made], room, target, made, vars);
+    let count = give_back(room, output, most(nodes), found.nodes, vars);
+    Sized {
+        nodes: count,
+        trials: found.trials,
+    }
+}
+
+// For a target of two nodes or more the answer has at most so many, and it holds only where the diagram does.
+pub fn underapproximate_to_size(
+    words: &[u32],
+    target: u32,
+    room: &mut [u32],
+    output: &mut [u32],
+) -> Approximated
+    ensures { λ r. ⌜ Meets (sizeVerdict (now (words .entry)) (length (now (output .entry))) (length (now (room .entry)))) (underToSize (now (words .entry)) target) (now (words .entry)) (now (room .entry)) (now (room .exit)) (now (output .entry)) (now (output .exit)) (r .verdict) (r .nodes) (r .trials) ⌝ }
+{
+    let verdict = admit(words, room, Output::Diagram(output.len()));
+    let Verdict::Accepted { nodes, vars } = verdict else {
+        return Approximated {
+            verdict,
+            nodes: 0,
+            trials: 0,
+        };
+    };
+    let found = under(words, target, room, output, nodes, vars);
+    Approximated {
+        verdict: Verdict::Accepted { nodes, vars },
+        nodes: found.nodes,
+        trials: found.trials,
+    }
+}
+
+// For a target of two nodes or more the answer has at most so many, and it holds wherever the diagram does.
+pub fn overapproximate_to_size(
+    words: &[u32],
+    target: u32,
+    room: &mut [u32],
+    output: &mut [u32],
+) -> Approximated
+    ensures { λ r. ⌜ Meets (sizeVerdict (now (words .entry)) (length (now (output .entry))) (length (now (room .entry)))) (overToSize (now (words .entry)) target) (now (words .entry)) (now (room .entry)) (now (room .exit)) (now (output .entry)) (now (output .exit)) (r .verdict) (r .nodes) (r .trials) ⌝ }
+{
+    let verdict = admit(words, room, Output::Diagram(output.len()));
+    let Verdict::Accepted { nodes, vars } = verdict else {
+        return Approximated {
+            verdict,
+            nodes: 0,
+            trials: 0,
+        };
+    };
+    let found = over(words, target, room, output, nodes, vars);
+    Approximated {
+        verdict: Verdict::Accepted { nodes, vars },
+        nodes: found.nodes,
+        trials: found.trials,
+    }
+}

@@ -1,0 +1,43 @@
+-- The answer of a search in the working room, and how it is given. No promise to a caller rests on this file.
+use Prim.Native.Nat.{ℕ, _+_, _-_, _*_, _≤_, _<_, min}
+use mathlib.Core.Path.{_≡_}
+use mathlib.Core.List.{List, _++_}
+use lib.ListN.{length, getD, take, drop, replicate}
+use Rattle.diagram.specs.Limits.{maxNodes}
+use Rattle.diagram.specs.Diagram.{size, vars}
+use Rattle.negation.specs.Negation.{negated, over, Ready}
+
+-- The words of an answer of k nodes.
+abbrev pub answerIn : ℕ → List ℕ → ℕ → List ℕ
+answerIn m r k = take (3 * k) (drop (18 * m) r)
+
+pub record Keeping (w r : List ℕ) (m : ℕ) : Type 0 where
+  pub few : m ≤ maxNodes
+  pub fits : length w ≤ 3 * m
+  pub long : 26 * m ≤ length r
+
+pub record Kept (w : List ℕ) (m : ℕ) (r after : List ℕ) : Type 0 where
+  pub kept : length after ≡ length r
+  pub made : take (length w) (drop (18 * m) after) ≡ w
+  pub beyond : drop (26 * m) after ≡ drop (26 * m) r
+
+pub record Giving (r out : List ℕ) (m k : ℕ) : Type 0 where
+  pub few : m ≤ maxNodes
+  pub nodes : k ≤ m
+  pub long : 26 * m ≤ length r
+  pub output : 3 * m ≤ length out
+
+pub record Given (m k : ℕ) (r out r′ out′ : List ℕ) : Type 0 where
+  pub room : r′ ≡ replicate (26 * m) 0 ++ drop (26 * m) r
+  pub written : out′ ≡ answerIn m r k ++ drop (3 * k) out
+
+pub record Returning (r out : List ℕ) (m k v : ℕ) : Type 0 where
+  pub giving : Giving r out m k
+  pub is-size : k ≡ size (answerIn m r k)
+  pub ready : Ready (answerIn m r k) v
+  pub fits : length (negated (answerIn m r k)) ≤ length out
+
+pub record Returned (m k : ℕ) (r out r′ out′ : List ℕ) (made : ℕ) : Type 0 where
+  pub room : r′ ≡ replicate (26 * m) 0 ++ drop (26 * m) r
+  pub count : made ≡ size (negated (answerIn m r k))
+  pub written : out′ ≡ over (negated (answerIn m r k)) out
