@@ -8,6 +8,7 @@ set -u
 cd "$(dirname "$0")" || exit 2
 if ! command -v rt > /dev/null; then
     echo "test.sh: the Rattle toolchain's command rt is not on this machine's PATH" >&2
+    echo "0 passed, 1 failed"
     exit 2
 fi
 
@@ -73,24 +74,22 @@ step "layout" rt fmt --check
 if gate; then
     step "archive for C and Rust" make_archive
     if [ ! -f "$archive" ]; then
-        leave_out "the C test, the replay and the Rust tests, since there is no archive"
+        leave_out "the C test, the replay and the Rust tests: there is no archive"
+    elif [ "$(uname -m)" != x86_64 ]; then
+        leave_out "the C test, the replay and the Rust tests: the archive links only on x86-64, and this machine is $(uname -m)"
+    elif ! cc --version > /dev/null 2>&1; then
+        leave_out "the C test, the replay and the Rust tests: there is no C compiler (cc) on this machine"
     else
-        if command -v cc > /dev/null; then
-            step "C test" c_test
-            step "replay" replay
-        else
-            leave_out "the C test and the replay: there is no C compiler (cc) on this machine"
-        fi
-        if ! command -v cargo > /dev/null; then
-            leave_out "the Rust tests: there is no cargo on this machine"
-        elif ! command -v cc > /dev/null; then
-            leave_out "the Rust tests: cargo needs a linker (cc)"
-        else
+        step "C test" c_test
+        step "replay" replay
+        if cargo --version > /dev/null 2>&1; then
             step "Rust tests" rust_tests
+        else
+            leave_out "the Rust tests: there is no cargo on this machine"
         fi
     fi
 else
-    leave_out "the archive, the C test, the replay and the Rust tests, since rt ci failed"
+    leave_out "the archive, the C test, the replay and the Rust tests: rt ci failed"
 fi
 
 [ -z "$left_out" ] || echo "${left_out#?}"
