@@ -90,6 +90,7 @@ pub struct Trials {
 macro_rules! asks {
     ($(#[$meta:meta])* $name:ident, $symbol:ident, $answer:ty) => {
         $(#[$meta])*
+        #[doc = concat!("[`crate::", stringify!($name), "`], over what is lent.")]
         pub fn $name(words: &[u32], room: &mut [u32]) -> $answer {
             extern "C" {
                 fn $symbol(words: *const u32, words_len: usize, room: *mut u32, room_len: usize) -> $answer;
@@ -103,6 +104,7 @@ macro_rules! asks {
 macro_rules! writes {
     ($(#[$meta:meta])* $name:ident, $symbol:ident, $answer:ty) => {
         $(#[$meta])*
+        #[doc = concat!("[`crate::", stringify!($name), "`], over what is lent.")]
         pub fn $name(words: &[u32], room: &mut [u32], output: &mut [u32]) -> $answer {
             extern "C" {
                 fn $symbol(
@@ -119,6 +121,7 @@ macro_rules! writes {
 macro_rules! cuts_by_list {
     ($(#[$meta:meta])* $name:ident, $symbol:ident) => {
         $(#[$meta])*
+        #[doc = concat!("[`crate::", stringify!($name), "`], over what is lent.")]
         pub fn $name(words: &[u32], list: &[u32], room: &mut [u32], output: &mut [u32]) -> Diagram {
             extern "C" {
                 fn $symbol(
@@ -136,6 +139,7 @@ macro_rules! cuts_by_list {
 macro_rules! cuts_to {
     ($(#[$meta:meta])* $name:ident, $symbol:ident, $target:ty) => {
         $(#[$meta])*
+        #[doc = concat!("[`crate::", stringify!($name), "`], over what is lent.")]
         pub fn $name(words: &[u32], target: $target, room: &mut [u32], output: &mut [u32]) -> Trials {
             extern "C" {
                 fn $symbol(
