@@ -97,7 +97,7 @@ static size_t damaged(size_t len) {
         words[0] = edges[below(sizeof edges / 4)];
         if (n > 1) words[3] = words[0];
         return len;
-    default: words[3 * (at / 3) + 1 + below(2)] = (uint32_t)below(n); return len;
+    default: at = 3 * (at / 3) + 1 + below(2); words[at] = (uint32_t)below(n); return len;
     }
 }
 
@@ -222,7 +222,10 @@ static void one_request(size_t guard) {
     size_t list_len = o->argument == LIST ? any_list(n) : 0;
     uint32_t target[8];
     any_target(o, n, len ? words[0] : 0, target);
-    Loan l = loan(words, len, list, list_len, any_length(HOUAYLETAN_ROOM(n)), any_length(output_asked(o->output, n)), (uint32_t)next(), guard);
+    /* one after the other, so that a seed means the same with every compiler */
+    size_t room_len = any_length(HOUAYLETAN_ROOM(n));
+    size_t output_len = any_length(output_asked(o->output, n));
+    Loan l = loan(words, len, list, list_len, room_len, output_len, (uint32_t)next(), guard);
     Request q = request_of(&l, target);
     Reply r = call(o, &q);
     check_call(o, &l, &q, &r);
