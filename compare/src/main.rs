@@ -198,14 +198,17 @@ fn main() {
     }
 }
 
-/// As many requests of every operation; small diagrams, and a few large ones.
+/// Small diagrams, and a few large ones. The searches come up three times as often as the others, with more nodes.
 fn store(random: &mut Random, requests: u64) {
+    let searches = OPERATIONS.len() - 4..OPERATIONS.len();
+    let turn: Vec<usize> = (0..OPERATIONS.len()).chain(searches.clone()).chain(searches.clone()).collect();
     for i in 0..requests {
-        let operation = i as usize % OPERATIONS.len();
-        let (least, most) = match i / OPERATIONS.len() as u64 {
+        let operation = turn[i as usize % turn.len()];
+        let (least, most) = match i / turn.len() as u64 {
             0 if i % 5 == 0 => (2000, 4096),
             0 | 1 => (150, 600),
             round if round % 8 == 0 => (0, random.from_to(30, 120)),
+            _ if searches.contains(&operation) => (0, random.from_to(6, 40)),
             _ => (0, random.from_to(3, 24)),
         };
         let request = loop {
