@@ -45,7 +45,6 @@
 #ifndef HOUAYLETAN_H
 #define HOUAYLETAN_H
 
-#include <stdbool.h>
 #include <stddef.h>
 #include <stdint.h>
 
@@ -115,42 +114,36 @@ void houayletan_clear(uint32_t *room, size_t room_len, size_t count);
 
 #ifdef HOUAYLETAN_NEXT /* declared, and not in the archive yet */
 
-/* A verdict with a number, which is 0 where the input is refused. */
+/* A verdict with a number, or with a yes as 1 and a no as 0; 0 where the input is refused. */
 typedef struct {
     HouayletanVerdict verdict;
     size_t amount;
 } HouayletanAmount;
-
-/* A verdict, and whether it is so, which is false where the input is refused. */
-typedef struct {
-    HouayletanVerdict verdict;
-    bool yes;
-} HouayletanAnswer;
 
 /* As HouayletanDiagram, with the number of cuts by a list that the search made, the last included; 0 where it made none. */
 typedef struct {
     HouayletanVerdict verdict;
     size_t nodes;
     size_t trials;
-} HouayletanTrials;
+} HouayletanApproximation;
 
-/* A count target, by value. */
+/* A number of 8 words, least first: a count target, by value. */
 typedef struct {
-    uint32_t count[8];
-} HouayletanTarget;
+    uint32_t words[8];
+} HouayletanNatural;
 
 /* The number of nodes of the array, and of variables. Refusals 1 to 3 and 5 to 12. */
 HouayletanAmount houayletan_size(const uint32_t *words, size_t words_len, uint32_t *room, size_t room_len);
 HouayletanAmount houayletan_num_vars(const uint32_t *words, size_t words_len, uint32_t *room, size_t room_len);
 
 /* Whether the array has two nodes, and whether it has one: true and false by the array alone. Refusals 1 to 3 and 5 to 12. */
-HouayletanAnswer houayletan_is_true(const uint32_t *words, size_t words_len, uint32_t *room, size_t room_len);
-HouayletanAnswer houayletan_is_false(const uint32_t *words, size_t words_len, uint32_t *room, size_t room_len);
+HouayletanAmount houayletan_is_true(const uint32_t *words, size_t words_len, uint32_t *room, size_t room_len);
+HouayletanAmount houayletan_is_false(const uint32_t *words, size_t words_len, uint32_t *room, size_t room_len);
 
 /* Whether the diagram is one conjunction of literals, and whether it holds for one valuation alone. A yes is right; a no is
  * right for a reduced array. Refusals 1 to 3 and 5 to 12. */
-HouayletanAnswer houayletan_is_clause(const uint32_t *words, size_t words_len, uint32_t *room, size_t room_len);
-HouayletanAnswer houayletan_is_valuation(const uint32_t *words, size_t words_len, uint32_t *room, size_t room_len);
+HouayletanAmount houayletan_is_clause(const uint32_t *words, size_t words_len, uint32_t *room, size_t room_len);
+HouayletanAmount houayletan_is_valuation(const uint32_t *words, size_t words_len, uint32_t *room, size_t room_len);
 
 /* How many nodes each variable has: the first v words of an output of at least 255. Refusals 1 to 12. */
 HouayletanVerdict houayletan_size_per_variable(const uint32_t *words, size_t words_len, uint32_t *room, size_t room_len,
@@ -169,17 +162,17 @@ HouayletanDiagram houayletan_overapproximate(const uint32_t *words, size_t words
 
 /* Cuts to at most target nodes, the nodes of least weight first. A diagram that has no more than target nodes comes out as
  * it is. Targets 0 and 1 give false (under) or true (over, two nodes). Refusals 1 to 12. */
-HouayletanTrials houayletan_underapproximate_to_size(const uint32_t *words, size_t words_len, uint32_t target,
-                                                     uint32_t *room, size_t room_len, uint32_t *output, size_t output_len);
-HouayletanTrials houayletan_overapproximate_to_size(const uint32_t *words, size_t words_len, uint32_t target,
-                                                    uint32_t *room, size_t room_len, uint32_t *output, size_t output_len);
+HouayletanApproximation houayletan_underapproximate_to_size(const uint32_t *words, size_t words_len, uint32_t target,
+                                                            uint32_t *room, size_t room_len, uint32_t *output, size_t output_len);
+HouayletanApproximation houayletan_overapproximate_to_size(const uint32_t *words, size_t words_len, uint32_t target,
+                                                           uint32_t *room, size_t room_len, uint32_t *output, size_t output_len);
 
 /* Cuts to a count of at most target (under) or at least target (over). Where the count is so already the diagram comes out
  * as it is, except that under to 0 gives the one-node false. Refusals 1 to 12 and 19 (under), 1 to 12, 16 and 19 (over). */
-HouayletanTrials houayletan_underapproximate_to_cardinality(const uint32_t *words, size_t words_len, HouayletanTarget target,
-                                                            uint32_t *room, size_t room_len, uint32_t *output, size_t output_len);
-HouayletanTrials houayletan_overapproximate_to_cardinality(const uint32_t *words, size_t words_len, HouayletanTarget target,
-                                                           uint32_t *room, size_t room_len, uint32_t *output, size_t output_len);
+HouayletanApproximation houayletan_underapproximate_to_cardinality(const uint32_t *words, size_t words_len, HouayletanNatural target,
+                                                                   uint32_t *room, size_t room_len, uint32_t *output, size_t output_len);
+HouayletanApproximation houayletan_overapproximate_to_cardinality(const uint32_t *words, size_t words_len, HouayletanNatural target,
+                                                                  uint32_t *room, size_t room_len, uint32_t *output, size_t output_len);
 
 #endif
 

@@ -128,13 +128,8 @@ fn amount(a: lent::Amount) -> (lent::Verdict, Vec<u64>, usize) {
     (a.verdict, vec![a.amount as u64], 0)
 }
 
-#[cfg(has = "is_true")]
-fn answer(a: lent::Answer) -> (lent::Verdict, Vec<u64>, usize) {
-    (a.verdict, vec![a.yes as u64], 0)
-}
-
 #[cfg(any(has = "underapproximate_to_size", has = "underapproximate_to_cardinality"))]
-fn trials(t: lent::Trials) -> (lent::Verdict, Vec<u64>, usize) {
+fn approximation(t: lent::Approximation) -> (lent::Verdict, Vec<u64>, usize) {
     (t.verdict, vec![t.nodes as u64, t.trials as u64], 3 * t.nodes)
 }
 
@@ -157,10 +152,10 @@ fn call(request: &Request, w: &[u32], list: &[u32], room: &mut [u32], out: &mut 
         }
         Size => if_there!("size", amount(lent::size(w, room))),
         NumVars => if_there!("num_vars", amount(lent::num_vars(w, room))),
-        IsTrue => if_there!("is_true", answer(lent::is_true(w, room))),
-        IsFalse => if_there!("is_false", answer(lent::is_false(w, room))),
-        IsClause => if_there!("is_clause", answer(lent::is_clause(w, room))),
-        IsValuation => if_there!("is_valuation", answer(lent::is_valuation(w, room))),
+        IsTrue => if_there!("is_true", amount(lent::is_true(w, room))),
+        IsFalse => if_there!("is_false", amount(lent::is_false(w, room))),
+        IsClause => if_there!("is_clause", amount(lent::is_clause(w, room))),
+        IsValuation => if_there!("is_valuation", amount(lent::is_valuation(w, room))),
         SizePerVariable => if_there!("size_per_variable", {
             let verdict = lent::size_per_variable(w, room, out);
             (verdict, vec![], verdict.vars as usize)
@@ -168,13 +163,13 @@ fn call(request: &Request, w: &[u32], list: &[u32], room: &mut [u32], out: &mut 
         Not => if_there!("not", diagram(lent::not(w, room, out))),
         Underapproximate => if_there!("underapproximate", diagram(lent::underapproximate(w, list, room, out))),
         Overapproximate => if_there!("overapproximate", diagram(lent::overapproximate(w, list, room, out))),
-        UnderapproximateToSize => if_there!("underapproximate_to_size", trials(lent::underapproximate_to_size(w, size, room, out))),
-        OverapproximateToSize => if_there!("overapproximate_to_size", trials(lent::overapproximate_to_size(w, size, room, out))),
+        UnderapproximateToSize => if_there!("underapproximate_to_size", approximation(lent::underapproximate_to_size(w, size, room, out))),
+        OverapproximateToSize => if_there!("overapproximate_to_size", approximation(lent::overapproximate_to_size(w, size, room, out))),
         UnderapproximateToCardinality => {
-            if_there!("underapproximate_to_cardinality", trials(lent::underapproximate_to_cardinality(w, count, room, out)))
+            if_there!("underapproximate_to_cardinality", approximation(lent::underapproximate_to_cardinality(w, count, room, out)))
         }
         OverapproximateToCardinality => {
-            if_there!("overapproximate_to_cardinality", trials(lent::overapproximate_to_cardinality(w, count, room, out)))
+            if_there!("overapproximate_to_cardinality", approximation(lent::overapproximate_to_cardinality(w, count, room, out)))
         }
     }
 }

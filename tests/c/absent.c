@@ -13,10 +13,10 @@ static const HouayletanVerdict absent = {UINT32_MAX, 0, 0, 0};
 
 WEAK HouayletanAmount houayletan_size(V, R) { return (HouayletanAmount){absent, 0}; }
 WEAK HouayletanAmount houayletan_num_vars(V, R) { return (HouayletanAmount){absent, 0}; }
-WEAK HouayletanAnswer houayletan_is_true(V, R) { return (HouayletanAnswer){absent, 0}; }
-WEAK HouayletanAnswer houayletan_is_false(V, R) { return (HouayletanAnswer){absent, 0}; }
-WEAK HouayletanAnswer houayletan_is_clause(V, R) { return (HouayletanAnswer){absent, 0}; }
-WEAK HouayletanAnswer houayletan_is_valuation(V, R) { return (HouayletanAnswer){absent, 0}; }
+WEAK HouayletanAmount houayletan_is_true(V, R) { return (HouayletanAmount){absent, 0}; }
+WEAK HouayletanAmount houayletan_is_false(V, R) { return (HouayletanAmount){absent, 0}; }
+WEAK HouayletanAmount houayletan_is_clause(V, R) { return (HouayletanAmount){absent, 0}; }
+WEAK HouayletanAmount houayletan_is_valuation(V, R) { return (HouayletanAmount){absent, 0}; }
 WEAK HouayletanVerdict houayletan_size_per_variable(V, R, O) { return absent; }
 WEAK HouayletanDiagram houayletan_not(V, R, O) { return (HouayletanDiagram){absent, 0}; }
 #define CUT_BY_LIST(name) \
@@ -24,8 +24,8 @@ WEAK HouayletanDiagram houayletan_not(V, R, O) { return (HouayletanDiagram){abse
 CUT_BY_LIST(houayletan_underapproximate)
 CUT_BY_LIST(houayletan_overapproximate)
 #define CUT_TO(name, target_type) \
-    WEAK HouayletanTrials name(V, target_type target, R, O) { return (HouayletanTrials){absent, 0, 0}; }
+    WEAK HouayletanApproximation name(V, target_type target, R, O) { return (HouayletanApproximation){absent, 0, 0}; }
 CUT_TO(houayletan_underapproximate_to_size, uint32_t)
 CUT_TO(houayletan_overapproximate_to_size, uint32_t)
-CUT_TO(houayletan_underapproximate_to_cardinality, HouayletanTarget)
-CUT_TO(houayletan_overapproximate_to_cardinality, HouayletanTarget)
+CUT_TO(houayletan_underapproximate_to_cardinality, HouayletanNatural)
+CUT_TO(houayletan_overapproximate_to_cardinality, HouayletanNatural)

@@ -4,6 +4,7 @@
 
 #define HOUAYLETAN_NEXT
 #include "../../include/houayletan.h"
+#include <stdbool.h>
 #include <string.h>
 
 typedef struct {
@@ -53,12 +54,6 @@ static void reply_amount(HouayletanAmount a, Reply *r) {
     r->value[0] = a.amount;
 }
 
-static void reply_answer(HouayletanAnswer a, Reply *r) {
-    r->verdict = a.verdict;
-    r->values = 1;
-    r->value[0] = a.yes;
-}
-
 static void reply_diagram(HouayletanDiagram a, Reply *r) {
     r->verdict = a.verdict;
     r->values = 1;
@@ -66,7 +61,7 @@ static void reply_diagram(HouayletanDiagram a, Reply *r) {
     r->written = 3 * a.nodes;
 }
 
-static void reply_trials(HouayletanTrials a, Reply *r) {
+static void reply_approximation(HouayletanApproximation a, Reply *r) {
     r->verdict = a.verdict;
     r->values = 2;
     r->value[0] = a.nodes;
@@ -74,9 +69,9 @@ static void reply_trials(HouayletanTrials a, Reply *r) {
     r->written = 3 * a.nodes;
 }
 
-static HouayletanTarget target_of(const Request *q) {
-    HouayletanTarget t;
-    memcpy(t.count, q->target, sizeof t.count);
+static HouayletanNatural target_of(const Request *q) {
+    HouayletanNatural t;
+    memcpy(t.words, q->target, sizeof t.words);
     return t;
 }
 
@@ -86,10 +81,10 @@ static void on_exact_clause_cardinality(const Request *q, Reply *r) { reply_coun
 static void on_cardinality(const Request *q, Reply *r) { reply_float(houayletan_cardinality(IN, ROOM), r); }
 static void on_size(const Request *q, Reply *r) { reply_amount(houayletan_size(IN, ROOM), r); }
 static void on_num_vars(const Request *q, Reply *r) { reply_amount(houayletan_num_vars(IN, ROOM), r); }
-static void on_is_true(const Request *q, Reply *r) { reply_answer(houayletan_is_true(IN, ROOM), r); }
-static void on_is_false(const Request *q, Reply *r) { reply_answer(houayletan_is_false(IN, ROOM), r); }
-static void on_is_clause(const Request *q, Reply *r) { reply_answer(houayletan_is_clause(IN, ROOM), r); }
-static void on_is_valuation(const Request *q, Reply *r) { reply_answer(houayletan_is_valuation(IN, ROOM), r); }
+static void on_is_true(const Request *q, Reply *r) { reply_amount(houayletan_is_true(IN, ROOM), r); }
+static void on_is_false(const Request *q, Reply *r) { reply_amount(houayletan_is_false(IN, ROOM), r); }
+static void on_is_clause(const Request *q, Reply *r) { reply_amount(houayletan_is_clause(IN, ROOM), r); }
+static void on_is_valuation(const Request *q, Reply *r) { reply_amount(houayletan_is_valuation(IN, ROOM), r); }
 static void on_size_per_variable(const Request *q, Reply *r) {
     r->verdict = houayletan_size_per_variable(IN, ROOM, OUT);
     r->written = r->verdict.vars;
@@ -107,16 +102,16 @@ static void on_overapproximate(const Request *q, Reply *r) {
     reply_diagram(houayletan_overapproximate(IN, q->list, q->list_len, ROOM, OUT), r);
 }
 static void on_underapproximate_to_size(const Request *q, Reply *r) {
-    reply_trials(houayletan_underapproximate_to_size(IN, q->target[0], ROOM, OUT), r);
+    reply_approximation(houayletan_underapproximate_to_size(IN, q->target[0], ROOM, OUT), r);
 }
 static void on_overapproximate_to_size(const Request *q, Reply *r) {
-    reply_trials(houayletan_overapproximate_to_size(IN, q->target[0], ROOM, OUT), r);
+    reply_approximation(houayletan_overapproximate_to_size(IN, q->target[0], ROOM, OUT), r);
 }
 static void on_underapproximate_to_cardinality(const Request *q, Reply *r) {
-    reply_trials(houayletan_underapproximate_to_cardinality(IN, target_of(q), ROOM, OUT), r);
+    reply_approximation(houayletan_underapproximate_to_cardinality(IN, target_of(q), ROOM, OUT), r);
 }
 static void on_overapproximate_to_cardinality(const Request *q, Reply *r) {
-    reply_trials(houayletan_overapproximate_to_cardinality(IN, target_of(q), ROOM, OUT), r);
+    reply_approximation(houayletan_overapproximate_to_cardinality(IN, target_of(q), ROOM, OUT), r);
 }
 
 #undef IN

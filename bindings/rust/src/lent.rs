@@ -51,20 +51,12 @@ pub struct CountedFloat {
     pub count: f64,
 }
 
-/// A verdict with a number, 0 where it is refused.
+/// A verdict with a number, or with a yes as 1 and a no as 0; 0 where it is refused.
 #[derive(Clone, Copy, Debug, Eq, PartialEq)]
 #[repr(C)]
 pub struct Amount {
     pub verdict: Verdict,
     pub amount: usize,
-}
-
-/// A verdict with an answer, false where it is refused.
-#[derive(Clone, Copy, Debug, Eq, PartialEq)]
-#[repr(C)]
-pub struct Answer {
-    pub verdict: Verdict,
-    pub yes: bool,
 }
 
 /// A verdict with the number of nodes in the output, 0 where it is refused.
@@ -78,7 +70,7 @@ pub struct Diagram {
 /// A diagram with the number of cuts by a list that were made for it.
 #[derive(Clone, Copy, Debug, Eq, PartialEq)]
 #[repr(C)]
-pub struct Trials {
+pub struct Approximation {
     pub verdict: Verdict,
     pub nodes: usize,
     pub trials: usize,
@@ -140,12 +132,12 @@ macro_rules! cuts_to {
     ($(#[$meta:meta])* $name:ident, $symbol:ident, $target:ty) => {
         $(#[$meta])*
         #[doc = concat!("[`crate::", stringify!($name), "`], over what is lent.")]
-        pub fn $name(words: &[u32], target: $target, room: &mut [u32], output: &mut [u32]) -> Trials {
+        pub fn $name(words: &[u32], target: $target, room: &mut [u32], output: &mut [u32]) -> Approximation {
             extern "C" {
                 fn $symbol(
                     words: *const u32, words_len: usize, target: $target,
                     room: *mut u32, room_len: usize, output: *mut u32, output_len: usize,
-                ) -> Trials;
+                ) -> Approximation;
             }
             let (out, out_len) = (output.as_mut_ptr(), output.len());
             unsafe { $symbol(words.as_ptr(), words.len(), target, room.as_mut_ptr(), room.len(), out, out_len) }
@@ -162,10 +154,10 @@ writes!(reduce, houayletan_reduce, Diagram);
 
 asks!(#[cfg(has = "size")] size, houayletan_size, Amount);
 asks!(#[cfg(has = "num_vars")] num_vars, houayletan_num_vars, Amount);
-asks!(#[cfg(has = "is_true")] is_true, houayletan_is_true, Answer);
-asks!(#[cfg(has = "is_false")] is_false, houayletan_is_false, Answer);
-asks!(#[cfg(has = "is_clause")] is_clause, houayletan_is_clause, Answer);
-asks!(#[cfg(has = "is_valuation")] is_valuation, houayletan_is_valuation, Answer);
+asks!(#[cfg(has = "is_true")] is_true, houayletan_is_true, Amount);
+asks!(#[cfg(has = "is_false")] is_false, houayletan_is_false, Amount);
+asks!(#[cfg(has = "is_clause")] is_clause, houayletan_is_clause, Amount);
+asks!(#[cfg(has = "is_valuation")] is_valuation, houayletan_is_valuation, Amount);
 writes!(#[cfg(has = "size_per_variable")] size_per_variable, houayletan_size_per_variable, Verdict);
 writes!(#[cfg(has = "not")] not, houayletan_not, Diagram);
 cuts_by_list!(#[cfg(has = "underapproximate")] underapproximate, houayletan_underapproximate);

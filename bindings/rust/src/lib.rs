@@ -184,7 +184,7 @@ pub fn num_vars(words: &[u32]) -> Result<usize, Refusal> {
 #[cfg(has = "is_true")]
 pub fn is_true(words: &[u32]) -> Result<bool, Refusal> {
     let said = lent::is_true(words, &mut room_for(words));
-    accepted(said.verdict).map(|_| said.yes)
+    accepted(said.verdict).map(|_| said.amount == 1)
 }
 
 /// Whether the array has one node. Refusals 1 to 3 and 6 to 12.
@@ -195,7 +195,7 @@ pub fn is_true(words: &[u32]) -> Result<bool, Refusal> {
 #[cfg(has = "is_false")]
 pub fn is_false(words: &[u32]) -> Result<bool, Refusal> {
     let said = lent::is_false(words, &mut room_for(words));
-    accepted(said.verdict).map(|_| said.yes)
+    accepted(said.verdict).map(|_| said.amount == 1)
 }
 
 /// Whether the diagram is one conjunction of literals. A yes is right; a no is right for a reduced array. Refusals 1 to 3
@@ -208,7 +208,7 @@ pub fn is_false(words: &[u32]) -> Result<bool, Refusal> {
 #[cfg(has = "is_clause")]
 pub fn is_clause(words: &[u32]) -> Result<bool, Refusal> {
     let said = lent::is_clause(words, &mut room_for(words));
-    accepted(said.verdict).map(|_| said.yes)
+    accepted(said.verdict).map(|_| said.amount == 1)
 }
 
 /// Whether the diagram holds for one valuation alone. A yes is right; a no is right for a reduced array. Refusals 1 to 3
@@ -222,7 +222,7 @@ pub fn is_clause(words: &[u32]) -> Result<bool, Refusal> {
 #[cfg(has = "is_valuation")]
 pub fn is_valuation(words: &[u32]) -> Result<bool, Refusal> {
     let said = lent::is_valuation(words, &mut room_for(words));
-    accepted(said.verdict).map(|_| said.yes)
+    accepted(said.verdict).map(|_| said.amount == 1)
 }
 
 /// How many nodes each variable has, one number a variable. Refusals 1 to 3 and 6 to 12.
@@ -279,7 +279,7 @@ pub fn overapproximate(words: &[u32], list: &[u32]) -> Result<Vec<u32>, Refusal>
 }
 
 #[cfg(any(has = "underapproximate_to_size", has = "underapproximate_to_cardinality"))]
-fn cut(words: &[u32], write: impl FnOnce(&mut [u32], &mut [u32]) -> lent::Trials) -> Result<Cut, Refusal> {
+fn cut(words: &[u32], write: impl FnOnce(&mut [u32], &mut [u32]) -> lent::Approximation) -> Result<Cut, Refusal> {
     let mut trials = 0;
     let words = diagram(words, |room, output| {
         let made = write(room, output);
