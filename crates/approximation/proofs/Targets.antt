@@ -253,7 +253,7 @@ module _ (w : List ℕ) (k : ℕ) where
   over-count-negates h = rw (lt-leb k (countOf w) h) refl
 
 module _ (w : List ℕ) (k : ℕ) (a : Accepted w) (most : k ≤ 2 ^ vars w) (open-target : size w ≡ 1 → 0 < k → k < 2 ^ vars w → ⊥) where
-  opposite-open : countOf w < k → Open (negated w) (opposite w k)
+  pub opposite-open : countOf w < k → Open (negated w) (opposite w k)
   opposite-open high e low less =
       let one = negated-is-two w a e in
       let none = one-count w one in

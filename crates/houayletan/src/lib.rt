@@ -1,5 +1,8 @@
 // The operations for C and Rust: numbers, slices as pointer and length, and structs by value.
 // include/houayletan.h declares the same for C.
+pub mod cuts;
+pub mod queries;
+
 use cardinality::CountedFloat;
 use cardinality::cardinality;
 use counts::Counted;
@@ -52,7 +55,28 @@ pub struct HouayletanDiagram {
     pub nodes: usize,
 }
 
-fn flat(verdict: Verdict) -> HouayletanVerdict
+// A verdict with an amount, or a yes as 1 and a no as 0; zero where the words are refused.
+#[repr(C)]
+pub struct HouayletanAmount {
+    pub verdict: HouayletanVerdict,
+    pub amount: usize,
+}
+
+// A verdict with the number of nodes in the output, and of cuts by a list that were made for them.
+#[repr(C)]
+pub struct HouayletanApproximation {
+    pub verdict: HouayletanVerdict,
+    pub nodes: usize,
+    pub trials: usize,
+}
+
+// A number of eight words, least first.
+#[repr(C)]
+pub struct HouayletanNatural {
+    pub words: [u32; 8],
+}
+
+pub(crate) fn flat(verdict: Verdict) -> HouayletanVerdict
     ensures { λ r. ⌜ r ≡ flatOf (said verdict) ⌝ }
 {
     match verdict {
@@ -156,7 +180,7 @@ pub extern "C" fn houayletan_reduce(
     room: &mut [u32],
     output: &mut [u32],
 ) -> HouayletanDiagram
-    ensures { λ r. ⌜ FlatDiagram (now (words .entry)) (reducedOf (now (words .entry))) (now (room .entry)) (now (room .exit)) (now (output .entry)) (now (output .exit)) r ⌝ }
+    ensures { λ r. ⌜ FlatDiagram (verdictOf (now (words .entry)) (Output.Diagram (length (now (output .entry)))) (length (now (room .entry)))) (now (words .entry)) (reducedOf (now (words .entry))) (now (room .entry)) (now (room .exit)) (now (output .entry)) (now (output .exit)) r ⌝ }
 {
     flat_diagram(reduce(words, room, output))
 }

@@ -4,10 +4,11 @@ use mathlib.Core.Path.{_≡_}
 use mathlib.Core.List.{List, _++_}
 use lib.ListN.{length, getD, drop}
 use Rattle.diagram.specs.Diagram.{size, vars, Accepted}
-use Rattle.diagram.specs.Verdict.{Outcome, said, andThen, verdictOf, ifAccepted, most, roomOf, roomAfter}
+use Rattle.diagram.specs.Verdict.{Outcome, accepted, said, andThen, verdictOf, ifAccepted, most, roomOf, roomAfter}
 use Rattle.diagram.specs.declared.verdict.Verdict.{Verdict}
 use Rattle.diagram.specs.declared.verdict.Output.the-variants.{Diagram}
 use Rattle.approximation.specs.Cut.{underCountOf, overCountOf}
+use Rattle.diagram.specs.Valuations.{countOf}
 use Rattle.approximation.specs.Search.{Answer}
 
 -- The check for a diagram as output; for a count target 16 and 19 come after it.
@@ -44,3 +45,17 @@ pub record Hit (a : Answer) (r after out out′ : List ℕ) (k trial-count : ℕ
   pub trials : trial-count ≡ a .trials
   pub room : after ≡ r
   pub written : out′ ≡ a .words ++ drop (length (a .words)) out
+
+-- With a count target that is not refused.
+pub record UnderCounting (w r out : List ℕ) (k n v : ℕ) : Type 0 where
+  pub targeting : Targeting w r out n v
+  pub target : underCountOf w k ≡ accepted (size w) (vars w)
+
+pub record OverCounting (w r out : List ℕ) (k n v : ℕ) : Type 0 where
+  pub targeting : Targeting w r out n v
+  pub target : overCountOf w k ≡ accepted (size w) (vars w)
+
+-- The diagram has fewer valuations than are asked for.
+pub record Fewer (w r out : List ℕ) (k n v : ℕ) : Type 0 where
+  pub counting : OverCounting w r out k n v
+  pub fewer : countOf w < k

@@ -8,8 +8,9 @@ use lib.Seq.{getD-take, getD-drop, ext-getD, take-take, length-take-le}
 use Rattle.naturals.specs.Natural.{wordCount, Holds}
 use Rattle.diagram.specs.Diagram.{size, vars}
 use Rattle.diagram.specs.Valuations.{weightOf}
-use Rattle.weights.specs.Chains.{Given}
-use Rattle.weights.specs.Passes.{entry, weightsFrom, Standing}
+use Rattle.levels.specs.Chains.{Given}
+use Rattle.counts.specs.Table.{entry}
+use Rattle.weights.specs.Passes.{weightsFrom, Standing}
 use Rattle.priorities.specs.Prioritised.{Fits, Prioritised}
 use Rattle.priorities.proofs.Ordering.{prioritised-order, prioritised-entry}
 use Rattle.approximation.specs.Search.{order}

@@ -12,7 +12,8 @@ use Rattle.naturals.specs.Natural.{Holds}
 use Rattle.diagram.specs.Diagram.{size, vars, Accepted, Ordered}
 use Rattle.diagram.specs.Verdict.{most}
 use Rattle.diagram.specs.Valuations.{weightOf}
-use Rattle.weights.specs.Passes.{entry, weightsFrom}
+use Rattle.counts.specs.Table.{entry}
+use Rattle.weights.specs.Passes.{weightsFrom}
 use Rattle.approximation.specs.Search.{Answer, order, cutFirst}
 
 -- A search may begin: an accepted diagram, and a room that is zero.

@@ -18,8 +18,9 @@ use Rattle.diagram.specs.declared.verdict.Verdict.the-variants.{Accepted as Yes
 use Rattle.diagram.specs.declared.verdict.Output.the-variants.{Weights}
 use Rattle.diagram.proofs.Entering.{admitted, ordered, lent-fits, lent-back}
 use Rattle.weights.specs.Weighed.{weightsVerdict, Weighed, Weighs}
-use Rattle.weights.specs.Chains.{Given}
-use Rattle.weights.specs.Passes.{entry, weightsFrom, weightsTo, Standing, Handed}
+use Rattle.levels.specs.Chains.{Given}
+use Rattle.counts.specs.Table.{entry}
+use Rattle.weights.specs.Passes.{weightsFrom, weightsTo, Standing, Handed}
 use Rattle.weights.proofs.Entries.{entry-front}
 
 -- ---- the verdict, row by row

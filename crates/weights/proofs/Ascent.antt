@@ -2,6 +2,7 @@
 use Prim.Native.Nat.{ℕ, suc, _+_, _-_, _*_, _^_, _≤_, _<_}
 use mathlib.Core.Path.{_≡_, refl, sym, ap, _∙_}
 use mathlib.Core.Logic.{_≢_}
+use mathlib.Core.Bool.{true}
 use mathlib.Core.List.{List}
 use native.Mathlib.Omega.{arith}
 use native.Mathlib.Nat.{mul-one, mul-zero, zero-mul, le-mul-of-pos-right}
@@ -14,12 +15,26 @@ use Rattle.diagram.specs.Diagram.{varOf, lowOf, highOf, size, vars, root, Order
 use Rattle.diagram.specs.Valuations.{weightOf}
 use Rattle.diagram.proofs.Tests.{by-eq}
 use Rattle.diagram.proofs.Reading.{Layer, layered, root-in, var-most, by-two}
-use Rattle.weights.specs.Chains.{Last, Linked, Given}
-use Rattle.weights.specs.Passes.{entry, num, In, Noted, satOf, skip, scaled, throughOf, dot, Sated, Todo, Counted, Emptied, Passing, Turning, Ascending, AtUp, Giving, Rising, weightsFrom, weightsTo}
+use Rattle.levels.specs.Chains.{Last, Linked, Given, Todo}
+use Rattle.levels.proofs.Chaining.{todo-from, todo-back, todo-ends, todo-begins, by-todo, at-chain, chain-falls, heads-all}
+use Rattle.counts.specs.Table.{entry, num, In, Noted, skip, scaled}
+use Rattle.counts.proofs.Nodes.{worth-end, under-limit}
+use Rattle.weights.specs.Passes.{satOf, throughOf, dot, Sated, Counted, Emptied, Passing, Turning, Ascending, AtUp, Giving, Rising, weightsFrom, weightsTo}
 use Rattle.weights.proofs.Dots.{bump, bump-here, bump-other, bump-least, without, without-here, without-other, dot-least, dot-only, dot-moved}
-use Rattle.weights.proofs.Levels.{Shared, sat-end, through-node, through-self, through-none, weight-through, all-node, all-root, weight-most, under-limit}
-use Rattle.weights.proofs.Chaining.{todo-from, todo-back, todo-ends, todo-begins, by-todo}
-use Rattle.weights.proofs.Descent.{sated-front, sated-kept, at-chain, chain-falls, heads-all}
+use Rattle.weights.proofs.Levels.{Shared, through-node, through-self, through-none, weight-through, all-node, all-root, weight-most}
+use Rattle.weights.proofs.Entries.{entry-kept}
+
+-- what is written behind the table of the first pass leaves links and counts as they are
+sated-front : {w room after : List ℕ} {base : ℕ} → Sated w room → size w + wordCount * size w ≤ base → length after ≡ length room
+    → ((k : ℕ) → k < base → getD after k 0 ≡ getD room k 0) → Sated w after
+sated-front {w} {room} {after} s behind same front = record {
+  long = omega (arith, s .long);
+  next = λ p t h. rw (front p (omega arith)) (s .next p t h);
+  right = λ q h k. rw (entry-kept (size w) room after q same (λ i l. front i (omega arith))) (s .right q h k);
+}
+
+sated-kept : {w room after : List ℕ} {base q x : ℕ} → Sated w room → size w + wordCount * size w ≤ base → Noted base room q x after → Sated w after
+sated-kept s behind m = sated-front s behind (m .size) (m .before)
 
 pub passing-as : {w : List ℕ} {m : ℕ} {room : List ℕ} {c b : ℕ} → Passing w m room c b → (d e : ℕ) → ((q : ℕ) → q < size w → Todo w c b q → Todo w d e q)
     → ((q : ℕ) → q < size w → Todo w d e q → Todo w c b q) → Passing w m room d e
@@ -324,7 +339,7 @@ passes-done {w} {base} {room} {n} {v} given ev at-end {after} z q below = weight
     ended : (q : ℕ) → q < 2 → (h : q < size w) → weightOf w q ≡ s .received q * q
     ended q t h =
         weight-is (given .ordered) s q h (todo q t h) (layered w (given .ordered) .terminal q t h)
-        ∙ ap (λ (y : ℕ). s .received q * y) (sat-end w (given .ordered) q t h)
+        ∙ ap (λ (y : ℕ). s .received q * y) (worth-end w (given .ordered) true q t h)
 
     none : {q : ℕ} → q ≡ 0 → q < size w → weightOf w 0 ≡ 0
     none e h = ended 0 (omega arith) (omega arith) ∙ mul-zero (s .received 0)
@@ -352,7 +367,7 @@ give-done {w} {base} {room} {p} {q} {x} k {u} hu {z} hz {f} a note =
 
 -- ---- all variables
 
-pub rises : {w heads nexts room : List ℕ} {n v : ℕ} → Given w n → v ≡ vars w → Linked w heads nexts n → Sated w room 0 0 → weightsTo n ≤ length room
+pub rises : {w heads nexts room : List ℕ} {n v : ℕ} → Given w n → v ≡ vars w → Linked w heads nexts n → Sated w room → weightsTo n ≤ length room
     → Rising w heads (weightsFrom n) room n v
 rises given e links sated long =
     record {

@@ -1,39 +1,14 @@
--- Tables of counts in lent words.
-use Prim.Native.Nat.{ℕ, _+_, _-_, _*_, _^_, _≤_, _<_, min}
+-- Tables of numbers in lent words: kept, emptied and copied.
+use Prim.Native.Nat.{ℕ, _+_, _-_, _*_, _<_, min}
 use mathlib.Core.Path.{_≡_, refl, sym, ap, _∙_}
-use mathlib.Core.Logic.{_≢_, _⊎_, inl, inr}
-use mathlib.Core.Bool.{Bool}
 use mathlib.Core.List.{List, _++_}
 use native.Mathlib.Omega.{arith}
-use native.Mathlib.Decide.{decLt}
 use lib.ListN.{length, getD, take, drop, length-take, length-drop}
 use lib.Seq.{ext-getD, getD-take, getD-drop, take-append-le, drop-append-le, drop-drop}
-use lib.Dec.{leb}
-use Rattle.naturals.specs.Natural.{value, limit, wordCount, Holds, Answers, Fitted, Stores}
-use Rattle.naturals.specs.declared.Fit.{Fit}
-use Rattle.naturals.proofs.Answer.{fitted-below}
-use Rattle.naturals.proofs.Place.{stored-after, stored-before, stores-length, stores-holds, stores-apart, loads-inside}
-use Rattle.diagram.specs.Diagram.{varOf}
+use Rattle.naturals.specs.Natural.{wordCount}
 use Rattle.diagram.proofs.Tests.{by-eq}
-use Rattle.weights.specs.Passes.{entry, num, In, Noted, scaled, Emptied, Handed}
-
--- two entries stand apart
-apart : (base r q : ℕ) → r ≢ q → (base + wordCount * r + wordCount ≤ base + wordCount * q) ⊎ (base + wordCount * q + wordCount ≤ base + wordCount * r)
-apart base r q ne = elim (decLt r q) [ yes l ↦ inl (omega arith) | no l ↦ inr (omega arith) ]
-
-pub noted : (base : ℕ) (s : List ℕ) (q : ℕ) {words after : List ℕ} {done : Bool} → In base s q
-    → Stores wordCount s (base + wordCount * q) words done after → (x : ℕ) → Holds x words → Noted base s q x after
-noted base s q {words} {after} {done} inside r x h =
-    let e = h .count in
-    record {
-      size = stores-length r e;
-      here = stores-holds r h inside;
-      other = λ k ne. stores-apart r e (base + wordCount * k) (apart base k q ne);
-      before = λ k l. rw (r .left) (stored-before s (base + wordCount * q) words e k (omega arith));
-      beyond = λ m l. ext-getD 0 (drop m after) (drop m s)
-          (length-drop m after ∙ rw (stores-length r e) (sym (length-drop m s)))
-          (λ i k. rw (getD-drop m after i 0, getD-drop m s i 0, r .left) (stored-after s (base + wordCount * q) words e (m + i) (omega arith)));
-    }
+use Rattle.counts.specs.Table.{entry, num, In, Noted}
+use Rattle.weights.specs.Passes.{Emptied, Handed}
 
 -- words that are as they were, in an entry
 pub entry-kept : (base : ℕ) (s after : List ℕ) (q : ℕ) → length after ≡ length s
@@ -90,19 +65,3 @@ hand-on {base} {room} {before} {s} {p} e {after} m = record {
     further l =
         let j : wordCount * p + wordCount ≡ wordCount * (p + 1) = omega arith in
         drop-drop wordCount (wordCount * p) l ∙ ap (λ (k : ℕ). drop k l) j
-
--- ---- what the functions on tables give
-
-pub count-read : (base : ℕ) (s : List ℕ) (q i : ℕ) → i ≡ q → In base s q → {f : Fit}
-    → Answers (leb (base + wordCount * i + wordCount) (length s)) (value (take wordCount (drop (base + wordCount * i) s))) f → Holds (num base s q) (f .natural .words)
-count-read base s q i e inside a = let b = rw e at a in loads-inside s (base + wordCount * q) b inside .1
-
-pub note-done : (base : ℕ) (s : List ℕ) (q i : ℕ) → i ≡ q → In base s q → {words after : List ℕ} {done : Bool}
-    → Stores wordCount s (base + wordCount * i) words done after → (x : ℕ) → Holds x words → Noted base s q x after
-note-done base s q i e inside r = noted base s q inside (rw e at r)
-
-pub scaled-done : (w : List ℕ) (p q n here there : ℕ) → here ≡ varOf w p → there ≡ varOf w q → {f : Fit} → Fitted (n * 2 ^ (there - here - 1)) f
-    → scaled w p q n < limit → Holds (scaled w p q n) (f .natural .words)
-scaled-done w p q n here there eh et {f} a l =
-    let e : n * 2 ^ (there - here - 1) ≡ scaled w p q n = rw (eh, et) in
-    fitted-below (rw e at a) l .1

@@ -5,19 +5,19 @@ use mathlib.Core.Logic.{_≢_}
 use mathlib.Core.Bool.{Bool, true, false, cond, _&&_, and-true, and-false}
 use mathlib.Core.List.{List, _∷_}
 use native.Mathlib.Omega.{arith}
-use native.Mathlib.Nat.{pow-suc, mul-one, mul-assoc, mul-comm, sub-zero, le-trans, lt-of-le-of-lt}
-use lib.Pow.{pow-add, pow-mono, pow-lt}
+use native.Mathlib.Nat.{pow-suc, mul-one, mul-assoc, mul-comm, sub-zero}
+use lib.Pow.{pow-add}
 use lib.Dec.{eqb}
 use borrow.Author.Tests.{eq-eqb, ne-eqb}
-use Rattle.naturals.specs.Natural.{limit, wordCount}
-use Rattle.diagram.specs.Limits.{maxVariables}
 use Rattle.diagram.specs.Diagram.{varOf, lowOf, highOf, size, vars, root, holds, Ordered}
 use Rattle.diagram.specs.Reading.{eval}
 use Rattle.diagram.specs.Valuations.{tally, meets, weightOf}
-use Rattle.diagram.proofs.Reading.{Layered, layered, root-in, pass-tests, pass-skips, eval-nil, eval-cons, var-most, holds-is-eval}
-use Rattle.diagram.proofs.Tally.{tally-zero, tally-suc, tally-same, tally-most, tally-none}
+use Rattle.diagram.proofs.Reading.{Layered, layered, root-in, pass-tests, pass-skips, eval-cons, var-most, holds-is-eval}
+use Rattle.diagram.proofs.Tally.{tally-suc, tally-same, tally-most, tally-none}
 use Rattle.diagram.proofs.Meeting.{meet, meet-cons, meet-here, meet-skips, meet-none, meets-is-meet}
-use Rattle.weights.specs.Passes.{satOf, skip, throughOf}
+use Rattle.counts.specs.Table.{skip}
+use Rattle.counts.specs.Worth.{worthOf}
+use Rattle.weights.specs.Passes.{satOf, throughOf}
 
 -- p's children share out its value, each doubled for the variables that the link skips
 abbrev pub Shared : List ℕ → (ℕ → ℕ) → ℕ → Type 0
@@ -66,28 +66,6 @@ module _ (w : List ℕ) (o : Ordered w) where
       → eval w (varOf w p) p (b ∷ bs) ≡ eval w (suc (varOf w p)) (cond b (highOf w p) (lowOf w p)) bs
   eval-goes p two b bs = eval-cons w (varOf w p) p b bs ∙ rw (pass-tests w (varOf w p) p b two refl)
 
-  -- ---- satisfying valuations
-
-  -- a node's from its children's; a terminal's is its own number
-  pub sat-node : (p : ℕ) → 2 ≤ p → p < size w → Shared w (satOf w) p
-  unfolding satOf
-  sat-node p two h = level-node w (vars w) (size w) graph (eval w) eval-skips p two h (eval-goes p two)
-
-  pub sat-end : (p : ℕ) → p < 2 → p < size w → satOf w p ≡ p
-  unfolding satOf
-  sat-end p t h =
-      let e : vars w - varOf w p ≡ zero = omega (arith, graph .terminal p t h) in
-      ap (λ (k : ℕ). tally k (eval w (varOf w p) p)) e ∙ tally-zero (eval w (varOf w p) p) ∙ ap (λ (b : Bool). cond b 1 0) (eval-nil w (varOf w p) p) ∙ bit p t
-    where
-      bit : (p : ℕ) → p < 2 → cond (eqb p 1) 1 0 ≡ p
-      bit zero h′ = refl
-      bit (suc zero) h′ = refl
-      bit (suc (suc q)) h′ = absurd (omega arith)
-
-  pub sat-most : (p : ℕ) → satOf w p ≤ 2 ^ (vars w - varOf w p)
-  unfolding satOf
-  sat-most p = tally-most (vars w - varOf w p) (eval w (varOf w p) p)
-
   -- ---- those whose path meets t
 
   module _ (t : ℕ) where
@@ -113,7 +91,7 @@ module _ (w : List ℕ) (o : Ordered w) where
 
     -- t itself is met by all; from another node that stands at no smaller variable it is met by none
     pub through-self : throughOf w t t ≡ satOf w t
-    unfolding throughOf satOf
+    unfolding throughOf worthOf
     through-self =
         tally-same (vars w - varOf w t) (both (varOf w t) t) (eval w (varOf w t) t)
         (λ bs l. rw (meet-here w (eqb t) (varOf w t) t bs (eq-eqb t t refl)) (and-true (eval w (varOf w t) t bs)))
@@ -159,12 +137,3 @@ module _ (w : List ℕ) (o : Ordered w) where
 
   pub weight-most : (t : ℕ) → weightOf w t ≤ 2 ^ vars w
   weight-most t = tally-most (vars w) (λ bs. holds w bs && meets w bs (eqb t))
-
--- ---- nothing overflows
-
-pub under-limit : (x k : ℕ) → x ≤ 2 ^ k → k ≤ maxVariables → x < limit
-unfolding limit
-under-limit x k a b =
-    let m = pow-mono b in
-    let l : 2 ^ maxVariables < 2 ^ (32 * wordCount) = pow-lt {i = maxVariables} {j = 32 * wordCount} (omega arith) in
-    lt-of-le-of-lt (le-trans a m) l

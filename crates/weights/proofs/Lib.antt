@@ -1,17 +1,13 @@
 -- Laws that belong to no one function.
 --     Dots       sums of products, and amounts that move
 --     Levels     counting from a node's own variable on
---     Entries    tables of counts in lent words
---     Chaining   the chains of each variable's nodes
---     Descent    the first pass
+--     Entries    tables of numbers in lent words: kept, emptied and copied
 --     Ascent     the second pass
 --     Answers    what the public function answers
 --     Visits     what weights say: of the terminals and the root, and of several nodes together
 pub mod Dots
 pub mod Levels
 pub mod Entries
-pub mod Chaining
-pub mod Descent
 pub mod Ascent
 pub mod Answers
 pub mod Visits

@@ -2,9 +2,7 @@
 --     Weighed    what the weights' operation answers
 --     Listed     nodes in a list, and the sum of their weights
 -- and, for the code inside, which no promise to a caller names:
---     Chains     the nodes of each variable, one after another
---     Passes     the two passes over them
+--     Passes     the two passes over the nodes
 pub mod Weighed
 pub mod Listed
-pub mod Chains
 pub mod Passes

@@ -3,77 +3,28 @@
 use Prim.Native.Nat.{ℕ, zero, suc, _+_, _-_, _*_, _^_, _≤_, _<_}
 use mathlib.Core.Path.{_≡_}
 use mathlib.Core.Logic.{_≢_}
-use mathlib.Core.Bool.{_&&_}
+use mathlib.Core.Bool.{true, _&&_}
 use mathlib.Core.List.{List}
-use lib.ListN.{length, getD, take, drop}
+use lib.ListN.{length, getD, drop}
 use lib.Dec.{eqb}
-use Rattle.naturals.specs.Natural.{value, wordCount, limit, Holds}
+use Rattle.naturals.specs.Natural.{wordCount, limit, Holds}
 use Rattle.diagram.specs.Diagram.{varOf, size, vars}
 use Rattle.diagram.specs.Reading.{eval}
 use Rattle.diagram.specs.Valuations.{tally, weightOf}
 use Rattle.diagram.proofs.Meeting.{meet}
-use Rattle.weights.specs.Chains.{Last, Given, Node}
+use Rattle.levels.specs.Chains.{Last, Given, Node, Todo}
+use Rattle.counts.specs.Table.{entry, num, In, scaled}
+use Rattle.counts.specs.Worth.{worthOf, Worths}
 
--- ---- tables of counts
-
--- Entry q of a table that begins at a base, and the number that it holds.
-abbrev pub entry : ℕ → List ℕ → ℕ → List ℕ
-entry base s q = take wordCount (drop (base + wordCount * q) s)
-
-abbrev pub num : ℕ → List ℕ → ℕ → ℕ
-num base s q = value (entry base s q)
-
--- Entry q is in the table.
-abbrev pub In : ℕ → List ℕ → ℕ → Type 0
-In base s q = base + wordCount * q + wordCount ≤ length s
-
--- Entry q holds x now; all else is as it was.
-pub record Noted (base : ℕ) (s : List ℕ) (q x : ℕ) (after : List ℕ) : Type 0 where
-  pub size : length after ≡ length s
-  pub here : Holds x (entry base after q)
-  pub other : (r : ℕ) → r ≢ q → entry base after r ≡ entry base s r
-  pub before : (k : ℕ) → k < base → getD after k 0 ≡ getD s k 0
-  pub beyond : (m : ℕ) → base + wordCount * q + wordCount ≤ m → drop m after ≡ drop m s
-
--- ---- the first pass, from the last variable to the first
+-- ---- the first pass, from the last variable to the first: the counts' own (crates/counts)
 
 -- How many valuations of the variables from p's own on lead from p to node 1.
-unfoldable pub satOf : List ℕ → ℕ → ℕ
-satOf w p = tally (vars w - varOf w p) (eval w (varOf w p) p)
-
--- The variables that the link from p to q skips: each doubles.
-abbrev pub skip : List ℕ → ℕ → ℕ → ℕ
-skip w p q = varOf w q - varOf w p - 1
-
-abbrev pub scaled : List ℕ → ℕ → ℕ → ℕ → ℕ
-scaled w p q x = x * 2 ^ skip w p q
-
--- Counted already: at a larger variable than c, or at c and not before b.
-pub record Known (w : List ℕ) (c b q : ℕ) : Type 0 where
-  pub level : c ≤ varOf w q
-  pub turn : varOf w q ≡ c → b ≤ q
+abbrev pub satOf : List ℕ → ℕ → ℕ
+satOf w p = worthOf true w p
 
 -- The room has the chains' links first and the table of `satOf` behind them.
-pub record Sated (w room : List ℕ) (c b : ℕ) : Type 0 where
-  pub long : size w + wordCount * size w ≤ length room
-  pub next : (p : ℕ) → 2 ≤ p → p < size w → Last w (varOf w p) p (getD room p 0)
-  pub right : (q : ℕ) → q < size w → Known w c b q → Holds (satOf w q) (entry (size w) room q)
-
-pub record Joining (w room : List ℕ) (n p : ℕ) : Type 0 where
-  pub given : Given w n
-  pub node : Node w p
-  pub sated : Sated w room (varOf w p) (suc p)
-
-pub record Descending (w heads room : List ℕ) (n c : ℕ) : Type 0 where
-  pub given : Given w n
-  pub level : c < vars w
-  pub head : (c : ℕ) → c < vars w → Last w c (size w) (getD heads c 0)
-  pub sated : Sated w room (suc c) 0
-
--- In the chain of c, at p, or at its end where p is 0.
-pub record AtDown (w room : List ℕ) (c p : ℕ) : Type 0 where
-  pub node : p ≢ 0 → Node w p × (varOf w p ≡ c)
-  pub sated : Sated w room c (suc p)
+abbrev pub Sated : List ℕ → List ℕ → Type 0
+Sated w room = Worths true w room 0 0
 
 -- ---- the second pass, from the first variable to the last
 
@@ -86,15 +37,10 @@ unfoldable pub dot : ℕ → (ℕ → ℕ) → (ℕ → ℕ) → ℕ
 dot zero a f = 0
 dot (suc n) a f = dot n a f + a n * f n
 
--- Still to be weighed: at a larger variable than c, or at c and before b.
-pub record Todo (w : List ℕ) (c b q : ℕ) : Type 0 where
-  pub level : c ≤ varOf w q
-  pub turn : varOf w q ≡ c → q < b
-
 -- The counts are worked out, and behind them there is space for one more table, from a base on.
 pub record Counted (w : List ℕ) (base : ℕ) (room : List ℕ) (n : ℕ) : Type 0 where
   pub given : Given w n
-  pub sated : Sated w room 0 0
+  pub sated : Sated w room
   pub behind : n + wordCount * n ≤ base
   pub long : base + wordCount * n ≤ length room
 
@@ -108,7 +54,7 @@ pub record Emptied (base : ℕ) (s : List ℕ) (p : ℕ) (after : List ℕ) : Ty
 -- has passed them on, and its weight stands in their place. What the nodes have received, each times what goes on from it,
 -- stays the same: in all, and through each node that is still to be weighed. The links and the counts stand before.
 pub record Passing (w : List ℕ) (base : ℕ) (room : List ℕ) (c b : ℕ) : Type 0 where
-  pub sated : Sated w room 0 0
+  pub sated : Sated w room
   pub behind : size w + wordCount * size w ≤ base
   pub long : base + wordCount * size w ≤ length room
   pub received : ℕ → ℕ
@@ -137,12 +83,6 @@ pub record Giving (w : List ℕ) (base : ℕ) (room : List ℕ) (p q x : ℕ) : 
   pub inside : In base room q
   pub above : varOf w p < varOf w q
   pub fits : num base room q + scaled w p q x < limit
-
--- A child's count can be read and scaled.
-pub record Parting (w room : List ℕ) (n p q : ℕ) : Type 0 where
-  pub inside : In n room q
-  pub above : varOf w p < varOf w q
-  pub fits : scaled w p q (num n room q) < limit
 
 -- What the second pass begins with.
 pub record Rising (w heads : List ℕ) (base : ℕ) (room : List ℕ) (n v : ℕ) : Type 0 where

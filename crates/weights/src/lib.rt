@@ -1,7 +1,4 @@
 // The weights of a diagram's nodes: for each node, how many valuations that the diagram holds for have a path that visits it.
-mod chains;
-mod down;
-mod tables;
 mod up;
 pub mod weigh;
 

@@ -1,16 +1,16 @@
 // The second pass, from the first variable to the last: a node has received the valuations of earlier variables that lead to
 // it, passes them on to its children, and its weight is their number times what goes on from it. What a node has received
 // stands in a table behind the counts, until its weight takes the place.
-use crate::chains::head_of;
-use crate::chains::next_of;
-use crate::tables::count_at;
-use crate::tables::note;
-use crate::tables::scaled;
+use counts::table::count_at;
+use counts::table::note;
+use counts::table::scaled;
 use diagram::node::BddPointer;
 use diagram::node::BddVariable;
 use diagram::node::high_link_of;
 use diagram::node::low_link_of;
 use diagram::node::var_of;
+use levels::head_of;
+use levels::next_of;
 use naturals::Natural;
 use naturals::add;
 use naturals::multiply;
@@ -21,7 +21,8 @@ ghost use lib.ListN.{length};
 ghost use Rattle.naturals.specs.Natural.{value, wordCount};
 ghost use Rattle.diagram.specs.Limits.{maxNodes};
 ghost use Rattle.diagram.specs.Diagram.{varOf, size};
-ghost use Rattle.weights.specs.Passes.{num, Noted, scaled as scaledBy, Counted, Emptied, Passing, Giving, Turning, Ascending, Rising};
+ghost use Rattle.counts.specs.Table.{num, Noted, scaled as scaledBy};
+ghost use Rattle.weights.specs.Passes.{Counted, Emptied, Passing, Giving, Turning, Ascending, Rising};
 
 // A child receives what its parent has.
 fn give(

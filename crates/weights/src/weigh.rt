@@ -1,11 +1,11 @@
 // The weights of an ordered diagram of two nodes or more, in the working room: behind the chains' links and the counts.
-use crate::chains::CHAINS;
-use crate::chains::link;
-use crate::down::count_all;
-use crate::tables::count_at;
-use crate::tables::note;
 use crate::up::pass_all;
+use counts::down::count_down;
+use counts::table::count_at;
+use counts::table::note;
 use diagram::node::BddPointer;
+use levels::CHAINS;
+use levels::link;
 use naturals::Natural;
 use naturals::zero;
 ghost use mathlib.Core.Path.{_≡_};
@@ -15,11 +15,12 @@ ghost use Rattle.naturals.specs.Natural.{wordCount, Holds};
 ghost use Rattle.diagram.specs.Limits.{maxNodes};
 ghost use Rattle.diagram.specs.Diagram.{vars as varsOf};
 ghost use Rattle.diagram.specs.Valuations.{weightOf};
-ghost use Rattle.weights.specs.Chains.{Given};
-ghost use Rattle.weights.specs.Passes.{In, entry, num, weightsFrom, weightsTo, Standing, Handed};
+ghost use Rattle.levels.specs.Chains.{Given};
+ghost use Rattle.counts.specs.Table.{In, entry, num};
+ghost use Rattle.weights.specs.Passes.{weightsFrom, weightsTo, Standing, Handed};
 
 // Words of the room for each node: a link and a count, and behind all of these a weight.
-const BEFORE: usize = 1 + naturals::WORDS;
+pub const BEFORE: usize = 1 + naturals::WORDS;
 
 pub const USED: usize = 1 + 2 * naturals::WORDS;
 
@@ -30,7 +31,7 @@ fn passes(words: &[u32], room: &mut [u32], nodes: usize, vars: u32)
 {
     let mut heads = [0u32; CHAINS];
     link(words, &mut heads, room, nodes);
-    count_all(words, &heads, room, nodes, vars);
+    count_down(words, &heads, room, nodes, vars, true);
     let base = BEFORE * nodes;
     pass_all(words, &heads, room, nodes, base, vars);
     note(room, base, BddPointer(0), zero());

@@ -1,0 +1,3 @@
+-- What a reader must believe of block files.
+--     File    the bytes of a file, and what reading and writing answer and leave
+pub mod File

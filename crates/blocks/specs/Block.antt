@@ -1,0 +1,140 @@
+-- A block of 512 bytes (document 01, "The block file"). `s` is a list of bytes, `w` the words of nodes, three each.
+use Prim.Native.Nat.{ℕ, zero, suc, _+_, _-_, _*_, _/_, _%_, _≤_, _<_, _^_, min}
+use mathlib.Core.Path.{_≡_}
+use mathlib.Core.Bool.{Bool, cond, not, _&&_, _||_}
+use mathlib.Core.List.{List, [], _∷_, _++_}
+use lib.ListN.{length, getD, take, drop, replicate}
+use lib.Dec.{ltb, eqb}
+use Rattle.blocks.specs.declared.stored.Stored.{Stored}
+use Rattle.blocks.specs.declared.stored.Stored.the-variants.{Nodes, Refused}
+
+-- ---- numbers, least byte first
+
+-- two and four bytes of a number
+abbrev pub twoBytes : ℕ → List ℕ
+twoBytes x = x % 256 ∷ x / 256 % 256 ∷ []
+
+abbrev pub fourBytes : ℕ → List ℕ
+fourBytes x = twoBytes x ++ twoBytes (x / 65536)
+
+-- the number in two and in four bytes at a place
+abbrev pub two : List ℕ → ℕ → ℕ
+two s at = getD s at 0 + 256 * getD s (at + 1) 0
+
+abbrev pub four : List ℕ → ℕ → ℕ
+four s at = two s at + 65536 * two s (at + 2)
+
+-- ---- the sums: of the bytes, and of (position + 1) × byte
+
+unfoldable pub total : List ℕ → ℕ
+total [] = 0
+total (b ∷ s) = b + total s
+
+unfoldable pub weighted : ℕ → List ℕ → ℕ
+weighted i [] = 0
+weighted i (b ∷ s) = i * b + weighted (suc i) s
+
+-- ---- what is written
+
+-- ten bytes for a node: variable 2, low 4, high 4
+abbrev pub nodeBytes : ℕ → ℕ → ℕ → List ℕ
+nodeBytes var low high = twoBytes var ++ fourBytes low ++ fourBytes high
+
+unfoldable pub nodesBytes : List ℕ → List ℕ
+nodesBytes (var ∷ low ∷ high ∷ w) = nodeBytes var low high ++ nodesBytes w
+nodesBytes [] = []
+nodesBytes (a ∷ []) = []
+nodesBytes (a ∷ b ∷ []) = []
+
+-- 0–1 block number, 2–3 nodes in this block, 4–503 fifty places of which the unused are zero, 504–507 nodes in the file
+unfoldable pub front : ℕ → ℕ → List ℕ → List ℕ
+front nodes number w =
+    twoBytes number
+    ++ twoBytes (length w / 3)
+    ++ nodesBytes w
+    ++ replicate (500 - 10 * (length w / 3)) 0
+    ++ fourBytes nodes
+
+-- 508–509 the sum, 510–511 the weighted sum, both modulo 65,536, which two bytes are
+unfoldable pub blockOf : ℕ → ℕ → List ℕ → List ℕ
+blockOf nodes number w = front nodes number w ++ twoBytes (total (front nodes number w)) ++ twoBytes (weighted 1 (front nodes number w))
+
+-- every block but the last holds fifty nodes: so many does a block hold in a file of n
+abbrev pub here : ℕ → ℕ → ℕ
+here n number = min 50 (n - 50 * number)
+
+-- ---- what is read
+
+-- the places for nodes begin at byte 4
+abbrev pub places : ℕ
+places = 4
+
+abbrev pub nodeAt : List ℕ → ℕ → List ℕ
+nodeAt s at = two s at ∷ four s (at + 2) ∷ four s (at + 6) ∷ []
+
+unfoldable pub nodesAt : List ℕ → ℕ → ℕ → List ℕ
+nodesAt s at zero = []
+nodesAt s at (suc c) = nodeAt s at ++ nodesAt s (at + 10) c
+
+-- the nodes in a block; its unused bytes, where it holds some number of nodes
+abbrev pub nodesIn : List ℕ → List ℕ
+nodesIn s = nodesAt s places (two s 2)
+
+abbrev pub unused : List ℕ → ℕ → List ℕ
+unused s held = take (504 - (4 + 10 * held)) (drop (4 + 10 * held) s)
+
+-- both sums are what the block says
+unfoldable pub sumsRight : List ℕ → Bool
+sumsRight s = eqb (two s 508) (total (take 508 s) % 65536) && eqb (two s 510) (weighted 1 (take 508 s) % 65536)
+
+-- the block's number is the one due; a later block states the nodes that the first one stated; the block holds some
+-- nodes, as many as its number and the nodes in the file say
+unfoldable pub countsRight : ℕ → ℕ → List ℕ → Bool
+countsRight number stated s =
+    eqb (two s 0) number
+    && ((eqb number 0 || eqb (four s 504) stated)
+    && (ltb 0 (two s 2)
+    && eqb (two s 2) (here (four s 504) number)))
+
+-- ---- the answers
+
+-- the number of nodes in the file, or refused with number and place
+pub data Outcome : Type 0 where
+  nodes : ℕ → Outcome
+  refused : ℕ → ℕ → Outcome
+
+abbrev pub said : Stored → Outcome
+said (Nodes n) = nodes n
+said (Refused number place) = refused number place
+
+unfoldable pub row : ℕ → Bool → ℕ → Outcome → Outcome
+row number test place below = cond test (refused number place) below
+
+-- The tests of the block due, with this number, in their order; `stated` is what the first block stated and `lent` the
+-- length of the output. The place is the number of the block due.
+unfoldable pub blockOutcome : ℕ → ℕ → List ℕ → ℕ → Outcome
+blockOutcome number stated s lent =
+    row 21 (ltb (length s) 512) number
+    (row 22 (not (sumsRight s)) number
+    (row 23 (not (countsRight number stated s)) number
+    (row 25 (ltb 120 (four s 504)) number
+    (row 24 (not (eqb (total (unused s (two s 2))) 0)) number
+    (row 4 (ltb lent (150 * number + 3 * two s 2)) number
+    (nodes (four s 504)))))))
+
+-- The output after the block due: its nodes at their place where the block is taken, else as it was.
+unfoldable pub blockOutput : ℕ → List ℕ → List ℕ → Outcome → List ℕ
+blockOutput number s out (nodes n) = take (150 * number) out ++ nodesIn s ++ drop (150 * number + 3 * two s 2) out
+blockOutput number s out (refused k p) = out
+
+-- What reading the block due says and leaves.
+pub record Reads (number stated : ℕ) (s before after : List ℕ) (r : Stored) : Type 0 where
+  pub answer : said r ≡ blockOutcome number stated s (length before)
+  pub left : after ≡ blockOutput number s before (blockOutcome number stated s (length before))
+
+-- What may be written as one block: whole nodes, at most fifty, and numbers that fit their bytes.
+pub record Whole (nodes number : ℕ) (w : List ℕ) : Type 0 where
+  pub whole : length w ≡ 3 * (length w / 3)
+  pub few : length w ≤ 150
+  pub counted : nodes < 2 ^ 32
+  pub numbered : number < 65536

@@ -1,0 +1,2 @@
+-- What a reader must believe of blocks.
+pub mod Block

@@ -1,0 +1,49 @@
+// Numbers of two and four bytes, the least byte first.
+use writing::put;
+ghost use mathlib.Core.Path.{_≡_};
+ghost use Prim.Native.Nat.{_<_};
+ghost use lib.ListN.{getD};
+ghost use Rattle.writing.specs.Writing.{Wrote};
+ghost use Rattle.blocks.specs.Block.{twoBytes, fourBytes, two, four};
+
+// The byte at a place, and 0 past the end.
+fn byte(bytes: &[u8], at: usize) -> u32
+    ensures { λ r. ⌜ (r ≡ getD (now (bytes .entry)) at 0) × (r < 256) ⌝ }
+{
+    if at < bytes.len() {
+        bytes[at] as u32
+    } else {
+        0
+    }
+}
+
+// The number in two bytes.
+pub fn get_two(bytes: &[u8], at: usize) -> u32
+    requires { ⌜ at < 4294967296 ⌝ }
+    ensures { λ r. ⌜ (r ≡ two (now (bytes .entry)) at) × (r < 65536) ⌝ }
+{
+    byte(bytes, at) + 256 * byte(bytes, at + 1)
+}
+
+// The number in four bytes.
+pub fn get_four(bytes: &[u8], at: usize) -> u32
+    requires { ⌜ at < 65536 ⌝ }
+    ensures { λ r. ⌜ r ≡ four (now (bytes .entry)) at ⌝ }
+{
+    get_two(bytes, at) + 65536 * get_two(bytes, at + 2)
+}
+
+// The two low bytes of a number.
+pub fn put_two(out: &mut [u8], at: usize, x: u32) -> usize
+    ensures { λ r. ⌜ Wrote (twoBytes x) (now (out .entry)) at (now (out .exit)) r ⌝ }
+{
+    let next = put(out, at, (x % 256) as u8);
+    put(out, next, (x / 256 % 256) as u8)
+}
+
+pub fn put_four(out: &mut [u8], at: usize, x: u32) -> usize
+    ensures { λ r. ⌜ Wrote (fourBytes x) (now (out .entry)) at (now (out .exit)) r ⌝ }
+{
+    let next = put_two(out, at, x);
+    put_two(out, next, x / 65536)
+}

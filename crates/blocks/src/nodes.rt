@@ -1,0 +1,66 @@
+// Ten bytes for a node: variable 2, low link 4, high link 4.
+use crate::fields::get_four;
+use crate::fields::get_two;
+use crate::fields::put_four;
+use crate::fields::put_two;
+use crate::layout::PLACE;
+use crate::layout::PLACES;
+use diagram::node::word;
+use writing::put_word;
+ghost use Prim.Native.Nat.{_*_, _≤_};
+ghost use lib.ListN.{length};
+ghost use Rattle.writing.specs.Writing.{Wrote};
+ghost use Rattle.blocks.specs.Block.{nodeBytes, nodesBytes, nodeAt, nodesAt, places};
+
+// The node in the ten bytes from a place on.
+fn get_node(block: &[u8], from: usize, output: &mut [u32], at: usize) -> usize
+    requires { ⌜ from ≤ 512 ⌝ }
+    ensures { λ r. ⌜ Wrote (nodeAt (now (block .entry)) from) (now (output .entry)) at (now (output .exit)) r ⌝ }
+{
+    let low = put_word(output, at, get_two(block, from));
+    let high = put_word(output, low, get_four(block, from + 2));
+    put_word(output, high, get_four(block, from + 6))
+}
+
+// The nodes in a block's first places.
+pub fn get_nodes(block: &[u8], count: usize, output: &mut [u32], at: usize) -> usize
+    requires { ⌜ count ≤ 50 ⌝ }
+    ensures { λ r. ⌜ Wrote (nodesAt (now (block .entry)) places count) (now (output .entry)) at (now (output .exit)) r ⌝ }
+{
+    let mut place = at;
+    let mut from = PLACES;
+    let mut left = count;
+    while 0 < left {
+        place = get_node(block, from, output, place);
+        from += PLACE;
+        left -= 1;
+    }
+    place
+}
+
+fn put_node(out: &mut [u8], at: usize, var: u32, low: u32, high: u32) -> usize
+    ensures { λ r. ⌜ Wrote (nodeBytes var low high) (now (out .entry)) at (now (out .exit)) r ⌝ }
+{
+    let first = put_two(out, at, var);
+    let second = put_four(out, first, low);
+    put_four(out, second, high)
+}
+
+// The places of some nodes, three words each.
+pub fn put_nodes(out: &mut [u8], at: usize, words: &[u32]) -> usize
+    ensures { λ r. ⌜ Wrote (nodesBytes (now (words .entry))) (now (out .entry)) at (now (out .exit)) r ⌝ }
+{
+    let mut place = at;
+    let mut i = 0;
+    while i + 2 < words.len() {
+        place = put_node(
+            out,
+            place,
+            word(words, i),
+            word(words, i + 1),
+            word(words, i + 2),
+        );
+        i += 3;
+    }
+    place
+}

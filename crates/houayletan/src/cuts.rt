@@ -1,0 +1,124 @@
+// Cuts by a list, to a size and to a count.
+use crate::HouayletanApproximation;
+use crate::HouayletanDiagram;
+use crate::HouayletanNatural;
+use crate::flat;
+use cuts::Approximation;
+use cuts::overapproximate;
+use cuts::underapproximate;
+use naturals::Natural;
+use targets::Approximated;
+use targets::count::overapproximate_to_cardinality;
+use targets::count::underapproximate_to_cardinality;
+use targets::size::overapproximate_to_size;
+use targets::size::underapproximate_to_size;
+ghost use mathlib.Core.Path.{_≡_};
+ghost use lib.ListN.{length};
+ghost use Rattle.naturals.specs.Natural.{value};
+ghost use Rattle.diagram.specs.Verdict.{said};
+ghost use Rattle.approximation.specs.Cut.{underBy, overBy};
+ghost use Rattle.approximation.specs.Search.{underToSize, overToSize, underToCount, overToCount};
+ghost use Rattle.cuts.specs.Approximates.{cutVerdict};
+ghost use Rattle.targets.specs.Targets.{sizeVerdict, underCountVerdict, overCountVerdict};
+ghost use Rattle.houayletan.specs.Flat.{flatOf, FlatDiagram, FlatTarget};
+
+fn flat_cut(cut: Approximation) -> HouayletanDiagram
+    ensures { λ r. ⌜ (r .verdict ≡ flatOf (said (cut .verdict))) × (r .nodes ≡ cut .nodes) ⌝ }
+{
+    let verdict = cut.verdict;
+    HouayletanDiagram {
+        verdict: flat(verdict),
+        nodes: cut.nodes,
+    }
+}
+
+fn flat_target(answer: Approximated) -> HouayletanApproximation
+    ensures { λ r. ⌜ (r .verdict ≡ flatOf (said (answer .verdict))) × (r .nodes ≡ answer .nodes) × (r .trials ≡ answer .trials) ⌝ }
+{
+    let verdict = answer.verdict;
+    HouayletanApproximation {
+        verdict: flat(verdict),
+        nodes: answer.nodes,
+        trials: answer.trials,
+    }
+}
+
+// Valuations whose path meets a listed node no longer hold; all others are as they were.
+#[no_mangle]
+pub extern "C" fn houayletan_underapproximate(
+    words: &[u32],
+    list: &[u32],
+    room: &mut [u32],
+    output: &mut [u32],
+) -> HouayletanDiagram
+    ensures { λ r. ⌜ FlatDiagram (cutVerdict (now (words .entry)) (now (list .entry)) (length (now (output .entry))) (length (now (room .entry)))) (now (words .entry)) (underBy (now (words .entry)) (now (list .entry))) (now (room .entry)) (now (room .exit)) (now (output .entry)) (now (output .exit)) r ⌝ }
+{
+    flat_cut(underapproximate(words, list, room, output))
+}
+
+// Valuations whose path meets a listed node now hold; all others are as they were.
+#[no_mangle]
+pub extern "C" fn houayletan_overapproximate(
+    words: &[u32],
+    list: &[u32],
+    room: &mut [u32],
+    output: &mut [u32],
+) -> HouayletanDiagram
+    ensures { λ r. ⌜ FlatDiagram (cutVerdict (now (words .entry)) (now (list .entry)) (length (now (output .entry))) (length (now (room .entry)))) (now (words .entry)) (overBy (now (words .entry)) (now (list .entry))) (now (room .entry)) (now (room .exit)) (now (output .entry)) (now (output .exit)) r ⌝ }
+{
+    flat_cut(overapproximate(words, list, room, output))
+}
+
+// At most so many nodes, for a target of two or more; holds only where the diagram does.
+#[no_mangle]
+pub extern "C" fn houayletan_underapproximate_to_size(
+    words: &[u32],
+    target: u32,
+    room: &mut [u32],
+    output: &mut [u32],
+) -> HouayletanApproximation
+    ensures { λ r. ⌜ FlatTarget (sizeVerdict (now (words .entry)) (length (now (output .entry))) (length (now (room .entry)))) (underToSize (now (words .entry)) target) (now (words .entry)) (now (room .entry)) (now (room .exit)) (now (output .entry)) (now (output .exit)) r ⌝ }
+{
+    flat_target(underapproximate_to_size(words, target, room, output))
+}
+
+// At most so many nodes, for a target of two or more; holds wherever the diagram does.
+#[no_mangle]
+pub extern "C" fn houayletan_overapproximate_to_size(
+    words: &[u32],
+    target: u32,
+    room: &mut [u32],
+    output: &mut [u32],
+) -> HouayletanApproximation
+    ensures { λ r. ⌜ FlatTarget (sizeVerdict (now (words .entry)) (length (now (output .entry))) (length (now (room .entry)))) (overToSize (now (words .entry)) target) (now (words .entry)) (now (room .entry)) (now (room .exit)) (now (output .entry)) (now (output .exit)) r ⌝ }
+{
+    flat_target(overapproximate_to_size(words, target, room, output))
+}
+
+// At most so many valuations; holds only where the diagram does.
+#[no_mangle]
+pub extern "C" fn houayletan_underapproximate_to_cardinality(
+    words: &[u32],
+    target: HouayletanNatural,
+    room: &mut [u32],
+    output: &mut [u32],
+) -> HouayletanApproximation
+    ensures { λ r. ⌜ FlatTarget (underCountVerdict (now (words .entry)) (value (target .words)) (length (now (output .entry))) (length (now (room .entry)))) (underToCount (now (words .entry)) (value (target .words))) (now (words .entry)) (now (room .entry)) (now (room .exit)) (now (output .entry)) (now (output .exit)) r ⌝ }
+{
+    let words_of = target.words;
+    flat_target(underapproximate_to_cardinality(words, Natural { words: words_of }, room, output))
+}
+
+// At least so many valuations; holds wherever the diagram does.
+#[no_mangle]
+pub extern "C" fn houayletan_overapproximate_to_cardinality(
+    words: &[u32],
+    target: HouayletanNatural,
+    room: &mut [u32],
+    output: &mut [u32],
+) -> HouayletanApproximation
+    ensures { λ r. ⌜ FlatTarget (overCountVerdict (now (words .entry)) (value (target .words)) (length (now (output .entry))) (length (now (room .entry)))) (overToCount (now (words .entry)) (value (target .words))) (now (words .entry)) (now (room .entry)) (now (room .exit)) (now (output .entry)) (now (output .exit)) r ⌝ }
+{
+    let words_of = target.words;
+    flat_target(overapproximate_to_cardinality(words, Natural { words: words_of }, room, output))
+}

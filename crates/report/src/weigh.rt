@@ -1,0 +1,43 @@
+// From the bytes of a block file to the text of the report.
+use crate::lines::write_lines;
+use crate::lines::write_refusal;
+use block_file::read::read_file;
+use blocks::stored::Stored;
+use diagram::verdict::Verdict;
+use weights::node_valuation_weights;
+ghost use Prim.Native.Nat.{_*_, _≤_};
+ghost use lib.ListN.{length};
+ghost use Rattle.writing.specs.Writing.{Wrote};
+ghost use Rattle.report.specs.Report.{reportOf, diagramReport};
+
+// Words of the 120 nodes that a file may have, of their weights, and of the room to weigh them.
+const WORDS: usize = 360;
+
+const WEIGHTS: usize = 960;
+
+const ROOM: usize = 7680;
+
+// The report of a diagram, or its refusal.
+pub fn report_diagram(out: &mut [u8], words: &[u32]) -> usize
+    ensures { λ r. ⌜ Wrote (diagramReport (now (words .entry))) (now (out .entry)) 0 (now (out .exit)) r ⌝ }
+{
+    let mut weights = [0u32; WEIGHTS];
+    let mut room = [0u32; ROOM];
+    let verdict = node_valuation_weights(words, &mut weights, &mut room);
+    match verdict {
+        Verdict::Accepted { nodes: _, vars: _ } => write_lines(out, words, &weights),
+        Verdict::Refused { number, place } => write_refusal(out, number, place),
+    }
+}
+
+// The report of a block file: the file's refusal, or what its diagram reports.
+pub fn report(out: &mut [u8], bytes: &[u8]) -> usize
+    ensures { λ r. ⌜ Wrote (reportOf (now (bytes .entry))) (now (out .entry)) 0 (now (out .exit)) r ⌝ }
+{
+    let mut words = [0u32; WORDS];
+    let stored = read_file(bytes, &mut words);
+    match stored {
+        Stored::Nodes(nodes) => report_diagram(out, &words[..3 * nodes]),
+        Stored::Refused { number, place } => write_refusal(out, number, place),
+    }
+}

@@ -1,0 +1,2 @@
+-- What a reader must believe of numbers as text.
+pub mod Digits

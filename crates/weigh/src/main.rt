@@ -1,0 +1,35 @@
+// Reads a block file on standard input and prints the count of its diagram and the weight of each node, or the one line
+// of its refusal. At most three blocks are read, and a little more to see whether bytes stand after them.
+use libc::STDOUT_FILENO;
+use report::weigh::report;
+
+const INPUT: usize = 2048;
+
+// Three lines and one for each of 120 nodes, none longer than 124 bytes, fit.
+const TEXT: usize = 16384;
+
+fn blank_input() -> [u8; INPUT] {
+    [0u8; INPUT]
+}
+
+fn blank_text() -> [u8; TEXT] {
+    [0u8; TEXT]
+}
+
+fn show(text: &[u8], end: usize) {
+    if end <= text.len() {
+        io::write_all(STDOUT_FILENO, &text[..end]);
+    }
+}
+
+fn weigh(bytes: &[u8], text: &mut [u8]) {
+    let end = report(text, bytes);
+    show(text, end);
+}
+
+fn main() {
+    let mut bytes = blank_input();
+    let mut text = blank_text();
+    let length = io::read_full(0, &mut bytes);
+    weigh(&bytes[..length], &mut text);
+}

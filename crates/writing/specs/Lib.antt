@@ -1,0 +1,2 @@
+-- What a reader must believe of writing into a lent slice.
+pub mod Writing

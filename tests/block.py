@@ -1,0 +1,73 @@
+"""The block file of document 01, read and written from its words alone; shares nothing with the proved code."""
+import struct
+
+
+def sums(front):
+    """The two sums of the bytes before them."""
+    return struct.pack('<HH', sum(front) % 65536, sum((i + 1) * b for i, b in enumerate(front)) % 65536)
+
+
+def block(number, held, nodes, total, room=None):
+    """One block, right or not: its places, or `room` in their stead."""
+    body = b''.join(struct.pack('<HII', *n) for n in nodes)
+    body = (body + bytes(500 - len(body))) if room is None else room
+    front = struct.pack('<HH', number, held) + body + struct.pack('<I', total)
+    return front + sums(front)
+
+
+def split(words):
+    return [tuple(words[i:i + 3]) for i in range(0, len(words), 3)]
+
+
+def write(words):
+    """The blocks of a file."""
+    ns = split(words)
+    return [block(i // 50, len(ns[i:i + 50]), ns[i:i + 50], len(ns)) for i in range(0, len(ns), 50)]
+
+
+def writer(words, lent):
+    """(answer, bytes) of the writer: the nodes, or number and place."""
+    if not words:
+        return ('refused', 1, 0), None
+    if len(words) % 3:
+        return ('refused', 2, 0), None
+    n = len(words) // 3
+    if n > 120:
+        return ('refused', 25, 0), None
+    if lent < 512 * -(-n // 50):
+        return ('refused', 4, 0), None
+    for p in range(n):
+        if words[3 * p] > 65535:
+            return ('refused', 26, p), None
+    return ('nodes', n), b''.join(write(words))
+
+
+def reader(data, output):
+    """(answer, output afterwards): block by block, each tested in document 01's order."""
+    output = list(output)
+    due, stated = 0, None
+    while True:
+        b = data[512 * due:512 * due + 512]
+        if len(b) < 512:
+            return ('refused', 21, due), output
+        if sums(b[:508]) != b[508:]:
+            return ('refused', 22, due), output
+        number, held = struct.unpack('<HH', b[:4])
+        total, = struct.unpack('<I', b[504:508])
+        if number != due or total == 0 or (stated is not None and total != stated) or held != min(50, total - 50 * due):
+            return ('refused', 23, due), output
+        if total > 120:
+            return ('refused', 25, due), output
+        if any(b[4 + 10 * held:504]):
+            return ('refused', 24, due), output
+        if 150 * due + 3 * held > len(output):
+            return ('refused', 4, due), output
+        for i in range(held):
+            at = 150 * due + 3 * i
+            output[at:at + 3] = struct.unpack('<HII', b[4 + 10 * i:14 + 10 * i])
+        stated, due = total, due + 1
+        if 50 * due >= total:
+            break
+    if len(data) > 512 * due:
+        return ('refused', 21, due), output
+    return ('nodes', total), output

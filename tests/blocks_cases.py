@@ -1,0 +1,171 @@
+"""Writes crates/blocks_run/stdin and stdout: files, whole and damaged, texts and reports, and what document 01 says of
+each; crates/weigh/stdin and stdout; and the files of examples/."""
+import os
+import random
+
+import block
+from diagram_cases import D
+from reading import nodes, verdict
+from weights_cases import by_chances
+
+HERE = os.path.dirname(os.path.abspath(__file__))
+TOP = os.path.join(HERE, '..')
+LENT, ROOM = 960, 7680
+random.seed(23)
+
+
+def said(answer):
+    return 'nodes %d' % answer[1] if answer[0] == 'nodes' else 'refused %d at %d' % answer[1:]
+
+
+def report(data):
+    """What the program prints."""
+    answer, output = block.reader(data, [0] * 360)
+    if answer[0] == 'refused':
+        return said(answer) + '\n'
+    words = output[:3 * answer[1]]
+    judged = verdict(words, ROOM, ('weights', LENT))
+    if judged[0] == 'refused':
+        return 'refused %d at %d\n' % judged[1:]
+    if len(words) == 3:
+        return 'refused 15 at 0\n'
+    weights = by_chances(words)
+    lines = ['vars %d' % words[0], 'nodes %d' % answer[1], 'count %x' % weights[1]]
+    lines += ['node %d var %d weight %x' % (p, n[0], weights[p]) for p, n in enumerate(nodes(words))]
+    return '\n'.join(lines) + '\n'
+
+
+def some(n):
+    """Words that fit a file, no diagram."""
+    return [x for _ in range(n) for x in (random.choice([0, 1, 255, 256, 65535]), random.choice([0, 4294967295, 65536, 7]), random.randrange(2 ** 32))]
+
+
+def chain(n):
+    """A diagram of n nodes: the conjunction of n - 2 variables."""
+    words = [n - 2, 0, 0, n - 2, 1, 1]
+    for p in range(2, n):
+        words += [n - 1 - p, 0, p - 1]
+    return words
+
+
+def changed(data, at, byte):
+    return data[:at] + bytes([byte]) + data[at + 1:]
+
+
+def resummed(b):
+    return b[:508] + block.sums(b[:508])
+
+
+def files():
+    """Bytes and lengths of output."""
+    for n in (1, 2, 49, 50, 51, 99, 100, 101, 119, 120):
+        words = some(n)
+        data = b''.join(block.write(words))
+        yield data, 3 * n
+        yield data, 3 * n + 4
+        yield data, 3 * n - 1
+        yield data + b'\0', 3 * n
+        yield data[:-1], 3 * n
+        yield changed(data, len(data) - 6, data[-6] ^ 1), 3 * n     # a sum
+        yield changed(data, len(data) - 1, data[-1] ^ 1), 3 * n
+    one = block.write([9, 8, 7])[0]
+    yield one, 3
+    yield one + b'x', 3
+    yield one + b'x', 0
+    yield b'', 9
+    yield bytes(512), 9                                             # every sum is right, no node
+    yield one[:100], 9
+    for place in (2, 504):                                          # counts, with right sums
+        yield resummed(changed(one, place, 2)), 9
+    yield resummed(changed(one, 0, 1)), 9                           # the second block's number
+    for at in (14, 250, 503):                                       # unused bytes
+        yield resummed(changed(one, at, 1)), 9
+    yield changed(one, 20, 1), 9                                    # and a wrong sum before
+    a = block.write([1, 2, 3] * 51)
+    yield a[0] + changed(a[1], 508, a[1][508] ^ 1), 153             # the first block's nodes are kept
+    yield a[0] + resummed(changed(a[1], 504, 52)), 153              # another total
+    yield a[1] + a[0], 153
+    yield a[0] + a[0], 153
+    yield a[0], 153
+    yield a[0] + a[1] + a[1], 153
+    yield a[0] + a[1], 150                                          # the second block's nodes don't fit
+    many = block.write([1, 2, 3] * 121)
+    yield b''.join(many), 400
+    yield resummed(changed(many[0], 2, 49)), 400
+    yield resummed(changed(many[0], 20, 1)), 400
+    wide = block.write(some(40))[0]
+    yield wide, 120
+    two = [many[0][:504] + (100).to_bytes(4, 'little')]
+    yield resummed(two[0]), 400
+
+
+def words_to_write():
+    for n in (0, 1, 50, 51, 120, 121):
+        words = some(n)
+        size = 512 * -(-n // 50)
+        for lent in (size, size + 3, max(size - 1, 0)):
+            yield words, lent
+    yield [1, 2], 512
+    yield [1, 2, 3, 4], 0
+    yield [65536, 0, 0], 512
+    yield [65536, 0, 0], 511
+    yield [0, 0, 0] * 2 + [70000, 1, 1] + [65536, 0, 0], 600
+
+
+def reported():
+    for words in (D, [3, 0, 0], [3, 0, 0, 3, 1, 1], chain(50), chain(100), chain(120), [255, 0, 0, 255, 1, 1, 0, 0, 1], D[:12] + [0, 2, 4],
+                  [3, 0, 0, 3, 1, 1, 2, 0, 1, 1, 0, 1], [256, 0, 0, 256, 1, 1], [9, 8, 7]):
+        yield b''.join(block.write(words))
+    for data, _ in list(files())[70:]:
+        yield data
+
+
+def texts():
+    decimals = ['0', '1', '9', '10', '4294967295', '4294967296', '99999999999999999999', '', '00', '01', '1a', 'a', ' 1', '1 ', '-1', '/', ':', '007']
+    hexadecimals = ['0', 'f', '10', 'ff', 'F', 'g', '0f', '', 'deadbeef0123456789', '1' + '0' * 63, 'f' * 64, '1' + '0' * 64, 'f' * 65, '`', 'a0', '00']
+    for t in decimals:
+        good = t.isdigit() and str(int(t)) == t and int(t) < 2 ** 32
+        yield 3, t, t if good else 'none'
+    for t in hexadecimals:
+        good = t != '' and all(c in '0123456789abcdef' for c in t) and '%x' % int(t, 16) == t and int(t, 16) < 2 ** 256
+        yield 4, t, t if good else 'none'
+
+
+def main():
+    cases, answers = [], []
+    for data, lent in files():
+        answer, output = block.reader(data, [9] * lent)
+        cases.append([0, lent, 9, *data])
+        answers.append(' '.join([said(answer), *map(str, output)]) + '\n')
+    for words, lent in words_to_write():
+        answer, data = block.writer(words, lent)
+        left = ([9] * lent) if data is None else list(data) + [9] * (lent - len(data))
+        cases.append([1, lent, 9, *words])
+        answers.append(' '.join([said(answer), *map(str, left)]) + '\n')
+    for data in reported():
+        cases.append([2, 0, 0, *data])
+        answers.append(report(data))
+    for kind, text, answer in texts():
+        cases.append([kind, 0, 0, *text.encode()])
+        answers.append(answer + '\n')
+    folder = os.path.join(TOP, 'crates', 'blocks_run')
+    with open(os.path.join(folder, 'stdin'), 'w') as f:
+        f.write('\n'.join(' '.join(map(str, c)) for c in cases))
+    with open(os.path.join(folder, 'stdout'), 'w') as f:
+        f.write(''.join(answers))
+    whole = block.write(D)[0]
+    assert whole[508:] == bytes([0x1E, 0, 0x2C, 0x0C])
+    with open(os.path.join(TOP, 'crates', 'weigh', 'stdin'), 'wb') as f:
+        f.write(whole)
+    with open(os.path.join(TOP, 'crates', 'weigh', 'stdout'), 'w') as f:
+        f.write(report(whole))
+    examples = os.path.join(TOP, 'examples')
+    os.makedirs(examples, exist_ok=True)
+    for name, data in (('D', whole), ('chain120', b''.join(block.write(chain(120)))), ('damaged', changed(whole, 30, whole[30] ^ 4)), ('false', block.write([3, 0, 0])[0])):
+        with open(os.path.join(examples, name + '.block'), 'wb') as f:
+            f.write(data)
+    print(len(cases), 'cases')
+
+
+if __name__ == '__main__':
+    main()
