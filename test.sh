@@ -1,11 +1,97 @@
 #!/usr/bin/env bash
-# All tests: the layout of every file, then every crate proved from nothing, every must-fail edit refused, every test
-# program run and its output compared. The last line is 'N passed, 0 failed'.
-set -eu
-cd "$(dirname "$0")"
+# All tests: the layout of every file; every crate proved from nothing, every must-fail edit refused, every test program
+# run and its output compared (rt ci); then, over the same proofs, the archive for C and Rust, the C test, the replay of
+# stored requests and the Rust crate's tests. Each of these counts as one beside what rt ci counts.
+# The last line is 'N passed, M failed'; the exit status is 0 only where M is 0.
+# A missing C compiler or cargo is said; what needs it is not run and not counted, and does not fail the others.
+set -u
+cd "$(dirname "$0")" || exit 2
 if ! command -v rt > /dev/null; then
     echo "test.sh: the Rattle toolchain's command rt is not on this machine's PATH" >&2
+    echo "0 passed, 1 failed"
     exit 2
 fi
-rt fmt --check
-exec rt ci
+
+passed=0 failed=0 left_out=''
+
+# step NAME COMMAND..: runs it and counts it.
+step() {
+    local name=$1
+    shift
+    if "$@"; then
+        passed=$((passed + 1))
+        echo "test.sh: $name: passed"
+    else
+        failed=$((failed + 1))
+        echo "test.sh: $name: FAILED"
+    fi
+}
+
+leave_out() {
+    left_out="$left_out
+test.sh: NOT RUN: $1"
+}
+
+# rt ci, its last line held back and its counts added. Whatever it says, a status other than 0 is a failure.
+gate() {
+    local said status numbers
+    said=$(mktemp) || { failed=$((failed + 1)); return 1; }
+    rt ci | awk -v said="$said" 'NR > 1 { print held; fflush() } { held = $0 } END { print held > said }'
+    status=${PIPESTATUS[0]}
+    numbers=$(sed -nE 's/^([0-9]+) passed, ([0-9]+) failed$/\1 \2/p' "$said")
+    if [ -n "$numbers" ]; then
+        echo "test.sh: rt ci: $(cat "$said")"
+        passed=$((passed + ${numbers% *})) failed=$((failed + ${numbers#* }))
+        [ "$status" -eq 0 ] || [ "${numbers#* }" -gt 0 ] || failed=$((failed + 1))
+    else
+        cat "$said"
+        echo "test.sh: rt ci ended with status $status and gave no counts"
+        failed=$((failed + 1)) status=1
+    fi
+    rm -f "$said"
+    return "$status"
+}
+
+archive=target/staticlib/libhouayletan.a
+built=target/tests
+
+c_program() { # NAME
+    mkdir -p "$built" && cc -std=c99 -Wall -Wextra -Werror -O2 "tests/c/$1.c" tests/c/absent.c "$archive" -o "$built/$1"
+}
+c_test() { c_program test && "$built/test"; }
+replay() { c_program replay && "$built/replay" tests/c/replay.txt; }
+rust_tests() {
+    HOUAYLETAN_LIB="$PWD/target/staticlib" CARGO_TARGET_DIR="$PWD/$built/rust" cargo test --offline --quiet --manifest-path bindings/rust/Cargo.toml
+}
+make_archive() {
+    mkdir -p target && rm -f "$archive"
+    rt staticlib houayletan > target/staticlib.log 2>&1 && [ -f "$archive" ] && return
+    cat target/staticlib.log
+    return 1
+}
+
+step "layout" rt fmt --check
+if gate; then
+    step "archive for C and Rust" make_archive
+    if [ ! -f "$archive" ]; then
+        leave_out "the C test, the replay and the Rust tests: there is no archive"
+    elif [ "$(uname -m)" != x86_64 ]; then
+        leave_out "the C test, the replay and the Rust tests: the archive links only on x86-64, and this machine is $(uname -m)"
+    elif ! cc --version > /dev/null 2>&1; then
+        leave_out "the C test, the replay and the Rust tests: there is no C compiler (cc) on this machine"
+    else
+        step "C test" c_test
+        step "replay" replay
+        if cargo --version > /dev/null 2>&1; then
+            step "Rust tests" rust_tests
+        else
+            leave_out "the Rust tests: there is no cargo on this machine"
+        fi
+    fi
+else
+    leave_out "the archive, the C test, the replay and the Rust tests: rt ci failed"
+fi
+
+[ -z "$left_out" ] || echo "${left_out#?}"
+echo "$passed passed, $failed failed"
+[ "$failed" -eq 0 ]

@@ -3,18 +3,20 @@
  * A diagram is three words a node: variable, low link, high link. Node 0 is the zero terminal (v, 0, 0), node 1 the one
  * terminal (v, 1, 1), v the variable count; one node alone is false, two are true; the root is the last node.
  * At most 4,096 nodes and 255 variables. Nodes may stand in any order, equal nodes and nodes with low = high are taken.
+ * A valuation's path starts at the root and follows low for 0, high for 1; the diagram holds where the path ends at node 1.
  *
  * Any words may be offered: what is no diagram is refused, with a number and a place. Lengths are counted in words. A
  * pointer is not null, also where its length is 0, points to that many words, and what a call writes to does not overlap
- * what it reads. Nothing is allocated and nothing is kept between calls.
+ * what it reads. Nothing is allocated and nothing is kept between calls; calls with buffers of their own may run in
+ * several threads. Link target/staticlib/libhouayletan.a (x86-64).
  *
- * Working room (`room`) is 64 words for each node, at least 128. What it holds at first does not matter. Refusal 5 and
- * those before it leave it as it was; those after it, and all answers, leave its first 64 x max(nodes, 2) words zero and
- * the rest as it was.
+ * Below, n is the number of nodes of the input and m the larger of n and 2.
  *
- * An output is 3 words for each node of the input, at least 6, where it is for a diagram, and 8 words for each node where
- * it is for weights. A refusal leaves it as it was; an answer leaves it as it was beyond the result. A count is 8 words of
- * 32 bits, least first.
+ *   room      at least HOUAYLETAN_ROOM(n) words, 64 x m. What it holds at first does not matter. Refusal 5 and those before
+ *             it leave it as it was; those after it, and all answers, leave its first 64 x m words zero and the rest as it was.
+ *   output    at least HOUAYLETAN_OUTPUT(n) words, 3 x m, for a diagram; 8 x n for weights; 255 for sizes by variable,
+ *             whatever the answer needs. A refusal leaves it as it was; an answer leaves it as it was beyond the result.
+ *   count     8 words of 32 bits, least first.
  *
  * Numbers of refusal, in the order in which the checks run:
  *
@@ -31,7 +33,12 @@
  *   10   a high link is past the nodes                                  the node
  *   11   a reachable non-terminal has a child not at a larger variable  the smallest such node
  *   12   a non-terminal is unreachable                                  the smallest such node
+ *   13   a listed pointer is past the nodes                             the first such place in the list, from 0
+ *   14   a terminal is listed and the root is not                       the first terminal's place in the list, from 0
  *   15   weights of the one-node diagram                                0
+ *   16   a count target above 2^v for an overapproximation              0
+ *   19   a count target strictly between 0 and 2^v: under on two nodes, over on one
+ *                                                                       0
  *
  * Of 8, 9 and 10 the first faulty node is reported, and in it the variable, then low, then high.
  */
@@ -45,8 +52,16 @@
 extern "C" {
 #endif
 
+#define HOUAYLETAN_NODES 4096
+#define HOUAYLETAN_VARS 255
+
+/* The words of working room, of a diagram output and of a weight output for an input of n nodes. */
+#define HOUAYLETAN_ROOM(n) (64 * ((size_t)(n) < 2 ? (size_t)2 : (size_t)(n)))
+#define HOUAYLETAN_OUTPUT(n) (3 * ((size_t)(n) < 2 ? (size_t)2 : (size_t)(n)))
+#define HOUAYLETAN_WEIGHTS(n) (8 * (size_t)(n))
+
 /* number 0: accepted, with the counts of nodes and of variables, and place 0.
- * Any other number: refused; place is a node or 0, nodes and vars are 0. */
+ * Any other number: refused; place is as in the table, nodes and vars are 0. */
 typedef struct {
     uint32_t number;
     size_t place;
@@ -54,19 +69,19 @@ typedef struct {
     uint32_t vars;
 } HouayletanVerdict;
 
-/* A verdict with a count, which is 0 where the words are refused. */
+/* A verdict with a count, which is 0 where the input is refused. */
 typedef struct {
     HouayletanVerdict verdict;
     uint32_t count[8];
 } HouayletanCount;
 
-/* A verdict with a count as a double, which is 0.0 where the words are refused. */
+/* A verdict with a count as a double, which is 0.0 where the input is refused. */
 typedef struct {
     HouayletanVerdict verdict;
     double count;
 } HouayletanFloat;
 
-/* A verdict, whose counts are those of the input, with the number of nodes in the output, 0 where the words are refused. */
+/* A verdict, whose counts are those of the input, with the number of nodes in the output, 0 where the input is refused. */
 typedef struct {
     HouayletanVerdict verdict;
     size_t nodes;
@@ -85,7 +100,7 @@ HouayletanFloat houayletan_cardinality(const uint32_t *words, size_t words_len, 
 HouayletanCount houayletan_exact_clause_cardinality(const uint32_t *words, size_t words_len, uint32_t *room, size_t room_len);
 
 /* For each node, in 8 words of the output, how many valuations that the diagram holds for have a path that visits it.
- * Refusals 1 to 12 and 15. */
+ * The output is 8 x n words. Refusals 1 to 12 and 15. */
 HouayletanVerdict houayletan_node_valuation_weights(const uint32_t *words, size_t words_len, uint32_t *room, size_t room_len,
                                                     uint32_t *output, size_t output_len);
 
@@ -96,6 +111,70 @@ HouayletanDiagram houayletan_reduce(const uint32_t *words, size_t words_len, uin
 
 /* Makes the first count words of room zero, or all of them where there are fewer. No refusals. */
 void houayletan_clear(uint32_t *room, size_t room_len, size_t count);
+
+#ifdef HOUAYLETAN_NEXT /* declared, and not in the archive yet */
+
+/* A verdict with a number, or with a yes as 1 and a no as 0; 0 where the input is refused. */
+typedef struct {
+    HouayletanVerdict verdict;
+    size_t amount;
+} HouayletanAmount;
+
+/* As HouayletanDiagram, with the number of cuts by a list that the search made, the last included; 0 where it made none. */
+typedef struct {
+    HouayletanVerdict verdict;
+    size_t nodes;
+    size_t trials;
+} HouayletanApproximation;
+
+/* A number of 8 words, least first: a count target, by value. */
+typedef struct {
+    uint32_t words[8];
+} HouayletanNatural;
+
+/* The number of nodes of the array, and of variables. Refusals 1 to 3 and 5 to 12. */
+HouayletanAmount houayletan_size(const uint32_t *words, size_t words_len, uint32_t *room, size_t room_len);
+HouayletanAmount houayletan_num_vars(const uint32_t *words, size_t words_len, uint32_t *room, size_t room_len);
+
+/* Whether the array has two nodes, and whether it has one: true and false by the array alone. Refusals 1 to 3 and 5 to 12. */
+HouayletanAmount houayletan_is_true(const uint32_t *words, size_t words_len, uint32_t *room, size_t room_len);
+HouayletanAmount houayletan_is_false(const uint32_t *words, size_t words_len, uint32_t *room, size_t room_len);
+
+/* Whether the diagram is one conjunction of literals, and whether it holds for one valuation alone. A yes is right; a no is
+ * right for a reduced array. Refusals 1 to 3 and 5 to 12. */
+HouayletanAmount houayletan_is_clause(const uint32_t *words, size_t words_len, uint32_t *room, size_t room_len);
+HouayletanAmount houayletan_is_valuation(const uint32_t *words, size_t words_len, uint32_t *room, size_t room_len);
+
+/* How many nodes each variable has: the first v words of an output of at least 255. Refusals 1 to 12. */
+HouayletanVerdict houayletan_size_per_variable(const uint32_t *words, size_t words_len, uint32_t *room, size_t room_len,
+                                               uint32_t *output, size_t output_len);
+
+/* The negation: constants exchange; else links 0 and 1 exchange and every node keeps its place. Refusals 1 to 12. */
+HouayletanDiagram houayletan_not(const uint32_t *words, size_t words_len, uint32_t *room, size_t room_len,
+                                 uint32_t *output, size_t output_len);
+
+/* Cuts by a list of node pointers: links to listed nodes go to 0 (under) or to 1 (over), then the diagram is reduced. A
+ * listed root gives false or true. Repeats are harmless, the empty list reduces. Refusals 1 to 14. */
+HouayletanDiagram houayletan_underapproximate(const uint32_t *words, size_t words_len, const uint32_t *list, size_t list_len,
+                                              uint32_t *room, size_t room_len, uint32_t *output, size_t output_len);
+HouayletanDiagram houayletan_overapproximate(const uint32_t *words, size_t words_len, const uint32_t *list, size_t list_len,
+                                             uint32_t *room, size_t room_len, uint32_t *output, size_t output_len);
+
+/* Cuts to at most target nodes, the nodes of least weight first. A diagram that has no more than target nodes comes out as
+ * it is. Targets 0 and 1 give false (under) or true (over, two nodes). Refusals 1 to 12. */
+HouayletanApproximation houayletan_underapproximate_to_size(const uint32_t *words, size_t words_len, uint32_t target,
+                                                            uint32_t *room, size_t room_len, uint32_t *output, size_t output_len);
+HouayletanApproximation houayletan_overapproximate_to_size(const uint32_t *words, size_t words_len, uint32_t target,
+                                                           uint32_t *room, size_t room_len, uint32_t *output, size_t output_len);
+
+/* Cuts to a count of at most target (under) or at least target (over). Where the count is so already the diagram comes out
+ * as it is, except that under to 0 gives the one-node false. Refusals 1 to 12 and 19 (under), 1 to 12, 16 and 19 (over). */
+HouayletanApproximation houayletan_underapproximate_to_cardinality(const uint32_t *words, size_t words_len, HouayletanNatural target,
+                                                                   uint32_t *room, size_t room_len, uint32_t *output, size_t output_len);
+HouayletanApproximation houayletan_overapproximate_to_cardinality(const uint32_t *words, size_t words_len, HouayletanNatural target,
+                                                                  uint32_t *room, size_t room_len, uint32_t *output, size_t output_len);
+
+#endif
 
 #ifdef __cplusplus
 }

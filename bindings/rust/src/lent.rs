@@ -1,0 +1,176 @@
+//! The functions of `include/houayletan.h` as they are: the caller lends working room and output, and nothing is allocated.
+//!
+//! Any slices may be lent; what is too short is refused. The room is 64 words a node, at least 128 ([`room_for`]); a diagram
+//! output 3 words a node, at least 6 ([`output_for`]).
+//!
+//! ```
+//! use houayletan::lent;
+//!
+//! let words = [1, 0, 0, 1, 1, 1, 0, 1, 1];
+//! let (mut room, mut output) = ([0; 192], [0; 9]);
+//! let made = lent::reduce(&words, &mut room, &mut output);
+//! assert_eq!((made.verdict.number, made.nodes), (0, 2));
+//! assert_eq!(output[..6], [1, 0, 0, 1, 1, 1]);
+//! assert_eq!(lent::reduce(&words, &mut room[..191], &mut output).verdict.number, 5);
+//! ```
+use crate::Count;
+
+/// Words of working room for a diagram of that many nodes.
+pub const fn room_for(nodes: usize) -> usize {
+    64 * if nodes < 2 { 2 } else { nodes }
+}
+
+/// Words of a diagram output for a diagram of that many nodes.
+pub const fn output_for(nodes: usize) -> usize {
+    3 * if nodes < 2 { 2 } else { nodes }
+}
+
+/// Number 0: accepted, with the input's counts. Else refused, and the counts are 0.
+#[derive(Clone, Copy, Debug, Eq, PartialEq)]
+#[repr(C)]
+pub struct Verdict {
+    pub number: u32,
+    pub place: usize,
+    pub nodes: usize,
+    pub vars: u32,
+}
+
+/// A verdict with a count, zero where it is refused.
+#[derive(Clone, Copy, Debug, Eq, PartialEq)]
+#[repr(C)]
+pub struct Counted {
+    pub verdict: Verdict,
+    pub count: Count,
+}
+
+/// A verdict with a count as `f64`, 0.0 where it is refused.
+#[derive(Clone, Copy, Debug, PartialEq)]
+#[repr(C)]
+pub struct CountedFloat {
+    pub verdict: Verdict,
+    pub count: f64,
+}
+
+/// A verdict with a number, or with a yes as 1 and a no as 0; 0 where it is refused.
+#[derive(Clone, Copy, Debug, Eq, PartialEq)]
+#[repr(C)]
+pub struct Amount {
+    pub verdict: Verdict,
+    pub amount: usize,
+}
+
+/// A verdict with the number of nodes in the output, 0 where it is refused.
+#[derive(Clone, Copy, Debug, Eq, PartialEq)]
+#[repr(C)]
+pub struct Diagram {
+    pub verdict: Verdict,
+    pub nodes: usize,
+}
+
+/// A diagram with the number of cuts by a list that were made for it.
+#[derive(Clone, Copy, Debug, Eq, PartialEq)]
+#[repr(C)]
+pub struct Approximation {
+    pub verdict: Verdict,
+    pub nodes: usize,
+    pub trials: usize,
+}
+
+// The archive's functions ask for nothing but that pointer and length are a slice's, so each is safe over slices.
+
+/// A function of words and room.
+macro_rules! asks {
+    ($(#[$meta:meta])* $name:ident, $symbol:ident, $answer:ty) => {
+        $(#[$meta])*
+        #[doc = concat!("[`crate::", stringify!($name), "`], over what is lent.")]
+        pub fn $name(words: &[u32], room: &mut [u32]) -> $answer {
+            extern "C" {
+                fn $symbol(words: *const u32, words_len: usize, room: *mut u32, room_len: usize) -> $answer;
+            }
+            unsafe { $symbol(words.as_ptr(), words.len(), room.as_mut_ptr(), room.len()) }
+        }
+    };
+}
+
+/// A function of words, room and output.
+macro_rules! writes {
+    ($(#[$meta:meta])* $name:ident, $symbol:ident, $answer:ty) => {
+        $(#[$meta])*
+        #[doc = concat!("[`crate::", stringify!($name), "`], over what is lent.")]
+        pub fn $name(words: &[u32], room: &mut [u32], output: &mut [u32]) -> $answer {
+            extern "C" {
+                fn $symbol(
+                    words: *const u32, words_len: usize, room: *mut u32, room_len: usize, output: *mut u32, output_len: usize,
+                ) -> $answer;
+            }
+            let (out, out_len) = (output.as_mut_ptr(), output.len());
+            unsafe { $symbol(words.as_ptr(), words.len(), room.as_mut_ptr(), room.len(), out, out_len) }
+        }
+    };
+}
+
+/// A cut by a list.
+macro_rules! cuts_by_list {
+    ($(#[$meta:meta])* $name:ident, $symbol:ident) => {
+        $(#[$meta])*
+        #[doc = concat!("[`crate::", stringify!($name), "`], over what is lent.")]
+        pub fn $name(words: &[u32], list: &[u32], room: &mut [u32], output: &mut [u32]) -> Diagram {
+            extern "C" {
+                fn $symbol(
+                    words: *const u32, words_len: usize, list: *const u32, list_len: usize,
+                    room: *mut u32, room_len: usize, output: *mut u32, output_len: usize,
+                ) -> Diagram;
+            }
+            let (out, out_len) = (output.as_mut_ptr(), output.len());
+            unsafe { $symbol(words.as_ptr(), words.len(), list.as_ptr(), list.len(), room.as_mut_ptr(), room.len(), out, out_len) }
+        }
+    };
+}
+
+/// A cut to a target.
+macro_rules! cuts_to {
+    ($(#[$meta:meta])* $name:ident, $symbol:ident, $target:ty) => {
+        $(#[$meta])*
+        #[doc = concat!("[`crate::", stringify!($name), "`], over what is lent.")]
+        pub fn $name(words: &[u32], target: $target, room: &mut [u32], output: &mut [u32]) -> Approximation {
+            extern "C" {
+                fn $symbol(
+                    words: *const u32, words_len: usize, target: $target,
+                    room: *mut u32, room_len: usize, output: *mut u32, output_len: usize,
+                ) -> Approximation;
+            }
+            let (out, out_len) = (output.as_mut_ptr(), output.len());
+            unsafe { $symbol(words.as_ptr(), words.len(), target, room.as_mut_ptr(), room.len(), out, out_len) }
+        }
+    };
+}
+
+asks!(validate, houayletan_validate, Verdict);
+asks!(exact_cardinality, houayletan_exact_cardinality, Counted);
+asks!(exact_clause_cardinality, houayletan_exact_clause_cardinality, Counted);
+asks!(cardinality, houayletan_cardinality, CountedFloat);
+writes!(node_valuation_weights, houayletan_node_valuation_weights, Verdict);
+writes!(reduce, houayletan_reduce, Diagram);
+
+asks!(#[cfg(has = "size")] size, houayletan_size, Amount);
+asks!(#[cfg(has = "num_vars")] num_vars, houayletan_num_vars, Amount);
+asks!(#[cfg(has = "is_true")] is_true, houayletan_is_true, Amount);
+asks!(#[cfg(has = "is_false")] is_false, houayletan_is_false, Amount);
+asks!(#[cfg(has = "is_clause")] is_clause, houayletan_is_clause, Amount);
+asks!(#[cfg(has = "is_valuation")] is_valuation, houayletan_is_valuation, Amount);
+writes!(#[cfg(has = "size_per_variable")] size_per_variable, houayletan_size_per_variable, Verdict);
+writes!(#[cfg(has = "not")] not, houayletan_not, Diagram);
+cuts_by_list!(#[cfg(has = "underapproximate")] underapproximate, houayletan_underapproximate);
+cuts_by_list!(#[cfg(has = "overapproximate")] overapproximate, houayletan_overapproximate);
+cuts_to!(#[cfg(has = "underapproximate_to_size")] underapproximate_to_size, houayletan_underapproximate_to_size, u32);
+cuts_to!(#[cfg(has = "overapproximate_to_size")] overapproximate_to_size, houayletan_overapproximate_to_size, u32);
+cuts_to!(#[cfg(has = "underapproximate_to_cardinality")] underapproximate_to_cardinality, houayletan_underapproximate_to_cardinality, Count);
+cuts_to!(#[cfg(has = "overapproximate_to_cardinality")] overapproximate_to_cardinality, houayletan_overapproximate_to_cardinality, Count);
+
+/// Makes the first `count` words zero, or all where there are fewer.
+pub fn clear(room: &mut [u32], count: usize) {
+    extern "C" {
+        fn houayletan_clear(room: *mut u32, room_len: usize, count: usize);
+    }
+    unsafe { houayletan_clear(room.as_mut_ptr(), room.len(), count) }
+}

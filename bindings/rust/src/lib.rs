@@ -1,0 +1,396 @@
+//! Decision diagrams cut, counted and checked, with every function of the library below proved to meet its contract.
+//!
+//! A diagram is a slice of 32-bit words, three for a node: variable, low link, high link. Node 0 is the zero terminal
+//! `(v, 0, 0)`, node 1 the one terminal `(v, 1, 1)`, with `v` the variable count; one node alone is false, two are true. The
+//! root is the last node. At most 4,096 nodes and 255 variables; nodes may stand in any order.
+//!
+//! Any words may be offered. What is no diagram is refused with a number, a place and a sentence ([`Refusal`]). Each function
+//! here allocates its output and its working room; in [`lent`] the caller lends them.
+//!
+//! ```
+//! # fn main() -> Result<(), houayletan::Refusal> {
+//! // x2, or x0 and x1
+//! let words = [3, 0, 0, 3, 1, 1, 2, 0, 1, 1, 2, 1, 0, 2, 3];
+//! let accepted = houayletan::validate(&words)?;
+//! assert_eq!((accepted.nodes, accepted.vars), (5, 3));
+//! assert_eq!(houayletan::exact_cardinality(&words)?.to_string(), "5");
+//!
+//! let refusal = houayletan::validate(&words[..14]).unwrap_err();
+//! assert_eq!(refusal.to_string(), "refused 2 at 0: the number of words is not a multiple of three");
+//! # Ok(())
+//! # }
+//! ```
+#![warn(missing_docs)]
+
+mod count;
+mod refusal;
+
+#[allow(missing_docs)]
+pub mod lent;
+
+pub use count::Count;
+pub use refusal::Refusal;
+
+/// The most nodes of a diagram that is accepted.
+pub const MOST_NODES: usize = 4096;
+/// The most variables of a diagram that is accepted.
+pub const MOST_VARS: usize = 255;
+
+/// The counts of an accepted diagram.
+#[derive(Clone, Copy, Debug, Eq, PartialEq)]
+pub struct Accepted {
+    /// How many nodes the array has.
+    pub nodes: usize,
+    /// How many variables there are.
+    pub vars: u32,
+}
+
+/// What a cut to a target gives.
+#[derive(Clone, Debug, Eq, PartialEq)]
+pub struct Cut {
+    /// The diagram.
+    pub words: Vec<u32>,
+    /// How many cuts by a list the search made, the last included; 0 where it made none.
+    pub trials: usize,
+}
+
+fn accepted(verdict: lent::Verdict) -> Result<Accepted, Refusal> {
+    let lent::Verdict { number, place, nodes, vars } = verdict;
+    if number == 0 {
+        Ok(Accepted { nodes, vars })
+    } else {
+        Err(Refusal { number, place })
+    }
+}
+
+/// How many nodes to make room for. More than [`MOST_NODES`] are refused whatever the room.
+fn nodes_of(words: &[u32]) -> usize {
+    (words.len() / 3).min(MOST_NODES)
+}
+
+fn room_for(words: &[u32]) -> Vec<u32> {
+    vec![0; lent::room_for(nodes_of(words))]
+}
+
+/// The diagram that a function of the library writes to an output of the right length.
+fn diagram(words: &[u32], write: impl FnOnce(&mut [u32], &mut [u32]) -> lent::Diagram) -> Result<Vec<u32>, Refusal> {
+    let mut output = vec![0; lent::output_for(nodes_of(words))];
+    let made = write(&mut room_for(words), &mut output);
+    accepted(made.verdict)?;
+    output.truncate(3 * made.nodes);
+    Ok(output)
+}
+
+/// The check of any words as a diagram. Refusals 1 to 3 and 6 to 12.
+///
+/// ```
+/// assert!(houayletan::validate(&[7, 0, 0]).is_ok());
+/// let refusal = houayletan::validate(&[1, 0, 0, 1, 1, 1, 0, 0, 3]).unwrap_err();
+/// assert_eq!((refusal.number, refusal.place), (10, 2));
+/// ```
+pub fn validate(words: &[u32]) -> Result<Accepted, Refusal> {
+    accepted(lent::validate(words, &mut room_for(words)))
+}
+
+/// How many of the 2^v valuations the diagram holds for. Refusals 1 to 3 and 6 to 12.
+///
+/// ```
+/// let all = houayletan::exact_cardinality(&[255, 0, 0, 255, 1, 1])?;
+/// assert_eq!(all, houayletan::Count::power_of_two(255));
+/// # Ok::<(), houayletan::Refusal>(())
+/// ```
+pub fn exact_cardinality(words: &[u32]) -> Result<Count, Refusal> {
+    let counted = lent::exact_cardinality(words, &mut room_for(words));
+    accepted(counted.verdict).map(|_| counted.count)
+}
+
+/// How many paths lead from the root to node 1, in the array as it stands. Refusals 1 to 3 and 6 to 12.
+///
+/// ```
+/// let words = [3, 0, 0, 3, 1, 1, 2, 0, 1, 1, 2, 1, 0, 2, 3];
+/// assert_eq!(houayletan::exact_clause_cardinality(&words)?.to_string(), "3");
+/// # Ok::<(), houayletan::Refusal>(())
+/// ```
+pub fn exact_clause_cardinality(words: &[u32]) -> Result<Count, Refusal> {
+    let counted = lent::exact_clause_cardinality(words, &mut room_for(words));
+    accepted(counted.verdict).map(|_| counted.count)
+}
+
+/// For each node, how many valuations that the diagram holds for have a path that visits it. Refusals 1 to 3, 6 to 12, and
+/// 15 for the one-node diagram.
+///
+/// ```
+/// let words = [3, 0, 0, 3, 1, 1, 2, 0, 1, 1, 2, 1, 0, 2, 3];
+/// let weights = houayletan::node_valuation_weights(&words)?;
+/// assert_eq!(weights, [0u32, 5, 3, 3, 5].map(houayletan::Count::from));
+/// # Ok::<(), houayletan::Refusal>(())
+/// ```
+pub fn node_valuation_weights(words: &[u32]) -> Result<Vec<Count>, Refusal> {
+    let mut output = vec![0; 8 * nodes_of(words)];
+    accepted(lent::node_valuation_weights(words, &mut room_for(words), &mut output))?;
+    Ok(output.chunks_exact(8).map(|w| Count::new(w.try_into().unwrap())).collect())
+}
+
+/// The reduced diagram of the same function: no node with low = high, no two equal nodes, only reachable ones; nodes after
+/// the terminals numbered on the way back, low branch first, root last. Refusals 1 to 3 and 6 to 12.
+///
+/// ```
+/// assert_eq!(houayletan::reduce(&[1, 0, 0, 1, 1, 1, 0, 1, 1])?, [1, 0, 0, 1, 1, 1]);
+/// # Ok::<(), houayletan::Refusal>(())
+/// ```
+pub fn reduce(words: &[u32]) -> Result<Vec<u32>, Refusal> {
+    diagram(words, |room, output| lent::reduce(words, room, output))
+}
+
+/// The count as an `f64`: exact up to 2^53; beyond, each node's sum is rounded once. Refusals 1 to 3 and 6 to 12.
+///
+/// ```
+/// let words = [3, 0, 0, 3, 1, 1, 2, 0, 1, 1, 2, 1, 0, 2, 3];
+/// assert_eq!(houayletan::cardinality(&words)?, 5.0);
+/// # Ok::<(), houayletan::Refusal>(())
+/// ```
+pub fn cardinality(words: &[u32]) -> Result<f64, Refusal> {
+    let counted = lent::cardinality(words, &mut room_for(words));
+    accepted(counted.verdict).map(|_| counted.count)
+}
+
+/// How many nodes the array has. Refusals 1 to 3 and 6 to 12.
+///
+/// ```
+/// assert_eq!(houayletan::size(&[3, 0, 0, 3, 1, 1]), Ok(2));
+/// ```
+#[cfg(has = "size")]
+pub fn size(words: &[u32]) -> Result<usize, Refusal> {
+    let said = lent::size(words, &mut room_for(words));
+    accepted(said.verdict).map(|_| said.amount)
+}
+
+/// How many variables there are. Refusals 1 to 3 and 6 to 12.
+///
+/// ```
+/// assert_eq!(houayletan::num_vars(&[3, 0, 0, 3, 1, 1]), Ok(3));
+/// ```
+#[cfg(has = "num_vars")]
+pub fn num_vars(words: &[u32]) -> Result<usize, Refusal> {
+    let said = lent::num_vars(words, &mut room_for(words));
+    accepted(said.verdict).map(|_| said.amount)
+}
+
+/// Whether the array has two nodes. Refusals 1 to 3 and 6 to 12.
+///
+/// ```
+/// assert_eq!(houayletan::is_true(&[3, 0, 0, 3, 1, 1]), Ok(true));
+/// ```
+#[cfg(has = "is_true")]
+pub fn is_true(words: &[u32]) -> Result<bool, Refusal> {
+    let said = lent::is_true(words, &mut room_for(words));
+    accepted(said.verdict).map(|_| said.amount == 1)
+}
+
+/// Whether the array has one node. Refusals 1 to 3 and 6 to 12.
+///
+/// ```
+/// assert_eq!(houayletan::is_false(&[3, 0, 0, 3, 1, 1]), Ok(false));
+/// ```
+#[cfg(has = "is_false")]
+pub fn is_false(words: &[u32]) -> Result<bool, Refusal> {
+    let said = lent::is_false(words, &mut room_for(words));
+    accepted(said.verdict).map(|_| said.amount == 1)
+}
+
+/// Whether the diagram is one conjunction of literals. A yes is right; a no is right for a reduced array. Refusals 1 to 3
+/// and 6 to 12.
+///
+/// ```
+/// // x0 and not x1
+/// assert_eq!(houayletan::is_clause(&[3, 0, 0, 3, 1, 1, 1, 1, 0, 0, 0, 2]), Ok(true));
+/// ```
+#[cfg(has = "is_clause")]
+pub fn is_clause(words: &[u32]) -> Result<bool, Refusal> {
+    let said = lent::is_clause(words, &mut room_for(words));
+    accepted(said.verdict).map(|_| said.amount == 1)
+}
+
+/// Whether the diagram holds for one valuation alone. A yes is right; a no is right for a reduced array. Refusals 1 to 3
+/// and 6 to 12.
+///
+/// ```
+/// // x0 and not x1, of three variables and of two
+/// assert_eq!(houayletan::is_valuation(&[3, 0, 0, 3, 1, 1, 1, 1, 0, 0, 0, 2]), Ok(false));
+/// assert_eq!(houayletan::is_valuation(&[2, 0, 0, 2, 1, 1, 1, 1, 0, 0, 0, 2]), Ok(true));
+/// ```
+#[cfg(has = "is_valuation")]
+pub fn is_valuation(words: &[u32]) -> Result<bool, Refusal> {
+    let said = lent::is_valuation(words, &mut room_for(words));
+    accepted(said.verdict).map(|_| said.amount == 1)
+}
+
+/// How many nodes each variable has, one number a variable. Refusals 1 to 3 and 6 to 12.
+///
+/// ```
+/// let words = [3, 0, 0, 3, 1, 1, 2, 0, 1, 2, 1, 0, 0, 2, 3];
+/// assert_eq!(houayletan::size_per_variable(&words)?, [1, 0, 2]);
+/// # Ok::<(), houayletan::Refusal>(())
+/// ```
+#[cfg(has = "size_per_variable")]
+pub fn size_per_variable(words: &[u32]) -> Result<Vec<u32>, Refusal> {
+    let mut output = vec![0; MOST_VARS];
+    let accepted = accepted(lent::size_per_variable(words, &mut room_for(words), &mut output))?;
+    output.truncate(accepted.vars as usize);
+    Ok(output)
+}
+
+/// The negation: constants exchange; else links 0 and 1 exchange and every node keeps its place. Refusals 1 to 3 and 6 to 12.
+///
+/// ```
+/// assert_eq!(houayletan::not(&[1, 0, 0, 1, 1, 1, 0, 0, 1])?, [1, 0, 0, 1, 1, 1, 0, 1, 0]);
+/// assert_eq!(houayletan::not(&[1, 0, 0])?, [1, 0, 0, 1, 1, 1]);
+/// # Ok::<(), houayletan::Refusal>(())
+/// ```
+#[cfg(has = "not")]
+pub fn not(words: &[u32]) -> Result<Vec<u32>, Refusal> {
+    diagram(words, |room, output| lent::not(words, room, output))
+}
+
+/// Links to the listed nodes go to 0, then the diagram is reduced; a listed root gives false. Refusals 1 to 3 and 6 to 14.
+///
+/// ```
+/// let words = [3, 0, 0, 3, 1, 1, 2, 0, 1, 1, 2, 1, 0, 2, 3];
+/// assert_eq!(houayletan::underapproximate(&words, &[3])?, [3, 0, 0, 3, 1, 1, 2, 0, 1, 0, 2, 0]);
+/// let refusal = houayletan::underapproximate(&words, &[2, 9]).unwrap_err();
+/// assert_eq!((refusal.number, refusal.place), (13, 1));
+/// # Ok::<(), houayletan::Refusal>(())
+/// ```
+#[cfg(has = "underapproximate")]
+pub fn underapproximate(words: &[u32], list: &[u32]) -> Result<Vec<u32>, Refusal> {
+    diagram(words, |room, output| lent::underapproximate(words, list, room, output))
+}
+
+/// Links to the listed nodes go to 1, then the diagram is reduced; a listed root gives true. Refusals 1 to 3 and 6 to 14.
+///
+/// ```
+/// let words = [3, 0, 0, 3, 1, 1, 2, 0, 1, 1, 2, 1, 0, 2, 3];
+/// assert_eq!(houayletan::overapproximate(&words, &[3])?, [3, 0, 0, 3, 1, 1, 2, 0, 1, 0, 2, 1]);
+/// # Ok::<(), houayletan::Refusal>(())
+/// ```
+#[cfg(has = "overapproximate")]
+pub fn overapproximate(words: &[u32], list: &[u32]) -> Result<Vec<u32>, Refusal> {
+    diagram(words, |room, output| lent::overapproximate(words, list, room, output))
+}
+
+#[cfg(any(has = "underapproximate_to_size", has = "underapproximate_to_cardinality"))]
+fn cut(words: &[u32], write: impl FnOnce(&mut [u32], &mut [u32]) -> lent::Approximation) -> Result<Cut, Refusal> {
+    let mut trials = 0;
+    let words = diagram(words, |room, output| {
+        let made = write(room, output);
+        trials = made.trials;
+        lent::Diagram { verdict: made.verdict, nodes: made.nodes }
+    })?;
+    Ok(Cut { words, trials })
+}
+
+/// Holds for fewer valuations and has at most `target` nodes, where that is 2 or more; the nodes of least weight go first. A
+/// diagram of no more than `target` nodes comes out as it is; targets 0 and 1 give false. Refusals 1 to 3 and 6 to 12.
+///
+/// ```
+/// let words = [3, 0, 0, 3, 1, 1, 2, 0, 1, 1, 2, 1, 0, 2, 3];
+/// let cut = houayletan::underapproximate_to_size(&words, 4)?;
+/// assert_eq!((cut.words, cut.trials), (vec![3, 0, 0, 3, 1, 1, 2, 0, 1, 0, 2, 0], 2));
+/// # Ok::<(), houayletan::Refusal>(())
+/// ```
+#[cfg(has = "underapproximate_to_size")]
+pub fn underapproximate_to_size(words: &[u32], target: u32) -> Result<Cut, Refusal> {
+    cut(words, |room, output| lent::underapproximate_to_size(words, target, room, output))
+}
+
+/// Holds for more valuations and has at most `target` nodes, where that is 2 or more: the negation is cut and negated back.
+/// Targets 0 and 1 give true. Refusals 1 to 3 and 6 to 12.
+///
+/// ```
+/// let words = [3, 0, 0, 3, 1, 1, 2, 0, 1, 1, 2, 1, 0, 2, 3];
+/// let cut = houayletan::overapproximate_to_size(&words, 4)?;
+/// assert_eq!((cut.words, cut.trials), (vec![3, 0, 0, 3, 1, 1, 2, 0, 1, 0, 2, 1], 2));
+/// # Ok::<(), houayletan::Refusal>(())
+/// ```
+#[cfg(has = "overapproximate_to_size")]
+pub fn overapproximate_to_size(words: &[u32], target: u32) -> Result<Cut, Refusal> {
+    cut(words, |room, output| lent::overapproximate_to_size(words, target, room, output))
+}
+
+/// Holds for at most `target` valuations, all of them the diagram's. A count that is no more than `target` leaves the diagram
+/// as it is; 0 gives the one-node false. Refusals 1 to 3, 6 to 12, and 19 for the two-node diagram.
+///
+/// ```
+/// let words = [3, 0, 0, 3, 1, 1, 2, 0, 1, 1, 2, 1, 0, 2, 3];
+/// let cut = houayletan::underapproximate_to_cardinality(&words, 4u32.into())?;
+/// assert_eq!((cut.words, cut.trials), (vec![3, 0, 0, 3, 1, 1, 2, 0, 1, 0, 2, 0], 1));
+/// # Ok::<(), houayletan::Refusal>(())
+/// ```
+#[cfg(has = "underapproximate_to_cardinality")]
+pub fn underapproximate_to_cardinality(words: &[u32], target: Count) -> Result<Cut, Refusal> {
+    cut(words, |room, output| lent::underapproximate_to_cardinality(words, target, room, output))
+}
+
+/// Holds for at least `target` valuations, all of the diagram's among them. A count that is no less than `target` leaves the
+/// diagram as it is. Refusals 1 to 3, 6 to 12, 16 above 2^v, and 19 for the one-node diagram.
+///
+/// ```
+/// let words = [3, 0, 0, 3, 1, 1, 2, 0, 1, 1, 2, 1, 0, 2, 3];
+/// let cut = houayletan::overapproximate_to_cardinality(&words, 8u32.into())?;
+/// assert_eq!((cut.words, cut.trials), (vec![3, 0, 0, 3, 1, 1], 0));
+/// assert_eq!(houayletan::overapproximate_to_cardinality(&words, 9u32.into()).unwrap_err().number, 16);
+/// # Ok::<(), houayletan::Refusal>(())
+/// ```
+#[cfg(has = "overapproximate_to_cardinality")]
+pub fn overapproximate_to_cardinality(words: &[u32], target: Count) -> Result<Cut, Refusal> {
+    cut(words, |room, output| lent::overapproximate_to_cardinality(words, target, room, output))
+}
+
+#[cfg(test)]
+mod tests {
+    use super::*;
+
+    #[test]
+    fn refusals_reach_the_caller() {
+        let number = |words: &[u32]| validate(words).map_err(|r| (r.number, r.place));
+        assert_eq!(number(&[]), Err((1, 0)));
+        assert_eq!(number(&[1, 2]), Err((2, 0)));
+        assert_eq!(number(&vec![0; 3 * 4097]), Err((3, 0)));
+        assert_eq!(number(&vec![0; 3 * 4096]), Err((6, 1)));
+        assert_eq!(number(&[256, 0, 0]), Err((7, 0)));
+        assert_eq!(number(&[1, 0, 0, 1, 1, 1, 1, 0, 1]), Err((8, 2)));
+        assert_eq!(number(&[1, 0, 0, 1, 1, 1, 0, 3, 1]), Err((9, 2)));
+        assert_eq!(number(&[1, 0, 0, 1, 1, 1, 0, 0, 1, 0, 0, 1]), Err((12, 2)));
+        assert_eq!(node_valuation_weights(&[0, 0, 0]).unwrap_err().number, 15);
+        assert_eq!(reduce(&[]).unwrap_err().number, 1);
+    }
+
+    #[test]
+    fn every_number_has_a_sentence() {
+        for number in (1..=16).chain([19]) {
+            let refusal = Refusal { number, place: 7 };
+            assert!(!refusal.sentence().contains("no table"), "{number}");
+            assert!(refusal.to_string().starts_with(&format!("refused {number} at 7: ")));
+        }
+    }
+
+    #[test]
+    fn a_whole_tree() {
+        // each node's children are the next level's two nodes; at the last level all say x11
+        let mut words = vec![12, 0, 0, 12, 1, 1];
+        let mut below = vec![0, 1];
+        for var in (1..12u32).rev() {
+            let first = words.len() as u32 / 3;
+            let width = 1 << (var - 1);
+            for i in 0..width {
+                let of = |side: usize| below[(2 * i + side) % below.len()];
+                words.extend([var, of(0), of(1)]);
+            }
+            below = (first..first + width as u32).collect();
+        }
+        assert_eq!(validate(&words), Ok(Accepted { nodes: 2049, vars: 12 }));
+        assert_eq!(reduce(&words).unwrap(), [12, 0, 0, 12, 1, 1, 11, 0, 1]);
+        assert_eq!(exact_cardinality(&words).unwrap().to_string(), "2048");
+        assert_eq!(exact_clause_cardinality(&words).unwrap().to_string(), "1024");
+    }
+}

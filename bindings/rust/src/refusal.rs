@@ -1,0 +1,51 @@
+use std::fmt::{Display, Formatter};
+
+/// Why an input is refused: a number and a place, as the table of `include/houayletan.h` says, and a sentence.
+///
+/// ```
+/// let refusal = houayletan::validate(&[1, 0, 0, 1, 1, 1, 0, 2, 1]).unwrap_err();
+/// assert_eq!((refusal.number, refusal.place), (11, 2));
+/// assert_eq!(refusal.to_string(), "refused 11 at 2: node 2 has a child that is not at a larger variable");
+/// ```
+#[derive(Clone, Copy, Debug, Eq, Hash, PartialEq)]
+pub struct Refusal {
+    /// 1 to 16 or 19.
+    pub number: u32,
+    /// A node, a place in the list of a cut, or 0.
+    pub place: usize,
+}
+
+impl Refusal {
+    /// What is wrong, in words.
+    pub fn sentence(&self) -> String {
+        let place = self.place;
+        match self.number {
+            1 => "there are no words".into(),
+            2 => "the number of words is not a multiple of three".into(),
+            3 => "there are more than 4,096 nodes".into(),
+            4 => "the output is too short".into(),
+            5 => "the working room is too short".into(),
+            6 => format!("node {place} is not the terminal that stands there in a diagram, with node 0's variable count"),
+            7 => "there are more than 255 variables".into(),
+            8 => format!("node {place} has a variable that is not below the variable count"),
+            9 => format!("node {place} has a low link past the nodes"),
+            10 => format!("node {place} has a high link past the nodes"),
+            11 => format!("node {place} has a child that is not at a larger variable"),
+            12 => format!("node {place} can't be reached from the root"),
+            13 => format!("the pointer at place {place} of the list is past the nodes"),
+            14 => format!("the pointer at place {place} of the list is a terminal, and the root is not listed"),
+            15 => "the one-node diagram has no weights".into(),
+            16 => "the count to reach is above the number of all valuations".into(),
+            19 => "a constant can't be cut to a count between 0 and the number of all valuations".into(),
+            number => format!("number {number} is in no table"),
+        }
+    }
+}
+
+impl Display for Refusal {
+    fn fmt(&self, f: &mut Formatter<'_>) -> std::fmt::Result {
+        write!(f, "refused {} at {}: {}", self.number, self.place, self.sentence())
+    }
+}
+
+impl std::error::Error for Refusal {}

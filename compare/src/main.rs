@@ -1,0 +1,222 @@
+//! The same requests to the Rust text and to the library, every answer compared.
+//!
+//!     houayletan-compare SEED REQUESTS          compares; the first difference is printed as a line for tests/c/replay.c
+//!     houayletan-compare store SEED REQUESTS    prints requests with the expected answers, for tests/c/replay.txt
+mod generate;
+mod random;
+mod reading;
+mod reference;
+mod request;
+mod safe;
+
+use num_bigint::BigUint;
+use random::Random;
+use request::{Argument, Operation, Request, OPERATIONS};
+use rust_text::Bdd;
+use std::collections::BTreeMap;
+
+/// The most nodes of a request's diagram: many small ones, some of every size.
+fn most_nodes(random: &mut Random) -> usize {
+    match random.below(100) {
+        0..=29 => random.from_to(3, 10),
+        30..=59 => random.from_to(8, 64),
+        60..=84 => random.from_to(40, 500),
+        85..=94 => random.from_to(400, 2000),
+        95..=97 => random.from_to(2000, 4096),
+        _ => 4096,
+    }
+}
+
+/// The words, the family's number, and whether they were damaged.
+fn words(random: &mut Random, most: usize) -> (Vec<u32>, usize, bool) {
+    let (family, words) = generate::diagram(random, most);
+    assert!(reading::check(&words, usize::MAX, reading::Output::Nothing, 0).is_ok(), "{}: {words:?}", generate::FAMILIES[family].0);
+    match random.below(40) {
+        0 => {
+            let len = random.from_to(0, 12);
+            ((0..len).map(|_| random.below(4) as u32).collect(), family, true)
+        }
+        1 if random.one_in(4) => {
+            // 4,096 nodes and one more
+            let mut words = words;
+            words.resize(3 * random.from_to(4096, 4097) + random.below(2), 1);
+            (words, family, true)
+        }
+        2..=11 => (generate::damaged(random, words), family, true),
+        _ => (words, family, false),
+    }
+}
+
+fn list(random: &mut Random, n: usize) -> Vec<u32> {
+    let n = n.max(1);
+    let len = match random.below(6) {
+        0 => 0,
+        1..=3 => random.from_to(1, 4),
+        4 => random.from_to(1, n),
+        _ => random.from_to(1, n.min(40)),
+    };
+    // mostly nodes that may be listed
+    let from = if n > 3 { 2 } else { 0 };
+    let to = if n > 3 { n - 2 } else { n - 1 };
+    let mut list: Vec<u32> = (0..len).map(|_| random.from_to(from, to.max(from)) as u32).collect();
+    for _ in 0..random.below(4) / 2 {
+        if !list.is_empty() {
+            let at = random.below(list.len());
+            list[at] = random.pick(&[0, 1, n as u32 - 1, n as u32 - 1, n as u32, u32::MAX, list[0]]);
+        }
+    }
+    list
+}
+
+fn size_target(random: &mut Random, n: usize) -> u32 {
+    match random.below(10) {
+        0 => random.below(4) as u32,
+        1 => random.pick(&[n as u32, n as u32 + 1, (n as u32).saturating_sub(1), u32::MAX, 1 << 31]),
+        2 => random.word(),
+        _ => random.below(n + 1) as u32,
+    }
+}
+
+fn count_target(random: &mut Random, words: &[u32]) -> [u32; 8] {
+    let accepted = reading::check(words, usize::MAX, reading::Output::Nothing, 0);
+    let any = BigUint::from_slice(&[0; 8].map(|_| random.word())) >> random.below(257);
+    let Ok((_, v)) = accepted else {
+        return fitted(&any);
+    };
+    let count = Bdd::from_words(words).exact_cardinality();
+    let all = BigUint::from(1u32) << v;
+    let one = BigUint::from(1u32);
+    let part = random.below(1001) as u32;
+    fitted(&match random.below(14) {
+        0 => BigUint::from(random.below(4)),
+        1 => any,
+        2 => count,
+        3 => count + one,
+        4 => if count > one { count - one } else { count },
+        5 => all,
+        6 => all + one,
+        7 => if all > one { all - one } else { all },
+        8 => any % (all + one),
+        // above the count, for over; below it, for under
+        9..=10 => &count + (&all - &count) * part / 1000u32,
+        _ => count * part / 1000u32,
+    })
+}
+
+fn fitted(count: &BigUint) -> [u32; 8] {
+    let mut words = [0; 8];
+    for (to, from) in words.iter_mut().zip(count.to_u32_digits()) {
+        *to = from;
+    }
+    words
+}
+
+fn request(random: &mut Random, operation: usize, most: usize) -> (Request, usize, bool) {
+    let (words, family, damaged) = words(random, most);
+    let n = words.len() / 3;
+    let argument = match OPERATIONS[operation].0 {
+        Operation::Underapproximate | Operation::Overapproximate => Argument::List(list(random, n)),
+        Operation::UnderapproximateToSize | Operation::OverapproximateToSize => Argument::Size(size_target(random, n)),
+        Operation::UnderapproximateToCardinality | Operation::OverapproximateToCardinality => Argument::Count(count_target(random, &words)),
+        _ => Argument::None,
+    };
+    let (room, output) = request::lengths(random, words.len(), OPERATIONS[operation].2);
+    (Request { operation, words, argument, room, output, seed: random.word() }, family, damaged)
+}
+
+fn number(text: Option<String>, other: u64) -> u64 {
+    text.map_or(other, |t| t.parse().expect("a number"))
+}
+
+fn main() {
+    let mut arguments = std::env::args().skip(1).peekable();
+    let store = arguments.next_if(|a| a == "store").is_some();
+    let seed = number(arguments.next(), 2026);
+    let requests = number(arguments.next(), 200_000);
+    let random = &mut Random(seed);
+    if store {
+        return self::store(random, requests);
+    }
+
+    let here: Vec<usize> = (0..OPERATIONS.len()).filter(|i| OPERATIONS[*i].3).collect();
+    let next: Vec<usize> = (0..OPERATIONS.len()).filter(|i| !OPERATIONS[*i].3).collect();
+    let mut tally = vec![[0u64; 2]; OPERATIONS.len()];
+    let mut refusals: BTreeMap<u32, u64> = BTreeMap::new();
+    let mut families = [[0u64; 2]; generate::FAMILIES.len()];
+    // by nodes of the words offered: below 16, 256, 2048, 4096, and 4,096 or more
+    const SIZES: [usize; 5] = [16, 256, 2048, 4096, usize::MAX];
+    let mut sizes = [0u64; 5];
+    let (mut compared, mut most, mut most_vars, mut most_trials, mut safe) = (0, 0, 0, 0, 0u64);
+    while compared < requests {
+        // an operation that is not in the archive yet is asked of the Rust text and of the reading alone
+        let operation = if next.is_empty() || random.below(10) > 0 { random.pick(&here) } else { random.pick(&next) };
+        let limit = most_nodes(random);
+        let (request, family, damaged) = request(random, operation, limit);
+        let expected = reference::expected(&request);
+        tally[operation][(expected.number != 0) as usize] += 1;
+        if !OPERATIONS[operation].3 {
+            continue;
+        }
+        let said = request::ask(&request);
+        if said.as_ref() != Ok(&expected) {
+            println!("DIFFERENT, after {compared} requests: {}\nexpected {expected:?}\ngot {said:?}", OPERATIONS[operation].1);
+            println!("{}", request::line(&request, &expected));
+            std::process::exit(1);
+        }
+        // and by the functions that allocate for themselves
+        if compared % 8 == 0 {
+            safe += 1;
+            if let Err(what) = safe::held_to(&request, &expected) {
+                println!("DIFFERENT, the allocating function, after {compared} requests: {what}");
+                println!("{}", request::line(&request, &expected));
+                std::process::exit(1);
+            }
+        }
+        compared += 1;
+        families[family][damaged as usize] += 1;
+        sizes[SIZES.iter().position(|s| request.words.len() / 3 < *s).unwrap()] += 1;
+        if expected.number == 0 {
+            most = most.max(expected.nodes);
+            most_vars = most_vars.max(expected.vars);
+            most_trials = most_trials.max(if expected.values.len() == 2 { expected.values[1] } else { 0 });
+        } else {
+            *refusals.entry(expected.number).or_default() += 1;
+        }
+    }
+    println!("seed {seed}: {compared} requests, no difference; {safe} of them by the allocating functions too");
+    println!("largest accepted: {most} nodes, {most_vars} variables; most trials {most_trials}");
+    println!("nodes offered: {} below 16, {} below 256, {} below 2,048, {} below 4,096, {} more", sizes[0], sizes[1], sizes[2], sizes[3], sizes[4]);
+    println!("\n| operation | answered | refused | compared with |\n|---|--:|--:|---|");
+    for ((_, name, _, here), [answered, refused]) in OPERATIONS.iter().zip(tally) {
+        println!("| {name} | {answered} | {refused} | {} |", if *here { "the library" } else { "the reading alone: not in the archive yet" });
+    }
+    println!("\n| refusal | times |\n|--:|--:|");
+    refusals.iter().for_each(|(number, times)| println!("| {number} | {times} |"));
+    println!("\n| family | whole | damaged |\n|---|--:|--:|");
+    for ((name, _), [whole, damaged]) in generate::FAMILIES.iter().zip(families) {
+        println!("| {name} | {whole} | {damaged} |");
+    }
+}
+
+/// Small diagrams, and a few large ones. The searches come up three times as often as the others, with more nodes.
+fn store(random: &mut Random, requests: u64) {
+    let searches = OPERATIONS.len() - 4..OPERATIONS.len();
+    let turn: Vec<usize> = (0..OPERATIONS.len()).chain(searches.clone()).chain(searches.clone()).collect();
+    for i in 0..requests {
+        let operation = turn[i as usize % turn.len()];
+        let (least, most) = match i / turn.len() as u64 {
+            0 if i % 5 == 0 => (2000, 4096),
+            0 | 1 => (150, 600),
+            round if round % 8 == 0 => (0, random.from_to(30, 120)),
+            _ if searches.contains(&operation) => (0, random.from_to(6, 40)),
+            _ => (0, random.from_to(3, 24)),
+        };
+        let request = loop {
+            let (request, _, _) = request(random, operation, most);
+            if (least..=most + 5).contains(&(request.words.len() / 3)) {
+                break request;
+            }
+        };
+        println!("{}", request::line(&request, &reference::expected(&request)));
+    }
+}

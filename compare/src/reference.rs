@@ -1,0 +1,131 @@
+//! The expected answer: refusals by the reading of document 01, everything else by the Rust text. For cuts, where the Rust has
+//! no trials, the reading makes the whole search too; its words must be the Rust's.
+use crate::reading;
+use crate::request::{Argument, Operation::*, Reply, Request};
+use num_bigint::BigUint;
+use rust_text::{Bdd, BddPointer, BddVariable};
+
+fn count_words(count: &BigUint) -> Vec<u64> {
+    let mut digits: Vec<u64> = count.to_u32_digits().iter().map(|w| *w as u64).collect();
+    assert!(digits.len() <= 8, "a count of more than eight words");
+    digits.resize(8, 0);
+    digits
+}
+
+fn weights(words: &[u32]) -> Vec<BigUint> {
+    Bdd::from_words(words).node_valuation_weights()
+}
+
+fn count(words: &[u32]) -> BigUint {
+    Bdd::from_words(words).exact_cardinality()
+}
+
+fn pointers(list: &[u32]) -> Vec<BddPointer> {
+    list.iter().map(|p| BddPointer::from_index(*p as usize)).collect()
+}
+
+fn values_of(request: &Request) -> usize {
+    match request.operation() {
+        Validate | SizePerVariable | NodeValuationWeights => 0,
+        ExactCardinality | ExactClauseCardinality => 8,
+        UnderapproximateToSize | OverapproximateToSize | UnderapproximateToCardinality | OverapproximateToCardinality => 2,
+        _ => 1,
+    }
+}
+
+/// The Rust's `validate` says the same of words that it can be asked of, but for rows 3, 6 and 7, where it may say either.
+fn held_to_validate(words: &[u32], refused: Option<u32>) {
+    let sayable = !words.is_empty() && words.len() % 3 == 0 && words.chunks(3).all(|node| node[0] <= u16::MAX as u32);
+    if !sayable || matches!(refused, Some(3 | 4 | 5 | 7)) || refused == Some(6) && words.len() > 6 {
+        return;
+    }
+    assert_eq!(Bdd::from_words(words).validate().is_ok(), refused.is_none(), "validate of {words:?}");
+}
+
+pub fn expected(request: &Request) -> Reply {
+    let refuse = |(number, place)| Reply { number, place, nodes: 0, vars: 0, values: vec![0; values_of(request)], written: vec![] };
+    let words = &request.words;
+    let checked = reading::check(words, request.room, request.output_kind(), request.output);
+    held_to_validate(words, checked.err().map(|r| r.0));
+    let (n, v) = match checked {
+        Ok(counts) => counts,
+        Err(refused) => return refuse(refused),
+    };
+    let target = match &request.argument {
+        Argument::Count(k) => BigUint::from_slice(k),
+        Argument::Size(t) => BigUint::from(*t),
+        _ => BigUint::default(),
+    };
+    let later = match (request.operation(), &request.argument) {
+        (NodeValuationWeights, _) if n == 1 => Err((15, 0)),
+        (_, Argument::List(list)) => reading::check_list(n, list),
+        (UnderapproximateToCardinality, _) => reading::check_count(n, v, false, &target),
+        (OverapproximateToCardinality, _) => reading::check_count(n, v, true, &target),
+        _ => Ok(()),
+    };
+    if let Err(refused) = later {
+        return refuse(refused);
+    }
+
+    let bdd = Bdd::from_words(words);
+    let diagram = |words: Vec<u32>| (vec![words.len() as u64 / 3], words);
+    // the Rust's result beside the reading's
+    let by_list = |rust: Bdd, list: &[u32], to: u32| {
+        let found = reading::renumber(&rust.to_words());
+        assert_eq!(found, reading::cut(words, list, to), "a cut by {list:?} of {words:?}");
+        diagram(found)
+    };
+    let to_target = |rust: Bdd, (found, trials): (Vec<u32>, usize)| {
+        let words_of_rust = if trials == 0 { rust.to_words() } else { reading::renumber(&rust.to_words()) };
+        assert_eq!(words_of_rust, found, "a cut to {target} of {words:?}");
+        (vec![found.len() as u64 / 3, trials as u64], found)
+    };
+    let (values, written) = match (request.operation(), &request.argument) {
+        (Validate, _) => (vec![], vec![]),
+        (ExactCardinality, _) => (count_words(&bdd.exact_cardinality()), vec![]),
+        (ExactClauseCardinality, _) => (count_words(&bdd.exact_clause_cardinality()), vec![]),
+        (Cardinality, _) => (vec![bdd.cardinality().to_bits()], vec![]),
+        (Size, _) => (vec![bdd.size() as u64], vec![]),
+        (NumVars, _) => (vec![bdd.num_vars() as u64], vec![]),
+        (IsTrue, _) => (vec![bdd.is_true() as u64], vec![]),
+        (IsFalse, _) => (vec![bdd.is_false() as u64], vec![]),
+        (IsClause, _) => (vec![bdd.is_clause() as u64], vec![]),
+        (IsValuation, _) => (vec![bdd.is_valuation() as u64], vec![]),
+        (SizePerVariable, _) => {
+            let sizes = bdd.size_per_variable();
+            (vec![], (0..v).map(|x| sizes.get(&BddVariable::from_index(x)).map_or(0, |s| *s as u32)).collect())
+        }
+        (NodeValuationWeights, _) => (vec![], bdd.node_valuation_weights().iter().flat_map(count_words).map(|w| w as u32).collect()),
+        (Reduce, _) => {
+            let found = reading::renumber(&bdd.and(&bdd).to_words());
+            assert_eq!(found, reading::reduce(words), "the reduction of {words:?}");
+            let reduced = Bdd::from_words(&found);
+            assert_eq!(reduced.exact_cardinality(), bdd.exact_cardinality());
+            assert!(reduced.validate().is_ok());
+            diagram(found)
+        }
+        (Not, _) => {
+            let found = bdd.not().to_words();
+            assert_eq!(found, reading::not(words), "the negation of {words:?}");
+            let all = BigUint::from(1u32) << v;
+            assert_eq!(bdd.exact_cardinality() + count(&found), all);
+            diagram(found)
+        }
+        (Underapproximate, Argument::List(list)) => by_list(bdd.underapproximate(&pointers(list)), list, 0),
+        (Overapproximate, Argument::List(list)) => by_list(bdd.overapproximate(&pointers(list)), list, 1),
+        (UnderapproximateToSize, Argument::Size(t)) => {
+            to_target(bdd.underapproximate_to_size(*t as usize), reading::under_to_size(words, *t as usize, &weights))
+        }
+        (OverapproximateToSize, Argument::Size(t)) => {
+            to_target(bdd.overapproximate_to_size(*t as usize), reading::over_to_size(words, *t as usize, &weights))
+        }
+        (UnderapproximateToCardinality, _) => {
+            to_target(bdd.underapproximate_to_cardinality(&target), reading::under_to_count(words, &target, &count, &weights))
+        }
+        (OverapproximateToCardinality, _) => {
+            to_target(bdd.overapproximate_to_cardinality(&target), reading::over_to_count(words, &target, &count, &weights))
+        }
+        _ => unreachable!("an operation without its argument"),
+    };
+    Reply { number: 0, place: 0, nodes: n, vars: v as u32, values, written }
+}

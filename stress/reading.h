@@ -1,0 +1,83 @@
+/* The table of refusals of include/houayletan.h, read on its own in C. */
+#ifndef READING_H
+#define READING_H
+
+#include "../tests/c/operations.h"
+#include <stdlib.h>
+
+typedef struct {
+    uint32_t number;
+    size_t place;
+} Refused;
+
+/* Rows 1 to 12; number 0 where the words are accepted. */
+static inline Refused reading(const uint32_t *w, size_t len, size_t room, Output kind, size_t output) {
+    if (len == 0) return (Refused){1, 0};
+    if (len % 3) return (Refused){2, 0};
+    size_t n = len / 3, count = 0;
+    if (n > 4096) return (Refused){3, 0};
+    if (output < output_asked(kind, n)) return (Refused){4, 0};
+    if (room < 64 * (n < 2 ? 2 : n)) return (Refused){5, 0};
+    uint32_t v = w[0];
+    if (w[1] != 0 || w[2] != 0) return (Refused){6, 0};
+    if (n >= 2 && (w[3] != v || w[4] != 1 || w[5] != 1)) return (Refused){6, 1};
+    if (v > 255) return (Refused){7, 0};
+    for (size_t p = 2; p < n; p++) {
+        if (w[3 * p] >= v) return (Refused){8, p};
+        if (w[3 * p + 1] >= n) return (Refused){9, p};
+        if (w[3 * p + 2] >= n) return (Refused){10, p};
+    }
+    static bool met[4096];
+    static uint32_t queue[4096];
+    memset(met, 0, sizeof met);
+    met[n - 1] = true;
+    queue[count++] = (uint32_t)n - 1;
+    for (size_t i = 0; i < count; i++) {
+        uint32_t p = queue[i];
+        for (int side = 1; side < 3 && p >= 2; side++) {
+            uint32_t child = w[3 * p + side];
+            if (!met[child]) met[child] = true, queue[count++] = child;
+        }
+    }
+    for (size_t p = 2; p < n; p++) {
+        if (met[p] && (w[3 * w[3 * p + 1]] <= w[3 * p] || w[3 * w[3 * p + 2]] <= w[3 * p])) return (Refused){11, p};
+    }
+    for (size_t p = 2; p < n; p++) {
+        if (!met[p]) return (Refused){12, p};
+    }
+    return (Refused){0, 0};
+}
+
+static inline int compare_counts(const uint32_t *a, const uint32_t *b) {
+    for (int i = 7; i >= 0; i--) {
+        if (a[i] != b[i]) return a[i] < b[i] ? -1 : 1;
+    }
+    return 0;
+}
+
+/* The other rows, for accepted words. */
+static inline Refused reading_argument(const Operation *o, const Request *q) {
+    size_t n = q->words_len / 3;
+    if (strcmp(o->name, "node_valuation_weights") == 0 && n == 1) return (Refused){15, 0};
+    if (o->argument == LIST) {
+        bool root = false;
+        for (size_t i = 0; i < q->list_len; i++) {
+            if (q->list[i] >= n) return (Refused){13, i};
+            root = root || q->list[i] == n - 1;
+        }
+        for (size_t i = 0; i < q->list_len && !root; i++) {
+            if (q->list[i] < 2) return (Refused){14, i};
+        }
+    }
+    if (o->argument == COUNT_TARGET) {
+        bool over = o->name[0] == 'o';
+        uint32_t all[8] = {0}, none[8] = {0};
+        all[q->words[0] / 32] = (uint32_t)1 << q->words[0] % 32;
+        int to_all = compare_counts(q->target, all);
+        if (over && to_all > 0) return (Refused){16, 0};
+        if (n == (over ? 1 : 2) && to_all < 0 && compare_counts(q->target, none) > 0) return (Refused){19, 0};
+    }
+    return (Refused){0, 0};
+}
+
+#endif

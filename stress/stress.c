@@ -1,0 +1,356 @@
+/* Random and damaged words through the C interface, with guard words around every lent buffer:
+ *
+ *     stress SEED REQUESTS [GUARD]   GUARD words on each side, 16 unless given; 0 for a memory checker, which sees the first
+ *                                    word beyond a buffer by itself
+ *     stress deep                    the longest paths, each operation on a stack of its own: how many bytes of it are used
+ *
+ * Of every call: guard words, input, room and output as the header says; number and place as a reading of the table says; and
+ * of an answer what can be seen from outside (a result is accepted, a cut goes the right way and meets its target). */
+#include "../tests/c/lent.h"
+#include "reading.h"
+#include <pthread.h>
+
+static uint64_t state;
+
+static uint64_t next(void) {
+    uint64_t z = state += 0x9e3779b97f4a7c15u;
+    z = (z ^ z >> 30) * 0xbf58476d1ce4e5b9u;
+    z = (z ^ z >> 27) * 0x94d049bb133111ebu;
+    return z ^ z >> 31;
+}
+
+static size_t below(size_t n) { return next() % n; }
+static bool one_in(size_t n) { return below(n) == 0; }
+
+#define MOST 4200
+static uint32_t words[3 * MOST], list[MOST];
+
+/* An accepted diagram of at most `most` nodes: each node but the root hangs at a free link of an earlier level, and the
+ * links left over go to a terminal or deeper. Returns the number of words. */
+static size_t accepted(size_t most) {
+    static uint32_t free_links[2 * MOST], var[MOST], place[MOST];
+    static uint32_t link[2 * MOST];
+    uint32_t v = (uint32_t)(one_in(2) ? below(9) : one_in(8) ? 255 : below(256));
+    words[0] = v, words[1] = words[2] = 0;
+    if (one_in(20)) return 3;
+    words[3] = v, words[4] = words[5] = 1;
+    if (v == 0 || most < 3 || one_in(20)) return 6;
+    size_t count = 1, free_count = 0, new_from = 0;
+    var[0] = (uint32_t)below(one_in(3) ? v : 1);
+    uint32_t deepest = var[0];
+    link[0] = link[1] = UINT32_MAX;
+    for (uint32_t x = var[0] + 1; x < v; x++) {
+        for (; new_from < count; new_from++) free_links[free_count++] = (uint32_t)(2 * new_from), free_links[free_count++] = (uint32_t)(2 * new_from + 1);
+        size_t width = below(2 * ((most - 2 - count) / (v - x)) + 2);
+        for (size_t i = 0; i < width && free_count && count < most - 2; i++) {
+            size_t at = below(free_count);
+            link[free_links[at]] = (uint32_t)(2 + count);
+            free_links[at] = free_links[--free_count];
+            var[count] = x, link[2 * count] = link[2 * count + 1] = UINT32_MAX;
+            count++, deepest = x;
+        }
+    }
+    size_t mode = below(3); /* terminals mostly; deeper nodes mostly; the same as the other link */
+    for (size_t i = 0; i < 2 * count; i++) {
+        if (link[i] != UINT32_MAX) continue;
+        uint32_t other = link[i ^ 1];
+        if (mode == 2 && other != UINT32_MAX && one_in(2)) {
+            link[i] = other;
+        } else if (var[i / 2] == deepest || mode == 0 || one_in(4)) {
+            link[i] = (uint32_t)below(2);
+        } else {
+            size_t to;
+            do to = count - 1 - below(one_in(2) || count < 4 ? count : 4); while (var[to] <= var[i / 2]);
+            link[i] = (uint32_t)(2 + to);
+        }
+    }
+    /* the root last, the others in any order */
+    for (size_t i = 0; i < count; i++) place[i] = (uint32_t)(count + 1 - i);
+    for (size_t i = 2; i < count && mode != 1; i++) {
+        size_t j = 1 + below(i);
+        uint32_t swap = place[i];
+        place[i] = place[j], place[j] = swap;
+    }
+    for (size_t i = 0; i < count; i++) {
+        uint32_t *node = words + 3 * place[i];
+        node[0] = var[i];
+        for (int side = 0; side < 2; side++) node[1 + side] = link[2 * i + side] < 2 ? link[2 * i + side] : place[link[2 * i + side] - 2];
+    }
+    return 3 * (count + 2);
+}
+
+static size_t damaged(size_t len) {
+    if (len < 3) return len;
+    size_t n = len / 3, at = below(3 * n);
+    uint32_t edges[] = {0, 1, 2, 255, 256, 65536, UINT32_MAX, (uint32_t)n, (uint32_t)n - 1, (uint32_t)n + 1, words[0], words[0] - 1};
+    switch (below(9)) {
+    case 0: return below(len + 1);
+    case 1: return 3 * below(n + 1);
+    case 2: words[at] = (uint32_t)next(); return len;
+    case 3: words[at] = edges[below(sizeof edges / 4)]; return len;
+    case 4: words[at] = (uint32_t)below(n + 1); return len;
+    case 5: words[at] ^= (uint32_t)1 << below(32); return len;
+    case 6:
+        words[len] = words[0] ? (uint32_t)below(words[0]) : 0, words[len + 1] = (uint32_t)below(n), words[len + 2] = (uint32_t)below(n);
+        return len + 3;
+    case 7:
+        words[0] = edges[below(sizeof edges / 4)];
+        if (n > 1) words[3] = words[0];
+        return len;
+    default: at = 3 * (at / 3) + 1 + below(2); words[at] = (uint32_t)below(n); return len;
+    }
+}
+
+static size_t any_words(void) {
+    size_t most = below(100);
+    most = most < 80 ? 2 + below(12) : most < 95 ? 10 + below(100) : most < 99 ? 100 + below(700) : 1000 + below(3097);
+    if (one_in(50)) {
+        size_t len = below(40);
+        uint32_t range = one_in(2) ? 4 : UINT32_MAX;
+        for (size_t i = 0; i < len; i++) words[i] = (uint32_t)below(range);
+        return len;
+    }
+    size_t len = accepted(most);
+    if (one_in(3)) {
+        for (size_t times = 1 + below(3); times && len; times--) len = damaged(len);
+    }
+    return one_in(5000) ? 3 * 4097 : len;
+}
+
+static size_t any_list(size_t n) {
+    size_t len = one_in(4) ? 0 : 1 + below(one_in(4) ? (n < MOST - 1 ? n + 1 : n) : 4);
+    for (size_t i = 0; i < len; i++) {
+        size_t p = one_in(8) ? below(3) : one_in(12) ? n + below(2) : n > 3 ? 2 + below(n - 2) : below(n + 1);
+        list[i] = one_in(100) ? UINT32_MAX : (uint32_t)p;
+    }
+    return len;
+}
+
+static void any_target(const Operation *o, size_t n, uint32_t v, uint32_t *target) {
+    memset(target, 0, 32);
+    if (o->argument == SIZE_TARGET) {
+        target[0] = one_in(10) ? (uint32_t)next() : (uint32_t)below(n + 3);
+    } else if (o->argument == COUNT_TARGET) {
+        uint32_t bits = one_in(6) ? 256 : (v > 255 ? 255 : v) + (uint32_t)one_in(8);
+        bits -= (uint32_t)below(1 + (one_in(2) ? bits : bits < 4 ? bits : 4));
+        for (uint32_t i = 0; i < 8; i++) {
+            uint32_t here = bits > 32 * i ? bits - 32 * i : 0;
+            target[i] = here >= 32 ? (uint32_t)next() : here ? (uint32_t)next() & (((uint32_t)1 << here) - 1) : 0;
+        }
+        if (one_in(10)) memset(target, 0, 32);
+        if (one_in(10) && v < 256) memset(target, 0, 32), target[v / 32] = (uint32_t)1 << v % 32;
+    }
+}
+
+static unsigned long made, refused[32];
+
+static uint32_t spare_room[64 * 4096];
+
+static void count_of(const uint32_t *w, size_t len, uint32_t *count) {
+    HouayletanCount c = houayletan_exact_cardinality(w, len, spare_room, sizeof spare_room / 4);
+    memcpy(count, c.count, 32);
+}
+
+/* NULL, or what is wrong with an answer's diagram. */
+static const char *wrong_result(const Operation *o, const Request *q, const Reply *r) {
+    if (o->output != DIAGRAM) return NULL;
+    const uint32_t *out = q->output;
+    size_t len = r->written;
+    if (len != 3 * r->value[0]) return "nodes and words of the result";
+    if (reading(out, len, SIZE_MAX, NO_OUTPUT, 0).number || out[0] != q->words[0]) return "the result is no diagram";
+    uint32_t before[8], after[8];
+    count_of(q->words, q->words_len, before);
+    count_of(out, len, after);
+    int way = compare_counts(after, before);
+    bool under = strncmp(o->name, "under", 5) == 0, over = strncmp(o->name, "over", 4) == 0;
+    if (under && way > 0) return "an underapproximation holds for more";
+    if (over && way < 0) return "an overapproximation holds for less";
+    if (o->argument == SIZE_TARGET && q->target[0] >= 2 && r->value[0] > q->target[0]) return "the result is over its target size";
+    if (o->argument == COUNT_TARGET && under && compare_counts(after, q->target) > 0) return "the result's count is over its target";
+    if (o->argument == COUNT_TARGET && over && compare_counts(after, q->target) < 0) return "the result's count is under its target";
+    if (strcmp(o->name, "reduce") == 0 && way != 0) return "the reduced diagram holds for others";
+    if (strcmp(o->name, "not") == 0) {
+        uint64_t sum = 0;
+        for (uint32_t i = 0; i < 8; i++) {
+            sum += (uint64_t)before[i] + after[i];
+            if ((uint32_t)sum != (out[0] / 32 == i ? (uint32_t)1 << out[0] % 32 : 0)) return "the counts of both don't add up to all";
+            sum >>= 32;
+        }
+    }
+    return NULL;
+}
+
+static void stop(const Operation *o, const Request *q, const Reply *r, Refused expected, const char *fault) {
+    printf("FAILED: %s: %s\n  expected %u at %zu, got %u at %zu; room %zu, output %zu, list", o->name, fault, expected.number, expected.place,
+           r->verdict.number, r->verdict.place, q->room_len, q->output_len);
+    for (size_t i = 0; i < q->list_len; i++) printf(" %u", q->list[i]);
+    printf("; target");
+    for (int i = 0; i < 8; i++) printf(" %u", q->target[i]);
+    printf("; words");
+    for (size_t i = 0; i < q->words_len; i++) printf(" %u", q->words[i]);
+    printf("\n");
+    exit(1);
+}
+
+static void check_call(const Operation *o, const Loan *l, const Request *q, const Reply *r) {
+    Refused expected = reading(words, q->words_len, q->room_len, o->output, q->output_len);
+    if (!expected.number) expected = reading_argument(o, q);
+    const char *fault = wrong(l, r, words, list);
+    if (!fault && (r->verdict.number != expected.number || r->verdict.place != expected.place)) fault = "another verdict";
+    if (!fault && !expected.number) fault = wrong_result(o, q, r);
+    if (fault) stop(o, q, r, expected, fault);
+    made++;
+    refused[expected.number]++;
+}
+
+/* Mostly exact, often one short, sometimes longer, or anything. */
+static size_t any_length(size_t exact) {
+    switch (below(16)) {
+    case 0: return exact ? exact - 1 : 0;
+    case 1: return below(exact + 1);
+    case 2: case 3: case 4: return exact + below(20);
+    default: return exact;
+    }
+}
+
+static const Operation *here[OPERATIONS];
+static size_t here_count;
+
+static void one_request(size_t guard) {
+    const Operation *o = here[below(here_count)];
+    size_t len = any_words(), n = len / 3;
+    size_t list_len = o->argument == LIST ? any_list(n) : 0;
+    uint32_t target[8];
+    any_target(o, n, len ? words[0] : 0, target);
+    /* one after the other, so that a seed means the same with every compiler */
+    size_t room_len = any_length(HOUAYLETAN_ROOM(n));
+    size_t output_len = any_length(output_asked(o->output, n));
+    Loan l = loan(words, len, list, list_len, room_len, output_len, (uint32_t)next(), guard);
+    Request q = request_of(&l, target);
+    Reply r = call(o, &q);
+    check_call(o, &l, &q, &r);
+    give_back(&l);
+}
+
+/* ---- the longest paths */
+
+/* 255 levels, 16 columns and a tree above them: 4,096 nodes. Each column goes to itself and to the next one. Order 0:
+ * children first; 1: children last, the root apart. */
+static size_t ladder(int order, uint32_t skew) {
+    size_t levels = 255, n = 4096, count = n - 2, start = 0;
+    static uint32_t var[4096], low[4096], high[4096];
+    for (size_t x = 0, width = 1; x < levels; x++) {
+        size_t left = count - start - width, after = levels - x - 1;
+        size_t wider = x + 1 < levels ? (left / after < 2 * width ? left / after : 2 * width) : 0;
+        if (wider < 1 && after) wider = 1;
+        for (size_t j = 0; j < width; j++) {
+            var[start + j] = (uint32_t)x;
+            low[start + j] = after ? (uint32_t)(2 + start + width + (wider > width ? (2 * j) % wider : j % wider)) : (uint32_t)(j + skew) % 2;
+            high[start + j] = after ? (uint32_t)(2 + start + width + (wider > width ? (2 * j + 1) % wider : (j + 1) % wider)) : 1;
+        }
+        start += width;
+        width = wider;
+    }
+    n = start + 2;
+    words[0] = words[3] = 255, words[1] = words[2] = 0, words[4] = words[5] = 1;
+    for (size_t i = 0; i < start; i++) {
+        size_t at = order == 0 ? n - 1 - i : i == 0 ? n - 1 : i + 1;
+        uint32_t links[2] = {low[i], high[i]};
+        words[3 * at] = var[i];
+        for (int side = 0; side < 2; side++) {
+            uint32_t to = links[side];
+            words[3 * at + 1 + (size_t)side] = to < 2 ? to : order == 0 ? (uint32_t)(n - 1 - (to - 2)) : to == 2 ? (uint32_t)n - 1 : to - 1;
+        }
+    }
+    return 3 * n;
+}
+
+/* 4,096 nodes, each linked to the next, all at one variable: refused, after the longest search there is. */
+static size_t one_long_path(void) {
+    words[0] = words[3] = 255, words[1] = words[2] = 0, words[4] = words[5] = 1;
+    for (uint32_t p = 2; p < 4096; p++) words[3 * p] = 7, words[3 * p + 1] = p - 1, words[3 * p + 2] = p == 2 ? 4095 : p - 1;
+    return 3 * 4096;
+}
+
+#define STACK (256 * 1024)
+static unsigned char *stack;
+static const Operation *deep_operation;
+static Request *deep_request;
+static Reply deep_reply;
+
+static void *on_own_stack(void *unused) {
+    deep_reply = call(deep_operation, deep_request);
+    return unused;
+}
+
+static size_t stack_used(void (*start)(void)) {
+    memset(stack, 0xC3, STACK);
+    start();
+    size_t untouched = 0;
+    while (untouched < STACK && stack[untouched] == 0xC3) untouched++;
+    return STACK - untouched;
+}
+
+static void *nothing(void *unused) { return unused; }
+static void *(*thread_body)(void *) = nothing;
+
+static void start_thread(void) {
+    pthread_attr_t attr;
+    pthread_t thread;
+    if (pthread_attr_init(&attr) || pthread_attr_setstack(&attr, stack, STACK) || pthread_create(&thread, &attr, thread_body, NULL) || pthread_join(thread, NULL)) {
+        printf("FAILED: no thread\n");
+        exit(2);
+    }
+}
+
+static int deep(void) {
+    if (posix_memalign((void **)&stack, 4096, STACK)) return 2;
+    thread_body = nothing;
+    size_t idle = stack_used(start_thread);
+    printf("255 levels, %zu nodes, on a stack of %d KiB; bytes used beyond the %zu of an idle thread:\n", ladder(0, 0) / 3, STACK / 1024, idle);
+    thread_body = on_own_stack;
+    for (size_t i = 0; i < here_count; i++) {
+        const Operation *o = here[i];
+        size_t most = 0;
+        for (int kind = 0; kind < 5; kind++) {
+            size_t len = kind < 4 ? ladder(kind % 2, (uint32_t)kind / 2) : one_long_path(), n = len / 3;
+            if (kind < 4 && reading(words, len, SIZE_MAX, NO_OUTPUT, 0).number) {
+                printf("FAILED: the ladder is no diagram: %u at %zu\n", reading(words, len, SIZE_MAX, NO_OUTPUT, 0).number, reading(words, len, SIZE_MAX, NO_OUTPUT, 0).place);
+                return 1;
+            }
+            uint32_t target[8] = {o->argument == SIZE_TARGET ? 300 : 1, 0, 0, 0, 0, 0, 0, o->argument == COUNT_TARGET ? 1u << 27 : 0};
+            list[0] = (uint32_t)n / 2, list[1] = (uint32_t)n / 3;
+            Loan l = loan(words, len, list, o->argument == LIST ? 2 : 0, HOUAYLETAN_ROOM(n), output_asked(o->output, n), 77, 16);
+            Request q = request_of(&l, target);
+            deep_operation = o, deep_request = &q;
+            size_t used = stack_used(start_thread);
+            most = used > most ? used : most;
+            check_call(o, &l, &q, &deep_reply);
+            give_back(&l);
+        }
+        printf("  %-32s %zu\n", o->name, most > idle ? most - idle : 0);
+    }
+    printf("stress deep: %lu calls, 0 failed\n", made);
+    return 0;
+}
+
+int main(int argc, char **argv) {
+    for (size_t i = 0; i < OPERATIONS; i++) {
+        if (present(&operations[i])) here[here_count++] = &operations[i];
+    }
+    if (argc == 2 && strcmp(argv[1], "deep") == 0) return deep();
+    if (argc < 3) {
+        fprintf(stderr, "usage: stress SEED REQUESTS [GUARD] | stress deep\n");
+        return 2;
+    }
+    state = strtoull(argv[1], NULL, 10);
+    unsigned long requests = strtoul(argv[2], NULL, 10);
+    size_t guard = argc > 3 ? strtoul(argv[3], NULL, 10) : 16;
+    while (made < requests) one_request(guard);
+    printf("stress: seed %s, %zu operations, %lu requests, 0 failed; accepted %lu, refused", argv[1], here_count, made, refused[0]);
+    for (int i = 1; i < 20; i++) {
+        if (refused[i]) printf(" %d: %lu", i, refused[i]);
+    }
+    printf("\n");
+    return 0;
+}

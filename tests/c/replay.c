@@ -1,0 +1,129 @@
+/* Replays stored requests and holds each answer to the stored one: the verdict, the value, every word of the output, the
+ * room, and guard words around all that is lent. The file is made by compare/run.sh, which says how its answers come about.
+ *
+ * One request a line, numbers separated by spaces:
+ *
+ *   name, number of words, the words,
+ *   a list with its length first (a cut by a list), one number (to a size), eight words (to a count), or nothing,
+ *   length of the room, length of the output, seed of what both hold at first, '=',
+ *   number, place, nodes, vars, number of values, the values,
+ *   number of output words, and these words, or '#' and their sum by FNV-1a. */
+#include "lent.h"
+#include <inttypes.h>
+
+static FILE *in;
+static unsigned long line = 1;
+
+static void spoilt(const char *what) {
+    fprintf(stderr, "replay: line %lu: %s\n", line, what);
+    exit(2);
+}
+
+static void blank(void) {
+    int c = getc(in);
+    while (c == ' ') c = getc(in);
+    ungetc(c, in);
+}
+
+static uint64_t number(void) {
+    uint64_t x = 0;
+    int c, digits = 0;
+    blank();
+    while ((c = getc(in)) >= '0' && c <= '9') x = 10 * x + (uint64_t)(c - '0'), digits++;
+    ungetc(c, in);
+    if (!digits) spoilt("a number is missing");
+    return x;
+}
+
+static void mark(int wanted) {
+    blank();
+    if (getc(in) != wanted) spoilt("a mark is missing");
+}
+
+static uint32_t words[3 * 4200], list[4200], output[8 * 4200];
+
+static size_t numbers(uint32_t *to, size_t most) {
+    size_t len = number();
+    if (len > most) spoilt("too many words");
+    for (size_t i = 0; i < len; i++) to[i] = (uint32_t)number();
+    return len;
+}
+
+static uint64_t sum_of(const uint32_t *w, size_t len) {
+    uint64_t sum = 0xcbf29ce484222325u;
+    for (size_t i = 0; i < len; i++) {
+        for (int b = 0; b < 32; b += 8) sum = (sum ^ (w[i] >> b & 255)) * 0x100000001b3u;
+    }
+    return sum;
+}
+
+int main(int argc, char **argv) {
+    if (argc != 2 || !(in = fopen(argv[1], "r"))) {
+        fprintf(stderr, "usage: replay FILE\n");
+        return 2;
+    }
+    unsigned long passed = 0, failed = 0, absent = 0;
+    char name[64];
+    while (fscanf(in, "%63[a-z_]", name) == 1) {
+        const Operation *o = operation(name);
+        if (!o) spoilt("no such operation");
+        size_t words_len = numbers(words, sizeof words / 4), list_len = 0;
+        uint32_t target[8] = {0};
+        if (o->argument == LIST) list_len = numbers(list, sizeof list / 4);
+        if (o->argument == SIZE_TARGET) target[0] = (uint32_t)number();
+        if (o->argument == COUNT_TARGET) {
+            for (int i = 0; i < 8; i++) target[i] = (uint32_t)number();
+        }
+        size_t room_len = number(), output_len = number();
+        uint32_t seed = (uint32_t)number();
+        mark('=');
+        Reply expected;
+        memset(&expected, 0, sizeof expected);
+        expected.verdict.number = (uint32_t)number();
+        expected.verdict.place = number();
+        expected.verdict.nodes = number();
+        expected.verdict.vars = (uint32_t)number();
+        expected.values = number();
+        if (expected.values > 8) spoilt("too many values");
+        for (size_t i = 0; i < expected.values; i++) expected.value[i] = number();
+        expected.written = number();
+        if (expected.written > sizeof output / 4) spoilt("too long an output");
+        uint64_t sum;
+        blank();
+        int c = getc(in);
+        if (c == '#') {
+            sum = number();
+        } else {
+            ungetc(c, in);
+            for (size_t i = 0; i < expected.written; i++) output[i] = (uint32_t)number();
+            sum = sum_of(output, expected.written);
+        }
+        mark('\n');
+
+        Loan l = loan(words, words_len, list, list_len, room_len, output_len, seed, 16);
+        Request q = request_of(&l, target);
+        Reply r = call(o, &q);
+        if (r.verdict.number == ABSENT) {
+            absent++;
+        } else {
+            const char *fault = wrong(&l, &r, words, list);
+            const HouayletanVerdict *a = &r.verdict, *b = &expected.verdict;
+            if (!fault && (a->number != b->number || a->place != b->place || a->nodes != b->nodes || a->vars != b->vars)) fault = "verdict";
+            if (!fault && (r.values != expected.values || memcmp(r.value, expected.value, sizeof r.value))) fault = "value";
+            if (!fault && b->number == 0 && r.written != expected.written) fault = "length of the result";
+            if (!fault && b->number == 0 && sum_of(l.output.words, r.written) != sum) fault = "words of the result";
+            if (fault) {
+                failed++;
+                printf("FAILED: line %lu, %s: %s\n", line, name, fault);
+            } else {
+                passed++;
+            }
+        }
+        give_back(&l);
+        line++;
+    }
+    if (!feof(in)) spoilt("not a request");
+    if (absent) printf("%lu requests of operations that are not in the archive yet were passed over\n", absent);
+    printf("replay: %lu passed, %lu failed\n", passed, failed);
+    return failed || !passed;
+}

@@ -1,0 +1,296 @@
+/* The archive as a C program sees it: worked examples, every row of the table of refusals, lengths exact and one short,
+ * and what a call leaves in the lent buffers. Prints what fails; the last line has the counts. */
+#include "operations.h"
+#include <stdio.h>
+#include <stdlib.h>
+
+static int passed, failed, skipped;
+
+static void expect(bool right, const char *what, const char *operation) {
+    if (right) {
+        passed++;
+    } else {
+        failed++;
+        printf("FAILED: %s: %s\n", operation, what);
+    }
+}
+
+#define FILL 0xA5A5A5A5u
+#define MOST 4098
+
+static uint32_t room[64 * MOST + 4], output[8 * MOST + 4];
+
+static void fill(void) {
+    for (size_t i = 0; i < sizeof room / sizeof room[0]; i++) room[i] = FILL;
+    for (size_t i = 0; i < sizeof output / sizeof output[0]; i++) output[i] = FILL;
+}
+
+static bool all(const uint32_t *w, size_t from, size_t to, uint32_t value) {
+    for (size_t i = from; i < to; i++) {
+        if (w[i] != value) return false;
+    }
+    return true;
+}
+
+#define LEN(a) (sizeof(a) / sizeof((a)[0]))
+
+/* D: x2, or x0 and x1. */
+static const uint32_t D[] = {3, 0, 0, 3, 1, 1, 2, 0, 1, 1, 2, 1, 0, 2, 3};
+static const uint32_t AND3[] = {3, 0, 0, 3, 1, 1, 2, 0, 1, 1, 0, 2, 0, 0, 3};
+static const uint32_t FALSE3[] = {3, 0, 0};
+static const uint32_t TRUE3[] = {3, 0, 0, 3, 1, 1};
+
+static Request asks(const uint32_t *words, size_t len) {
+    size_t n = len / 3;
+    return (Request){words, len, words, 0, {0}, room, HOUAYLETAN_ROOM(n), output, 0};
+}
+
+/* Calls with buffers of the exact lengths, or those of the request, and looks at what must stay. */
+static Reply answer(const char *name, Request q, uint32_t number, size_t place) {
+    const Operation *o = operation(name);
+    size_t n = q.words_len / 3;
+    if (q.output_len == 0) q.output_len = output_asked(o->output, n);
+    fill();
+    Reply r = call(o, &q);
+    expect(r.verdict.number == number && r.verdict.place == place, "number and place", name);
+    if (r.verdict.number != number || r.verdict.place != place) {
+        printf("  got %u at %zu, not %u at %zu\n", r.verdict.number, r.verdict.place, number, place);
+    }
+    if (number != 0) {
+        bool none = r.verdict.nodes == 0 && r.verdict.vars == 0;
+        for (int i = 0; i < 8; i++) none = none && r.value[i] == 0;
+        expect(none, "all else in a refused result is zero", name);
+    } else {
+        expect(r.verdict.nodes == n && r.verdict.vars == q.words[0], "the counts of the input", name);
+    }
+    size_t zero = number >= 1 && number <= 5 ? 0 : HOUAYLETAN_ROOM(n);
+    expect(all(room, 0, zero, 0) && all(room, zero, LEN(room), FILL), "the room afterwards", name);
+    expect(all(output, number == 0 ? r.written : 0, LEN(output), FILL), "the output beyond the result", name);
+    return r;
+}
+
+static bool is_here(const char *name) {
+    if (present(operation(name))) return true;
+    printf("not in the archive yet: %s\n", name);
+    skipped++;
+    return false;
+}
+
+static void answers_words(const char *name, Request q, const uint32_t *words, size_t len, size_t trials) {
+    if (!present(operation(name))) return;
+    Reply r = answer(name, q, 0, 0);
+    expect(r.value[0] == len / 3 && memcmp(output, words, 4 * len) == 0, "the answer's words", name);
+    expect(r.values == 1 || r.value[1] == trials, "the trials", name);
+}
+
+static void counts(const uint32_t *words, size_t len, uint32_t count, uint32_t paths) {
+    Reply r = answer("exact_cardinality", asks(words, len), 0, 0);
+    expect(r.value[0] == count && r.value[1] == 0 && r.value[7] == 0, "the count", "exact_cardinality");
+    r = answer("exact_clause_cardinality", asks(words, len), 0, 0);
+    expect(r.value[0] == paths && r.value[1] == 0 && r.value[7] == 0, "the paths", "exact_clause_cardinality");
+    if (present(operation("cardinality"))) {
+        double d = count;
+        uint64_t bits;
+        memcpy(&bits, &d, 8);
+        expect(answer("cardinality", asks(words, len), 0, 0).value[0] == bits, "the count", "cardinality");
+    }
+}
+
+/* Every operation takes and refuses the same words, in the same order. */
+static void refusals(const Operation *o) {
+    static const struct {
+        size_t len;
+        uint32_t words[15];
+        uint32_t number;
+        size_t place;
+    } cases[] = {
+        {0, {0}, 1, 0},
+        {1, {0}, 2, 0},
+        {14, {3, 0, 0, 3, 1, 1, 2, 0, 1, 1, 2, 1, 0, 2}, 2, 0},
+        {3, {3, 0, 1}, 6, 0},
+        {6, {3, 0, 0, 2, 1, 1}, 6, 1},
+        {6, {256, 0, 0, 255, 1, 1}, 6, 1},
+        {15, {3, 1, 0, 3, 1, 1, 2, 0, 1, 1, 2, 1, 0, 2, 3}, 6, 0},
+        {3, {256, 0, 0}, 7, 0},
+        {6, {UINT32_MAX, 0, 0, UINT32_MAX, 1, 1}, 7, 0},
+        {15, {3, 0, 0, 3, 1, 1, 2, 0, 1, 3, 5, 5, 0, 2, 3}, 8, 3},
+        {15, {3, 0, 0, 3, 1, 1, 2, 0, 1, 1, 5, 5, 0, 2, 3}, 9, 3},
+        {15, {3, 0, 0, 3, 1, 1, 2, 0, 1, 1, 2, 5, 0, UINT32_MAX, 3}, 10, 3},
+        {12, {1, 0, 0, 1, 1, 1, 0, 2, 0, 0, 2, 1}, 11, 2},
+        {12, {1, 0, 0, 1, 1, 1, 0, 0, 1, 0, 3, 1}, 11, 3},
+        {12, {1, 0, 0, 1, 1, 1, 0, 2, 2, 0, 0, 1}, 12, 2},
+        {9, {0, 0, 0, 0, 1, 1, 0, 0, 1}, 8, 2},
+    };
+    for (size_t i = 0; i < LEN(cases); i++) answer(o->name, asks(cases[i].words, cases[i].len), cases[i].number, cases[i].place);
+
+    static uint32_t many[3 * 4097];
+    memcpy(many, TRUE3, sizeof TRUE3);
+    answer(o->name, asks(many, 3 * 4097), 3, 0);
+
+    /* exactly long enough is taken above; one short, and both short */
+    Request q = asks(D, LEN(D));
+    q.room_len -= 1;
+    answer(o->name, q, 5, 0);
+    if (o->output != NO_OUTPUT) {
+        q.output_len = output_asked(o->output, 5) - 1;
+        answer(o->name, q, 4, 0);
+        q.room_len += 1;
+        answer(o->name, q, 4, 0);
+    }
+    q = asks(FALSE3, LEN(FALSE3));
+    q.room_len = 127;
+    answer(o->name, q, 5, 0);
+    q = asks(many, 3 * 4096);
+    q.room_len = 0;
+    answer(o->name, q, 5, 0);
+}
+
+int main(void) {
+    for (size_t i = 0; i < OPERATIONS; i++) {
+        if (is_here(operations[i].name)) refusals(&operations[i]);
+    }
+
+    answer("validate", asks(D, LEN(D)), 0, 0);
+    counts(D, LEN(D), 5, 3);
+    counts(AND3, LEN(AND3), 1, 1);
+    counts(FALSE3, LEN(FALSE3), 0, 0);
+    counts(TRUE3, LEN(TRUE3), 8, 1);
+
+    Reply r = answer("node_valuation_weights", asks(D, LEN(D)), 0, 0);
+    static const uint32_t weights[] = {0, 5, 3, 3, 5};
+    for (size_t p = 0; p < 5; p++) {
+        expect(output[8 * p] == weights[p] && all(output, 8 * p + 1, 8 * p + 8, 0), "D's weights", "node_valuation_weights");
+    }
+    Request q = asks(FALSE3, LEN(FALSE3));
+    answer("node_valuation_weights", q, 15, 0);
+    q.output_len = 7;
+    answer("node_valuation_weights", q, 4, 0);
+    answer("node_valuation_weights", asks(TRUE3, LEN(TRUE3)), 0, 0);
+    expect(output[0] == 0 && output[8] == 8, "true's weights", "node_valuation_weights");
+
+    static const uint32_t longer[] = {1, 0, 0, 1, 1, 1, 0, 1, 1}; /* true, in three nodes */
+    static const uint32_t TRUE1[] = {1, 0, 0, 1, 1, 1}, FALSE1[] = {1, 0, 0};
+    answers_words("reduce", asks(longer, LEN(longer)), TRUE1, LEN(TRUE1), 0);
+    counts(longer, LEN(longer), 2, 2);
+    answers_words("reduce", asks(D, LEN(D)), D, LEN(D), 0);
+    static const uint32_t parents_first[] = {3, 0, 0, 3, 1, 1, 1, 3, 1, 2, 0, 1, 0, 3, 2};
+    answers_words("reduce", asks(parents_first, LEN(parents_first)), D, LEN(D), 0);
+
+    /* 255 variables, each with its node: the longest path; and 4,096 nodes, the most. */
+    static uint32_t deep[3 * 257] = {255, 0, 0, 255, 1, 1};
+    for (uint32_t i = 0; i < 255; i++) {
+        uint32_t at = 3 * (2 + i);
+        deep[at] = 254 - i, deep[at + 1] = 0, deep[at + 2] = i == 0 ? 1 : i + 1;
+    }
+    counts(deep, LEN(deep), 1, 1);
+    answers_words("reduce", asks(deep, LEN(deep)), deep, LEN(deep), 0);
+    static const uint32_t TRUE255[] = {255, 0, 0, 255, 1, 1};
+    r = answer("exact_cardinality", asks(TRUE255, LEN(TRUE255)), 0, 0);
+    expect(r.value[7] == 0x80000000u && r.value[0] == 0, "2^255", "exact_cardinality");
+
+    /* A room and an output that are longer than asked for keep their rest: seen by answer() in every call. */
+    q = asks(D, LEN(D));
+    q.room_len += 3, q.output_len = LEN(D) + 3;
+    answer("reduce", q, 0, 0);
+
+    fill();
+    houayletan_clear(room, 10, 4);
+    expect(all(room, 0, 4, 0) && all(room, 4, LEN(room), FILL), "the first words", "clear");
+    houayletan_clear(room, 10, SIZE_MAX);
+    expect(all(room, 0, 10, 0) && all(room, 10, LEN(room), FILL), "no more than there are", "clear");
+
+    if (present(operation("not"))) {
+        static const uint32_t NOT_D[] = {3, 0, 0, 3, 1, 1, 2, 1, 0, 1, 2, 0, 0, 2, 3};
+        answers_words("not", asks(D, LEN(D)), NOT_D, LEN(NOT_D), 0);
+        answers_words("not", asks(TRUE3, LEN(TRUE3)), FALSE3, LEN(FALSE3), 0);
+        answers_words("not", asks(FALSE3, LEN(FALSE3)), TRUE3, LEN(TRUE3), 0);
+    }
+
+    static const struct {
+        const char *name;
+        const uint32_t *words;
+        size_t len;
+        uint64_t value;
+    } queries[] = {
+        {"size", D, LEN(D), 5}, {"num_vars", D, LEN(D), 3},
+        {"is_true", D, LEN(D), 0}, {"is_true", TRUE3, LEN(TRUE3), 1}, {"is_true", longer, LEN(longer), 0},
+        {"is_false", FALSE3, LEN(FALSE3), 1}, {"is_false", D, LEN(D), 0},
+        {"is_clause", AND3, LEN(AND3), 1}, {"is_clause", D, LEN(D), 0}, {"is_clause", TRUE3, LEN(TRUE3), 1},
+        {"is_clause", FALSE3, LEN(FALSE3), 0}, {"is_clause", longer, LEN(longer), 0},
+        {"is_valuation", AND3, LEN(AND3), 1}, {"is_valuation", TRUE3, LEN(TRUE3), 0}, {"is_valuation", deep, LEN(deep), 1},
+    };
+    for (size_t i = 0; i < LEN(queries); i++) {
+        if (!present(operation(queries[i].name))) continue;
+        r = answer(queries[i].name, asks(queries[i].words, queries[i].len), 0, 0);
+        expect(r.value[0] == queries[i].value, "the answer", queries[i].name);
+    }
+    if (present(operation("size_per_variable"))) {
+        answer("size_per_variable", asks(D, LEN(D)), 0, 0);
+        expect(output[0] == 1 && output[1] == 1 && output[2] == 1, "D's sizes", "size_per_variable");
+    }
+
+    /* Cuts of D: C3 to C12 of document 01, and lists that are refused. */
+    static const uint32_t C3[] = {3, 0, 0, 3, 1, 1, 1, 0, 1, 0, 0, 2}, C4[] = {3, 0, 0, 3, 1, 1, 2, 0, 1, 0, 2, 0};
+    static const uint32_t C5[] = {3, 0, 0, 3, 1, 1, 2, 0, 1, 0, 2, 1};
+    static const struct {
+        const char *name;
+        size_t list_len;
+        uint32_t argument[3]; /* a list, or a target's first words */
+        uint32_t number;
+        size_t place;
+        const uint32_t *words;
+        size_t len, trials;
+    } cuts[] = {
+        {"underapproximate", 1, {2}, 0, 0, C3, LEN(C3), 0},
+        {"underapproximate", 1, {3}, 0, 0, C4, LEN(C4), 0},
+        {"overapproximate", 1, {3}, 0, 0, C5, LEN(C5), 0},
+        {"underapproximate", 2, {0, 4}, 0, 0, FALSE3, LEN(FALSE3), 0},
+        {"overapproximate", 2, {0, 4}, 0, 0, TRUE3, LEN(TRUE3), 0},
+        {"underapproximate", 0, {0}, 0, 0, D, LEN(D), 0},
+        {"underapproximate", 1, {0}, 14, 0, NULL, 0, 0},
+        {"underapproximate", 3, {2, 1, 0}, 14, 1, NULL, 0, 0},
+        {"overapproximate", 2, {2, 9}, 13, 1, NULL, 0, 0},
+        {"overapproximate", 3, {4, 0, 5}, 13, 2, NULL, 0, 0},
+        {"underapproximate_to_size", 0, {4}, 0, 0, C4, LEN(C4), 2},
+        {"underapproximate_to_size", 0, {3}, 0, 0, FALSE3, LEN(FALSE3), 2},
+        {"underapproximate_to_size", 0, {5}, 0, 0, D, LEN(D), 0},
+        {"underapproximate_to_size", 0, {0}, 0, 0, FALSE3, LEN(FALSE3), 0},
+        {"overapproximate_to_size", 0, {4}, 0, 0, C5, LEN(C5), 2},
+        {"overapproximate_to_size", 0, {1}, 0, 0, TRUE3, LEN(TRUE3), 0},
+        {"overapproximate_to_size", 0, {UINT32_MAX}, 0, 0, D, LEN(D), 0},
+        {"underapproximate_to_cardinality", 0, {4}, 0, 0, C4, LEN(C4), 1},
+        {"underapproximate_to_cardinality", 0, {1}, 0, 0, FALSE3, LEN(FALSE3), 1},
+        {"underapproximate_to_cardinality", 0, {0}, 0, 0, FALSE3, LEN(FALSE3), 0},
+        {"underapproximate_to_cardinality", 0, {5}, 0, 0, D, LEN(D), 0},
+        {"overapproximate_to_cardinality", 0, {8}, 0, 0, TRUE3, LEN(TRUE3), 0},
+        {"overapproximate_to_cardinality", 0, {5}, 0, 0, D, LEN(D), 0},
+        {"overapproximate_to_cardinality", 0, {9}, 16, 0, NULL, 0, 0},
+        {"overapproximate_to_cardinality", 0, {0, 1}, 16, 0, NULL, 0, 0},
+    };
+    for (size_t i = 0; i < LEN(cuts); i++) {
+        if (!present(operation(cuts[i].name))) continue;
+        q = asks(D, LEN(D));
+        q.list = cuts[i].argument, q.list_len = cuts[i].list_len;
+        memcpy(q.target, cuts[i].argument, sizeof cuts[i].argument);
+        if (cuts[i].number == 0) {
+            answers_words(cuts[i].name, q, cuts[i].words, cuts[i].len, cuts[i].trials);
+        } else {
+            answer(cuts[i].name, q, cuts[i].number, cuts[i].place);
+        }
+    }
+    if (present(operation("underapproximate_to_cardinality"))) {
+        q = asks(TRUE3, LEN(TRUE3));
+        q.target[0] = 4;
+        answer("underapproximate_to_cardinality", q, 19, 0);
+        q = asks(FALSE3, LEN(FALSE3));
+        q.target[0] = 4;
+        answer("overapproximate_to_cardinality", q, 19, 0);
+        q = asks(longer, LEN(longer));
+        q.target[0] = 1;
+        answers_words("underapproximate_to_cardinality", q, FALSE1, LEN(FALSE1), 1);
+    }
+
+    if (skipped) printf("%d operations are not in the archive yet and were not tested\n", skipped);
+    printf("C test: %d passed, %d failed\n", passed, failed);
+    return failed != 0;
+}
