@@ -22,8 +22,7 @@ FOLDER = os.path.join(HERE, '..', 'crates', 'cuts_run')
 BENCH = os.path.join(HERE, '..', 'bench')
 SINGLE, BOTH = [1, 0, 0, 1, 1, 1, 0, 1, 1], [2, 0, 0, 2, 1, 1, 1, 1, 1, 0, 2, 2]   # true, in three nodes and in four
 MARKED, FILLED = 7, 9                                   # the words of room and output beforehand
-COUNTS = False                                          # whether the program knows the letters c and d
-LETTERS = 'uostcd' if COUNTS else 'uost'
+LETTERS = 'uostcd'
 
 
 def flat(ns):

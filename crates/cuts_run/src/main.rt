@@ -1,7 +1,7 @@
 // Runs the cuts over the cases of standard input and prints a line for each. A case is a line: the letter of the operation,
 // right after it the length of the working room, and then, with blanks between, the word that the room is filled with beforehand,
 // the same two of the output, how many words the list or the target has, these words, and the words of the diagram. Letters: u
-// and o cut by a list, s and t to a size; u and s from below, o and t from above.
+// and o cut by a list, s and t to a size, c and d to a count; u, s and c from below, o, t and d from above.
 // The answer is the verdict; how many nodes and trials were answered; of the room afterwards how many words at its front are
 // zero and how many after these are as they were; how many words of the output beyond the result are as they were; and the
 // result's words. Both files are made by tests/cuts_cases.py, which has the Rust text answer what document 01 does not refuse.
@@ -15,7 +15,11 @@ use cuts::underapproximate;
 use diagram::node::word;
 use diagram::verdict::Verdict;
 use libc::STDOUT_FILENO;
+use naturals::Natural;
+use naturals::load;
 use targets::Approximated;
+use targets::count::overapproximate_to_cardinality;
+use targets::count::underapproximate_to_cardinality;
 use targets::size::overapproximate_to_size;
 use targets::size::underapproximate_to_size;
 ghost use Prim.Native.Nat.{_≤_, _<_};
@@ -97,6 +101,12 @@ fn refused_letter() -> Approximated {
     }
 }
 
+// A count target: eight words, least first.
+fn count_of(list: &[u32]) -> Natural {
+    let read = load(list, 0);
+    read.natural
+}
+
 fn ask(
     letter: u8,
     words: &[u32],
@@ -115,6 +125,12 @@ fn ask(
     }
     if letter == 116 {
         return overapproximate_to_size(words, word(list, 0), room, output);
+    }
+    if letter == 99 {
+        return underapproximate_to_cardinality(words, count_of(list), room, output);
+    }
+    if letter == 100 {
+        return overapproximate_to_cardinality(words, count_of(list), room, output);
     }
     refused_letter()
 }
