@@ -86,7 +86,9 @@ fn main() {
             for (family, name) in FAMILIES {
                 for nodes in SIZES {
                     let made = |i| Case::new(diagram(family, nodes, seed + i as u64), operation);
-                    let cases: Vec<Case> = (0..NODES_A_ROW / nodes).map(made).collect();
+                    // A cut to just under the count may make thousands of cuts: one diagram is enough there.
+                    let count = if operation.name.ends_with("just under") { 1 } else { NODES_A_ROW / nodes };
+                    let cases: Vec<Case> = (0..count).map(made).collect();
                     for case in cases.iter().filter(|_| pass == 0) {
                         let verdict = ours::validate(&case.words, &mut lent.room);
                         assert!(verdict.number == 0, "{name}: refused {} at {}", verdict.number, verdict.place);

@@ -22,13 +22,14 @@ pub struct Case {
     pub words: Vec<u32>,
     pub bdd: Bdd,
     pub half_count: BigUint,
+    pub under_count: BigUint,
 }
 
 impl Case {
     pub fn new(words: Vec<u32>, operation: &Operation) -> Case {
         let bdd = Bdd::from_words(&words);
-        let half_count = if operation.targets { bdd.exact_cardinality() / 2u32 } else { BigUint::default() };
-        Case { words, bdd, half_count }
+        let count = if operation.targets { bdd.exact_cardinality() } else { BigUint::from(1u32) };
+        Case { words, bdd, half_count: &count / 2u32, under_count: count - 1u32 }
     }
     pub fn nodes(&self) -> usize {
         self.words.len() / 3
@@ -52,7 +53,7 @@ pub struct Operation {
     pub compare: fn(&Case, &mut Lent),
 }
 
-pub const OPERATIONS: [Operation; 8] = [
+pub const OPERATIONS: [Operation; 11] = [
     Operation {
         name: "validate",
         targets: false,
@@ -127,14 +128,67 @@ pub const OPERATIONS: [Operation; 8] = [
         name: "underapproximate_to_size, half",
         targets: false,
         rust: |c| _ = black_box(c.bdd.underapproximate_to_size(c.nodes() / 2)),
-        ours: None,
-        compare: |_, _| (),
+        ours: Some(|c, lent| {
+            let (room, output) = c.lent(lent, 3);
+            _ = black_box(ours::underapproximate_to_size(&c.words, (c.nodes() / 2) as u32, room, output));
+        }),
+        compare: |c, lent| {
+            let (room, output) = c.lent(lent, 3);
+            let made = ours::underapproximate_to_size(&c.words, (c.nodes() / 2) as u32, room, output);
+            assert_eq!(&output[..3 * made.nodes], c.bdd.underapproximate_to_size(c.nodes() / 2).to_words());
+        },
+    },
+    Operation {
+        name: "overapproximate_to_size, half",
+        targets: false,
+        rust: |c| _ = black_box(c.bdd.overapproximate_to_size(c.nodes() / 2)),
+        ours: Some(|c, lent| {
+            let (room, output) = c.lent(lent, 3);
+            _ = black_box(ours::overapproximate_to_size(&c.words, (c.nodes() / 2) as u32, room, output));
+        }),
+        compare: |c, lent| {
+            let (room, output) = c.lent(lent, 3);
+            let made = ours::overapproximate_to_size(&c.words, (c.nodes() / 2) as u32, room, output);
+            assert_eq!(&output[..3 * made.nodes], c.bdd.overapproximate_to_size(c.nodes() / 2).to_words());
+        },
     },
     Operation {
         name: "underapproximate_to_cardinality, half",
         targets: true,
         rust: |c| _ = black_box(c.bdd.underapproximate_to_cardinality(&c.half_count)),
-        ours: None,
-        compare: |_, _| (),
+        ours: Some(|c, lent| _ = black_box(under_count(c, &c.half_count, lent))),
+        compare: |c, lent| compare_count(c, &c.half_count, lent),
+    },
+    Operation {
+        name: "underapproximate_to_cardinality, 1",
+        targets: true,
+        rust: |c| _ = black_box(c.bdd.underapproximate_to_cardinality(&BigUint::from(1u32))),
+        ours: Some(|c, lent| _ = black_box(under_count(c, &BigUint::from(1u32), lent))),
+        compare: |c, lent| compare_count(c, &BigUint::from(1u32), lent),
+    },
+    Operation {
+        name: "underapproximate_to_cardinality, just under",
+        targets: true,
+        rust: |c| _ = black_box(c.bdd.underapproximate_to_cardinality(&c.under_count)),
+        ours: Some(|c, lent| _ = black_box(under_count(c, &c.under_count, lent))),
+        compare: |c, lent| compare_count(c, &c.under_count, lent),
     },
 ];
+
+/// A count target as eight words.
+fn natural(count: &BigUint) -> ours::Natural {
+    let mut words = [0; 8];
+    count.iter_u32_digits().zip(&mut words).for_each(|(digit, word)| *word = digit);
+    ours::Natural { words }
+}
+
+fn under_count(c: &Case, count: &BigUint, lent: &mut Lent) -> ours::Approximation {
+    let (room, output) = c.lent(lent, 3);
+    ours::underapproximate_to_cardinality(&c.words, natural(count), room, output)
+}
+
+fn compare_count(c: &Case, count: &BigUint, lent: &mut Lent) {
+    let made = under_count(c, count, lent);
+    assert_eq!(made.verdict.number, 0);
+    assert_eq!(&lent.output[..3 * made.nodes], c.bdd.underapproximate_to_cardinality(count).to_words());
+}

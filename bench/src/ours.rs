@@ -26,7 +26,22 @@ pub struct Diagram {
     pub nodes: usize,
 }
 
+#[repr(C)]
+pub struct Approximation {
+    pub verdict: Verdict,
+    pub nodes: usize,
+    pub trials: usize,
+}
+
+#[repr(C)]
+pub struct Natural {
+    pub words: [u32; 8],
+}
+
 extern "C" {
+    fn houayletan_underapproximate_to_size(words: *const u32, words_len: usize, target: u32, room: *mut u32, room_len: usize, output: *mut u32, output_len: usize) -> Approximation;
+    fn houayletan_overapproximate_to_size(words: *const u32, words_len: usize, target: u32, room: *mut u32, room_len: usize, output: *mut u32, output_len: usize) -> Approximation;
+    fn houayletan_underapproximate_to_cardinality(words: *const u32, words_len: usize, target: Natural, room: *mut u32, room_len: usize, output: *mut u32, output_len: usize) -> Approximation;
     fn houayletan_validate(words: *const u32, words_len: usize, room: *mut u32, room_len: usize) -> Verdict;
     fn houayletan_clear(room: *mut u32, room_len: usize, count: usize);
     fn houayletan_exact_cardinality(words: *const u32, words_len: usize, room: *mut u32, room_len: usize) -> Count;
@@ -64,4 +79,19 @@ pub fn node_valuation_weights(words: &[u32], room: &mut [u32], output: &mut [u32
 pub fn reduce(words: &[u32], room: &mut [u32], output: &mut [u32]) -> Diagram {
     let (out, out_len) = (output.as_mut_ptr(), output.len());
     unsafe { houayletan_reduce(words.as_ptr(), words.len(), room.as_mut_ptr(), room.len(), out, out_len) }
+}
+
+pub fn underapproximate_to_size(words: &[u32], target: u32, room: &mut [u32], output: &mut [u32]) -> Approximation {
+    let (out, out_len) = (output.as_mut_ptr(), output.len());
+    unsafe { houayletan_underapproximate_to_size(words.as_ptr(), words.len(), target, room.as_mut_ptr(), room.len(), out, out_len) }
+}
+
+pub fn overapproximate_to_size(words: &[u32], target: u32, room: &mut [u32], output: &mut [u32]) -> Approximation {
+    let (out, out_len) = (output.as_mut_ptr(), output.len());
+    unsafe { houayletan_overapproximate_to_size(words.as_ptr(), words.len(), target, room.as_mut_ptr(), room.len(), out, out_len) }
+}
+
+pub fn underapproximate_to_cardinality(words: &[u32], target: Natural, room: &mut [u32], output: &mut [u32]) -> Approximation {
+    let (out, out_len) = (output.as_mut_ptr(), output.len());
+    unsafe { houayletan_underapproximate_to_cardinality(words.as_ptr(), words.len(), target, room.as_mut_ptr(), room.len(), out, out_len) }
 }
