@@ -140,6 +140,10 @@ static void refusals(const Operation *o) {
     q = asks(FALSE3, LEN(FALSE3));
     q.room_len = 127;
     answer(o->name, q, 5, 0);
+    if (o->output != NO_OUTPUT) {
+        q.room_len = 128, q.output_len = output_asked(o->output, 1) - 1;
+        answer(o->name, q, 4, 0);
+    }
     q = asks(many, 3 * 4096);
     q.room_len = 0;
     answer(o->name, q, 5, 0);
@@ -169,7 +173,7 @@ int main(void) {
     expect(output[0] == 0 && output[8] == 8, "true's weights", "node_valuation_weights");
 
     static const uint32_t longer[] = {1, 0, 0, 1, 1, 1, 0, 1, 1}; /* true, in three nodes */
-    static const uint32_t TRUE1[] = {1, 0, 0, 1, 1, 1}, FALSE1[] = {1, 0, 0};
+    static const uint32_t TRUE1[] = {1, 0, 0, 1, 1, 1};
     answers_words("reduce", asks(longer, LEN(longer)), TRUE1, LEN(TRUE1), 0);
     counts(longer, LEN(longer), 2, 2);
     answers_words("reduce", asks(D, LEN(D)), D, LEN(D), 0);
@@ -206,6 +210,7 @@ int main(void) {
         answers_words("not", asks(FALSE3, LEN(FALSE3)), TRUE3, LEN(TRUE3), 0);
     }
 
+    static const uint32_t TRUE0[] = {0, 0, 0, 0, 1, 1};
     static const struct {
         const char *name;
         const uint32_t *words;
@@ -218,6 +223,7 @@ int main(void) {
         {"is_clause", AND3, LEN(AND3), 1}, {"is_clause", D, LEN(D), 0}, {"is_clause", TRUE3, LEN(TRUE3), 1},
         {"is_clause", FALSE3, LEN(FALSE3), 0}, {"is_clause", longer, LEN(longer), 0},
         {"is_valuation", AND3, LEN(AND3), 1}, {"is_valuation", TRUE3, LEN(TRUE3), 0}, {"is_valuation", deep, LEN(deep), 1},
+        {"is_valuation", TRUE0, LEN(TRUE0), 1},
     };
     for (size_t i = 0; i < LEN(queries); i++) {
         if (!present(operation(queries[i].name))) continue;
@@ -255,6 +261,7 @@ int main(void) {
         {"underapproximate_to_size", 0, {3}, 0, 0, FALSE3, LEN(FALSE3), 2},
         {"underapproximate_to_size", 0, {5}, 0, 0, D, LEN(D), 0},
         {"underapproximate_to_size", 0, {0}, 0, 0, FALSE3, LEN(FALSE3), 0},
+        {"underapproximate_to_size", 0, {2}, 0, 0, FALSE3, LEN(FALSE3), 0},
         {"overapproximate_to_size", 0, {4}, 0, 0, C5, LEN(C5), 2},
         {"overapproximate_to_size", 0, {1}, 0, 0, TRUE3, LEN(TRUE3), 0},
         {"overapproximate_to_size", 0, {UINT32_MAX}, 0, 0, D, LEN(D), 0},
@@ -267,6 +274,10 @@ int main(void) {
         {"overapproximate_to_cardinality", 0, {9}, 16, 0, NULL, 0, 0},
         {"overapproximate_to_cardinality", 0, {0, 1}, 16, 0, NULL, 0, 0},
     };
+    /* C11: all weights are equal, the root goes first. */
+    q = asks(AND3, LEN(AND3));
+    q.target[0] = 4;
+    answers_words("underapproximate_to_size", q, FALSE3, LEN(FALSE3), 2);
     for (size_t i = 0; i < LEN(cuts); i++) {
         if (!present(operation(cuts[i].name))) continue;
         q = asks(D, LEN(D));
@@ -278,16 +289,49 @@ int main(void) {
             answer(cuts[i].name, q, cuts[i].number, cuts[i].place);
         }
     }
-    if (present(operation("underapproximate_to_cardinality"))) {
-        q = asks(TRUE3, LEN(TRUE3));
-        q.target[0] = 4;
-        answer("underapproximate_to_cardinality", q, 19, 0);
-        q = asks(FALSE3, LEN(FALSE3));
-        q.target[0] = 4;
-        answer("overapproximate_to_cardinality", q, 19, 0);
-        q = asks(longer, LEN(longer));
-        q.target[0] = 1;
-        answers_words("underapproximate_to_cardinality", q, FALSE1, LEN(FALSE1), 1);
+    /* Where two readings of the rules are possible: words, a list or a target, and what comes out. */
+    static const struct {
+        const char *name;
+        size_t len;
+        uint32_t words[12];
+        size_t list_len;
+        uint32_t argument[2];
+        uint32_t number;
+        size_t place, result_len;
+        uint32_t result[9];
+        size_t trials;
+    } readings[] = {
+        /* past the nodes is refused though the root is listed; a terminal that is the root may be listed */
+        {"underapproximate", 6, {0, 0, 0, 0, 1, 1}, 2, {1, 2}, 13, 1, 0, {0}, 0},
+        {"overapproximate", 3, {0, 0, 0}, 1, {0}, 0, 0, 6, {0, 0, 0, 0, 1, 1}, 0},
+        {"underapproximate", 6, {0, 0, 0, 0, 1, 1}, 1, {0}, 14, 0, 0, {0}, 0},
+        {"underapproximate", 6, {0, 0, 0, 0, 1, 1}, 2, {0, 1}, 0, 0, 3, {0, 0, 0}, 0},
+        /* the last cut counts, also where the same list was tried before */
+        {"underapproximate_to_size", 12, {2, 0, 0, 2, 1, 1, 1, 1, 1, 0, 2, 2}, 0, {3}, 0, 0, 6, {2, 0, 0, 2, 1, 1}, 2},
+        {"underapproximate_to_size", 9, {1, 0, 0, 1, 1, 1, 0, 1, 1}, 0, {2}, 0, 0, 3, {1, 0, 0}, 0},
+        /* overapproximation looks at the negation's array */
+        {"overapproximate_to_size", 3, {0, 0, 0}, 0, {2}, 0, 0, 3, {0, 0, 0}, 0},
+        {"overapproximate_to_size", 3, {0, 0, 0}, 0, {1}, 0, 0, 6, {0, 0, 0, 0, 1, 1}, 0},
+        {"overapproximate_to_size", 3, {0, 0, 0}, 0, {0}, 0, 0, 6, {0, 0, 0, 0, 1, 1}, 0},
+        /* a count of 0 gives one node; above 2^v only overapproximation refuses; constants go by the array's length */
+        {"underapproximate_to_cardinality", 9, {1, 0, 0, 1, 1, 1, 0, 0, 0}, 0, {0}, 0, 0, 3, {1, 0, 0}, 0},
+        {"underapproximate_to_cardinality", 6, {0, 0, 0, 0, 1, 1}, 0, {2}, 0, 0, 6, {0, 0, 0, 0, 1, 1}, 0},
+        {"overapproximate_to_cardinality", 6, {0, 0, 0, 0, 1, 1}, 0, {2}, 16, 0, 0, {0}, 0},
+        {"overapproximate_to_cardinality", 3, {0, 0, 0}, 0, {1}, 0, 0, 6, {0, 0, 0, 0, 1, 1}, 0},
+        {"underapproximate_to_cardinality", 9, {1, 0, 0, 1, 1, 1, 0, 1, 1}, 0, {1}, 0, 0, 3, {1, 0, 0}, 1},
+        {"underapproximate_to_cardinality", 6, {3, 0, 0, 3, 1, 1}, 0, {4}, 19, 0, 0, {0}, 0},
+        {"overapproximate_to_cardinality", 3, {3, 0, 0}, 0, {4}, 19, 0, 0, {0}, 0},
+    };
+    for (size_t i = 0; i < LEN(readings); i++) {
+        if (!present(operation(readings[i].name))) continue;
+        q = asks(readings[i].words, readings[i].len);
+        q.list = readings[i].argument, q.list_len = readings[i].list_len;
+        memcpy(q.target, readings[i].argument, sizeof readings[i].argument);
+        if (readings[i].number == 0) {
+            answers_words(readings[i].name, q, readings[i].result, readings[i].result_len, readings[i].trials);
+        } else {
+            answer(readings[i].name, q, readings[i].number, readings[i].place);
+        }
     }
 
     if (skipped) printf("%d operations are not in the archive yet and were not tested\n", skipped);
