@@ -4,7 +4,7 @@
 #include <stdio.h>
 #include <stdlib.h>
 
-static int passed, failed, skipped;
+static int passed, failed;
 
 static void expect(bool right, const char *what, const char *operation) {
     if (right) {
@@ -69,15 +69,7 @@ static Reply answer(const char *name, Request q, uint32_t number, size_t place) 
     return r;
 }
 
-static bool is_here(const char *name) {
-    if (present(operation(name))) return true;
-    printf("not in the archive yet: %s\n", name);
-    skipped++;
-    return false;
-}
-
 static void answers_words(const char *name, Request q, const uint32_t *words, size_t len, size_t trials) {
-    if (!present(operation(name))) return;
     Reply r = answer(name, q, 0, 0);
     expect(r.value[0] == len / 3 && memcmp(output, words, 4 * len) == 0, "the answer's words", name);
     expect(r.values == 1 || r.value[1] == trials, "the trials", name);
@@ -88,12 +80,10 @@ static void counts(const uint32_t *words, size_t len, uint32_t count, uint32_t p
     expect(r.value[0] == count && r.value[1] == 0 && r.value[7] == 0, "the count", "exact_cardinality");
     r = answer("exact_clause_cardinality", asks(words, len), 0, 0);
     expect(r.value[0] == paths && r.value[1] == 0 && r.value[7] == 0, "the paths", "exact_clause_cardinality");
-    if (present(operation("cardinality"))) {
-        double d = count;
-        uint64_t bits;
-        memcpy(&bits, &d, 8);
-        expect(answer("cardinality", asks(words, len), 0, 0).value[0] == bits, "the count", "cardinality");
-    }
+    double d = count;
+    uint64_t bits;
+    memcpy(&bits, &d, 8);
+    expect(answer("cardinality", asks(words, len), 0, 0).value[0] == bits, "the count", "cardinality");
 }
 
 /* Every operation takes and refuses the same words, in the same order. */
@@ -150,9 +140,7 @@ static void refusals(const Operation *o) {
 }
 
 int main(void) {
-    for (size_t i = 0; i < OPERATIONS; i++) {
-        if (is_here(operations[i].name)) refusals(&operations[i]);
-    }
+    for (size_t i = 0; i < OPERATIONS; i++) refusals(&operations[i]);
 
     answer("validate", asks(D, LEN(D)), 0, 0);
     counts(D, LEN(D), 5, 3);
@@ -203,12 +191,10 @@ int main(void) {
     houayletan_clear(room, 10, SIZE_MAX);
     expect(all(room, 0, 10, 0) && all(room, 10, LEN(room), FILL), "no more than there are", "clear");
 
-    if (present(operation("not"))) {
-        static const uint32_t NOT_D[] = {3, 0, 0, 3, 1, 1, 2, 1, 0, 1, 2, 0, 0, 2, 3};
-        answers_words("not", asks(D, LEN(D)), NOT_D, LEN(NOT_D), 0);
-        answers_words("not", asks(TRUE3, LEN(TRUE3)), FALSE3, LEN(FALSE3), 0);
-        answers_words("not", asks(FALSE3, LEN(FALSE3)), TRUE3, LEN(TRUE3), 0);
-    }
+    static const uint32_t NOT_D[] = {3, 0, 0, 3, 1, 1, 2, 1, 0, 1, 2, 0, 0, 2, 3};
+    answers_words("not", asks(D, LEN(D)), NOT_D, LEN(NOT_D), 0);
+    answers_words("not", asks(TRUE3, LEN(TRUE3)), FALSE3, LEN(FALSE3), 0);
+    answers_words("not", asks(FALSE3, LEN(FALSE3)), TRUE3, LEN(TRUE3), 0);
 
     static const uint32_t TRUE0[] = {0, 0, 0, 0, 1, 1};
     static const struct {
@@ -226,14 +212,11 @@ int main(void) {
         {"is_valuation", TRUE0, LEN(TRUE0), 1},
     };
     for (size_t i = 0; i < LEN(queries); i++) {
-        if (!present(operation(queries[i].name))) continue;
         r = answer(queries[i].name, asks(queries[i].words, queries[i].len), 0, 0);
         expect(r.value[0] == queries[i].value, "the answer", queries[i].name);
     }
-    if (present(operation("size_per_variable"))) {
-        answer("size_per_variable", asks(D, LEN(D)), 0, 0);
-        expect(output[0] == 1 && output[1] == 1 && output[2] == 1, "D's sizes", "size_per_variable");
-    }
+    answer("size_per_variable", asks(D, LEN(D)), 0, 0);
+    expect(output[0] == 1 && output[1] == 1 && output[2] == 1, "D's sizes", "size_per_variable");
 
     /* Cuts of D: C3 to C12 of document 01, and lists that are refused. */
     static const uint32_t C3[] = {3, 0, 0, 3, 1, 1, 1, 0, 1, 0, 0, 2}, C4[] = {3, 0, 0, 3, 1, 1, 2, 0, 1, 0, 2, 0};
@@ -279,7 +262,6 @@ int main(void) {
     q.target[0] = 4;
     answers_words("underapproximate_to_size", q, FALSE3, LEN(FALSE3), 2);
     for (size_t i = 0; i < LEN(cuts); i++) {
-        if (!present(operation(cuts[i].name))) continue;
         q = asks(D, LEN(D));
         q.list = cuts[i].argument, q.list_len = cuts[i].list_len;
         memcpy(q.target, cuts[i].argument, sizeof cuts[i].argument);
@@ -323,7 +305,6 @@ int main(void) {
         {"overapproximate_to_cardinality", 3, {3, 0, 0}, 0, {4}, 19, 0, 0, {0}, 0},
     };
     for (size_t i = 0; i < LEN(readings); i++) {
-        if (!present(operation(readings[i].name))) continue;
         q = asks(readings[i].words, readings[i].len);
         q.list = readings[i].argument, q.list_len = readings[i].list_len;
         memcpy(q.target, readings[i].argument, sizeof readings[i].argument);
@@ -334,7 +315,6 @@ int main(void) {
         }
     }
 
-    if (skipped) printf("%d operations are not in the archive yet and were not tested\n", skipped);
     printf("C test: %d passed, %d failed\n", passed, failed);
     return failed != 0;
 }
