@@ -56,7 +56,7 @@ archive=target/staticlib/libhouayletan.a
 built=target/tests
 
 c_program() { # NAME
-    mkdir -p "$built" && cc -std=c99 -Wall -Wextra -Werror -O2 "tests/c/$1.c" tests/c/absent.c "$archive" -o "$built/$1"
+    mkdir -p "$built" && cc -std=c99 -Wall -Wextra -Werror -O2 "tests/c/$1.c" "$archive" -o "$built/$1"
 }
 c_test() { c_program test && "$built/test"; }
 replay() { c_program replay && "$built/replay" tests/c/replay.txt; }

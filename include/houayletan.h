@@ -112,8 +112,6 @@ HouayletanDiagram houayletan_reduce(const uint32_t *words, size_t words_len, uin
 /* Makes the first count words of room zero, or all of them where there are fewer. No refusals. */
 void houayletan_clear(uint32_t *room, size_t room_len, size_t count);
 
-#ifdef HOUAYLETAN_NEXT /* declared, and not in the archive yet */
-
 /* A verdict with a number, or with a yes as 1 and a no as 0; 0 where the input is refused. */
 typedef struct {
     HouayletanVerdict verdict;
@@ -173,8 +171,6 @@ HouayletanApproximation houayletan_underapproximate_to_cardinality(const uint32_
                                                                    uint32_t *room, size_t room_len, uint32_t *output, size_t output_len);
 HouayletanApproximation houayletan_overapproximate_to_cardinality(const uint32_t *words, size_t words_len, HouayletanNatural target,
                                                                   uint32_t *room, size_t room_len, uint32_t *output, size_t output_len);
-
-#endif
 
 #ifdef __cplusplus
 }

@@ -16,8 +16,8 @@ elif [ ! -f "$archive" ]; then
     exit 2
 fi
 mkdir -p target/tests
-cc -std=gnu99 -Wall -Wextra -Werror -O2 -g stress/stress.c tests/c/absent.c "$archive" -lpthread -o target/tests/stress
-cc -std=c99 -Wall -Wextra -Werror -O2 -g tests/c/replay.c tests/c/absent.c "$archive" -o target/tests/replay
+cc -std=gnu99 -Wall -Wextra -Werror -O2 -g stress/stress.c "$archive" -lpthread -o target/tests/stress
+cc -std=c99 -Wall -Wextra -Werror -O2 -g tests/c/replay.c "$archive" -o target/tests/replay
 
 echo "== deepest recursions, ulimit -s 256"
 (ulimit -s 256 && target/tests/stress deep && target/tests/replay tests/c/replay.txt && target/tests/stress "$((seed + 1))" 100000)

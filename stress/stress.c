@@ -213,11 +213,8 @@ static size_t any_length(size_t exact) {
     }
 }
 
-static const Operation *here[OPERATIONS];
-static size_t here_count;
-
 static void one_request(size_t guard) {
-    const Operation *o = here[below(here_count)];
+    const Operation *o = &operations[below(OPERATIONS)];
     size_t len = any_words(), n = len / 3;
     size_t list_len = o->argument == LIST ? any_list(n) : 0;
     uint32_t target[8];
@@ -309,8 +306,8 @@ static int deep(void) {
     size_t idle = stack_used(start_thread);
     printf("255 levels, %zu nodes, on a stack of %d KiB; bytes used beyond the %zu of an idle thread:\n", ladder(0, 0) / 3, STACK / 1024, idle);
     thread_body = on_own_stack;
-    for (size_t i = 0; i < here_count; i++) {
-        const Operation *o = here[i];
+    for (size_t i = 0; i < OPERATIONS; i++) {
+        const Operation *o = &operations[i];
         size_t most = 0;
         for (int kind = 0; kind < 5; kind++) {
             size_t len = kind < 4 ? ladder(kind % 2, (uint32_t)kind / 2) : one_long_path(), n = len / 3;
@@ -335,9 +332,6 @@ static int deep(void) {
 }
 
 int main(int argc, char **argv) {
-    for (size_t i = 0; i < OPERATIONS; i++) {
-        if (present(&operations[i])) here[here_count++] = &operations[i];
-    }
     if (argc == 2 && strcmp(argv[1], "deep") == 0) return deep();
     if (argc < 3) {
         fprintf(stderr, "usage: stress SEED REQUESTS [GUARD] | stress deep\n");
@@ -347,7 +341,7 @@ int main(int argc, char **argv) {
     unsigned long requests = strtoul(argv[2], NULL, 10);
     size_t guard = argc > 3 ? strtoul(argv[3], NULL, 10) : 16;
     while (made < requests) one_request(guard);
-    printf("stress: seed %s, %zu operations, %lu requests, 0 failed; accepted %lu, refused", argv[1], here_count, made, refused[0]);
+    printf("stress: seed %s, %zu operations, %lu requests, 0 failed; accepted %lu, refused", argv[1], OPERATIONS, made, refused[0]);
     for (int i = 1; i < 20; i++) {
         if (refused[i]) printf(" %d: %lu", i, refused[i]);
     }

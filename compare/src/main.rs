@@ -138,8 +138,6 @@ fn main() {
         return self::store(random, requests);
     }
 
-    let here: Vec<usize> = (0..OPERATIONS.len()).filter(|i| OPERATIONS[*i].3).collect();
-    let next: Vec<usize> = (0..OPERATIONS.len()).filter(|i| !OPERATIONS[*i].3).collect();
     let mut tally = vec![[0u64; 2]; OPERATIONS.len()];
     let mut refusals: BTreeMap<u32, u64> = BTreeMap::new();
     let mut families = [[0u64; 2]; generate::FAMILIES.len()];
@@ -148,15 +146,11 @@ fn main() {
     let mut sizes = [0u64; 5];
     let (mut compared, mut most, mut most_vars, mut most_trials, mut safe) = (0, 0, 0, 0, 0u64);
     while compared < requests {
-        // an operation that is not in the archive yet is asked of the Rust text and of the reading alone
-        let operation = if next.is_empty() || random.below(10) > 0 { random.pick(&here) } else { random.pick(&next) };
+        let operation = random.below(OPERATIONS.len());
         let limit = most_nodes(random);
         let (request, family, damaged) = request(random, operation, limit);
         let expected = reference::expected(&request);
         tally[operation][(expected.number != 0) as usize] += 1;
-        if !OPERATIONS[operation].3 {
-            continue;
-        }
         let said = request::ask(&request);
         if said.as_ref() != Ok(&expected) {
             println!("DIFFERENT, after {compared} requests: {}\nexpected {expected:?}\ngot {said:?}", OPERATIONS[operation].1);
@@ -186,9 +180,9 @@ fn main() {
     println!("seed {seed}: {compared} requests, no difference; {safe} of them by the allocating functions too");
     println!("largest accepted: {most} nodes, {most_vars} variables; most trials {most_trials}");
     println!("nodes offered: {} below 16, {} below 256, {} below 2,048, {} below 4,096, {} more", sizes[0], sizes[1], sizes[2], sizes[3], sizes[4]);
-    println!("\n| operation | answered | refused | compared with |\n|---|--:|--:|---|");
-    for ((_, name, _, here), [answered, refused]) in OPERATIONS.iter().zip(tally) {
-        println!("| {name} | {answered} | {refused} | {} |", if *here { "the library" } else { "the reading alone: not in the archive yet" });
+    println!("\n| operation | answered | refused |\n|---|--:|--:|");
+    for ((_, name, _), [answered, refused]) in OPERATIONS.iter().zip(tally) {
+        println!("| {name} | {answered} | {refused} |");
     }
     println!("\n| refusal | times |\n|--:|--:|");
     refusals.iter().for_each(|(number, times)| println!("| {number} | {times} |"));

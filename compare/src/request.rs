@@ -31,28 +31,27 @@ pub enum Operation {
 
 use Operation::*;
 
-/// With the output, and whether the archive has it.
-pub const OPERATIONS: [(Operation, &str, Output, bool); 20] = [
-    (Validate, "validate", Output::Nothing, true),
-    (ExactCardinality, "exact_cardinality", Output::Nothing, true),
-    (ExactClauseCardinality, "exact_clause_cardinality", Output::Nothing, true),
-    (Cardinality, "cardinality", Output::Nothing, true),
-    (Size, "size", Output::Nothing, cfg!(has = "size")),
-    (NumVars, "num_vars", Output::Nothing, cfg!(has = "num_vars")),
-    (IsTrue, "is_true", Output::Nothing, cfg!(has = "is_true")),
-    (IsFalse, "is_false", Output::Nothing, cfg!(has = "is_false")),
-    (IsClause, "is_clause", Output::Nothing, cfg!(has = "is_clause")),
-    (IsValuation, "is_valuation", Output::Nothing, cfg!(has = "is_valuation")),
-    (SizePerVariable, "size_per_variable", Output::Variables, cfg!(has = "size_per_variable")),
-    (NodeValuationWeights, "node_valuation_weights", Output::Weights, true),
-    (Reduce, "reduce", Output::Diagram, true),
-    (Not, "not", Output::Diagram, cfg!(has = "not")),
-    (Underapproximate, "underapproximate", Output::Diagram, cfg!(has = "underapproximate")),
-    (Overapproximate, "overapproximate", Output::Diagram, cfg!(has = "overapproximate")),
-    (UnderapproximateToSize, "underapproximate_to_size", Output::Diagram, cfg!(has = "underapproximate_to_size")),
-    (OverapproximateToSize, "overapproximate_to_size", Output::Diagram, cfg!(has = "overapproximate_to_size")),
-    (UnderapproximateToCardinality, "underapproximate_to_cardinality", Output::Diagram, cfg!(has = "underapproximate_to_cardinality")),
-    (OverapproximateToCardinality, "overapproximate_to_cardinality", Output::Diagram, cfg!(has = "overapproximate_to_cardinality")),
+pub const OPERATIONS: [(Operation, &str, Output); 20] = [
+    (Validate, "validate", Output::Nothing),
+    (ExactCardinality, "exact_cardinality", Output::Nothing),
+    (ExactClauseCardinality, "exact_clause_cardinality", Output::Nothing),
+    (Cardinality, "cardinality", Output::Nothing),
+    (Size, "size", Output::Nothing),
+    (NumVars, "num_vars", Output::Nothing),
+    (IsTrue, "is_true", Output::Nothing),
+    (IsFalse, "is_false", Output::Nothing),
+    (IsClause, "is_clause", Output::Nothing),
+    (IsValuation, "is_valuation", Output::Nothing),
+    (SizePerVariable, "size_per_variable", Output::Variables),
+    (NodeValuationWeights, "node_valuation_weights", Output::Weights),
+    (Reduce, "reduce", Output::Diagram),
+    (Not, "not", Output::Diagram),
+    (Underapproximate, "underapproximate", Output::Diagram),
+    (Overapproximate, "overapproximate", Output::Diagram),
+    (UnderapproximateToSize, "underapproximate_to_size", Output::Diagram),
+    (OverapproximateToSize, "overapproximate_to_size", Output::Diagram),
+    (UnderapproximateToCardinality, "underapproximate_to_cardinality", Output::Diagram),
+    (OverapproximateToCardinality, "overapproximate_to_cardinality", Output::Diagram),
 ];
 
 #[derive(Clone, Debug)]
@@ -110,30 +109,14 @@ fn diagram(d: lent::Diagram) -> (lent::Verdict, Vec<u64>, usize) {
     (d.verdict, vec![d.nodes as u64], 3 * d.nodes)
 }
 
-macro_rules! if_there {
-    ($name:tt, $call:expr) => {{
-        #[cfg(has = $name)]
-        {
-            $call
-        }
-        #[cfg(not(has = $name))]
-        {
-            unreachable!("not in the archive")
-        }
-    }};
-}
-
-#[cfg(has = "size")]
 fn amount(a: lent::Amount) -> (lent::Verdict, Vec<u64>, usize) {
     (a.verdict, vec![a.amount as u64], 0)
 }
 
-#[cfg(any(has = "underapproximate_to_size", has = "underapproximate_to_cardinality"))]
 fn approximation(t: lent::Approximation) -> (lent::Verdict, Vec<u64>, usize) {
     (t.verdict, vec![t.nodes as u64, t.trials as u64], 3 * t.nodes)
 }
 
-#[allow(unused_variables)]
 fn call(request: &Request, w: &[u32], list: &[u32], room: &mut [u32], out: &mut [u32]) -> (lent::Verdict, Vec<u64>, usize) {
     let size = if let Argument::Size(t) = request.argument { t } else { 0 };
     let count = if let Argument::Count(k) = request.argument { Count::new(k) } else { Count::ZERO };
@@ -150,27 +133,23 @@ fn call(request: &Request, w: &[u32], list: &[u32], room: &mut [u32], out: &mut 
             let c = lent::cardinality(w, room);
             (c.verdict, vec![c.count.to_bits()], 0)
         }
-        Size => if_there!("size", amount(lent::size(w, room))),
-        NumVars => if_there!("num_vars", amount(lent::num_vars(w, room))),
-        IsTrue => if_there!("is_true", amount(lent::is_true(w, room))),
-        IsFalse => if_there!("is_false", amount(lent::is_false(w, room))),
-        IsClause => if_there!("is_clause", amount(lent::is_clause(w, room))),
-        IsValuation => if_there!("is_valuation", amount(lent::is_valuation(w, room))),
-        SizePerVariable => if_there!("size_per_variable", {
+        Size => amount(lent::size(w, room)),
+        NumVars => amount(lent::num_vars(w, room)),
+        IsTrue => amount(lent::is_true(w, room)),
+        IsFalse => amount(lent::is_false(w, room)),
+        IsClause => amount(lent::is_clause(w, room)),
+        IsValuation => amount(lent::is_valuation(w, room)),
+        SizePerVariable => {
             let verdict = lent::size_per_variable(w, room, out);
             (verdict, vec![], verdict.vars as usize)
-        }),
-        Not => if_there!("not", diagram(lent::not(w, room, out))),
-        Underapproximate => if_there!("underapproximate", diagram(lent::underapproximate(w, list, room, out))),
-        Overapproximate => if_there!("overapproximate", diagram(lent::overapproximate(w, list, room, out))),
-        UnderapproximateToSize => if_there!("underapproximate_to_size", approximation(lent::underapproximate_to_size(w, size, room, out))),
-        OverapproximateToSize => if_there!("overapproximate_to_size", approximation(lent::overapproximate_to_size(w, size, room, out))),
-        UnderapproximateToCardinality => {
-            if_there!("underapproximate_to_cardinality", approximation(lent::underapproximate_to_cardinality(w, count, room, out)))
         }
-        OverapproximateToCardinality => {
-            if_there!("overapproximate_to_cardinality", approximation(lent::overapproximate_to_cardinality(w, count, room, out)))
-        }
+        Not => diagram(lent::not(w, room, out)),
+        Underapproximate => diagram(lent::underapproximate(w, list, room, out)),
+        Overapproximate => diagram(lent::overapproximate(w, list, room, out)),
+        UnderapproximateToSize => approximation(lent::underapproximate_to_size(w, size, room, out)),
+        OverapproximateToSize => approximation(lent::overapproximate_to_size(w, size, room, out)),
+        UnderapproximateToCardinality => approximation(lent::underapproximate_to_cardinality(w, count, room, out)),
+        OverapproximateToCardinality => approximation(lent::overapproximate_to_cardinality(w, count, room, out)),
     }
 }
 
@@ -213,7 +192,7 @@ impl Lent {
     }
 }
 
-/// The library's answer to a request that it has an operation for, or what it did wrong to what it was lent.
+/// The library's answer to a request, or what it did wrong to what it was lent.
 pub fn ask(request: &Request) -> Result<Reply, &'static str> {
     let mut words = Lent::of(&request.words, request.seed.wrapping_add(1));
     let mut list = Lent::of(request.list(), request.seed.wrapping_add(2));

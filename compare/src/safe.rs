@@ -14,20 +14,6 @@ fn diagram(words: Result<Vec<u32>, Refusal>) -> Flat {
     words.map(|w| (vec![w.len() as u64 / 3], w))
 }
 
-macro_rules! if_there {
-    ($name:tt, $call:expr) => {{
-        #[cfg(has = $name)]
-        {
-            $call
-        }
-        #[cfg(not(has = $name))]
-        {
-            unreachable!("not in the archive")
-        }
-    }};
-}
-
-#[cfg(any(has = "underapproximate_to_size", has = "underapproximate_to_cardinality"))]
 fn cut(cut: Result<houayletan::Cut, Refusal>) -> Flat {
     cut.map(|c| (vec![c.words.len() as u64 / 3, c.trials as u64], c.words))
 }
@@ -37,7 +23,6 @@ pub fn held_to(request: &Request, expected: &Reply) -> Result<(), String> {
         return Ok(());
     }
     let w = &request.words;
-    #[allow(unused_variables)]
     let (list, size, target): (&[u32], u32, Count) = match &request.argument {
         Argument::None => (&[], 0, Count::ZERO),
         Argument::List(list) => (list, 0, Count::ZERO),
@@ -54,24 +39,20 @@ pub fn held_to(request: &Request, expected: &Reply) -> Result<(), String> {
         NodeValuationWeights => houayletan::node_valuation_weights(w).map(|c| (vec![], c.iter().flat_map(|c| c.words()).collect())),
         Reduce => diagram(houayletan::reduce(w)),
         Cardinality => houayletan::cardinality(w).map(|c| (vec![c.to_bits()], vec![])),
-        Size => if_there!("size", houayletan::size(w).map(|x| (vec![x as u64], vec![]))),
-        NumVars => if_there!("num_vars", houayletan::num_vars(w).map(|x| (vec![x as u64], vec![]))),
-        IsTrue => if_there!("is_true", houayletan::is_true(w).map(|x| (vec![x as u64], vec![]))),
-        IsFalse => if_there!("is_false", houayletan::is_false(w).map(|x| (vec![x as u64], vec![]))),
-        IsClause => if_there!("is_clause", houayletan::is_clause(w).map(|x| (vec![x as u64], vec![]))),
-        IsValuation => if_there!("is_valuation", houayletan::is_valuation(w).map(|x| (vec![x as u64], vec![]))),
-        SizePerVariable => if_there!("size_per_variable", houayletan::size_per_variable(w).map(|s| (vec![], s))),
-        Not => if_there!("not", diagram(houayletan::not(w))),
-        Underapproximate => if_there!("underapproximate", diagram(houayletan::underapproximate(w, list))),
-        Overapproximate => if_there!("overapproximate", diagram(houayletan::overapproximate(w, list))),
-        UnderapproximateToSize => if_there!("underapproximate_to_size", cut(houayletan::underapproximate_to_size(w, size))),
-        OverapproximateToSize => if_there!("overapproximate_to_size", cut(houayletan::overapproximate_to_size(w, size))),
-        UnderapproximateToCardinality => {
-            if_there!("underapproximate_to_cardinality", cut(houayletan::underapproximate_to_cardinality(w, target)))
-        }
-        OverapproximateToCardinality => {
-            if_there!("overapproximate_to_cardinality", cut(houayletan::overapproximate_to_cardinality(w, target)))
-        }
+        Size => houayletan::size(w).map(|x| (vec![x as u64], vec![])),
+        NumVars => houayletan::num_vars(w).map(|x| (vec![x as u64], vec![])),
+        IsTrue => houayletan::is_true(w).map(|x| (vec![x as u64], vec![])),
+        IsFalse => houayletan::is_false(w).map(|x| (vec![x as u64], vec![])),
+        IsClause => houayletan::is_clause(w).map(|x| (vec![x as u64], vec![])),
+        IsValuation => houayletan::is_valuation(w).map(|x| (vec![x as u64], vec![])),
+        SizePerVariable => houayletan::size_per_variable(w).map(|s| (vec![], s)),
+        Not => diagram(houayletan::not(w)),
+        Underapproximate => diagram(houayletan::underapproximate(w, list)),
+        Overapproximate => diagram(houayletan::overapproximate(w, list)),
+        UnderapproximateToSize => cut(houayletan::underapproximate_to_size(w, size)),
+        OverapproximateToSize => cut(houayletan::overapproximate_to_size(w, size)),
+        UnderapproximateToCardinality => cut(houayletan::underapproximate_to_cardinality(w, target)),
+        OverapproximateToCardinality => cut(houayletan::overapproximate_to_cardinality(w, target)),
     };
     let wanted: Flat = match expected.number {
         0 => Ok((expected.values.clone(), expected.written.clone())),

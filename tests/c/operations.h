@@ -2,7 +2,6 @@
 #ifndef OPERATIONS_H
 #define OPERATIONS_H
 
-#define HOUAYLETAN_NEXT
 #include "../../include/houayletan.h"
 #include <stdbool.h>
 #include <string.h>
@@ -28,9 +27,6 @@ typedef struct {
 
 typedef enum { NO_OUTPUT, DIAGRAM, WEIGHTS, VARIABLES } Output;
 typedef enum { NO_ARGUMENT, LIST, SIZE_TARGET, COUNT_TARGET } Argument;
-
-/* What absent.c answers for an operation that is not in the archive. */
-#define ABSENT UINT32_MAX
 
 #define IN q->words, q->words_len
 #define ROOM q->room, q->room_len
@@ -155,13 +151,6 @@ static inline Reply call(const Operation *o, const Request *q) {
     memset(&r, 0, sizeof r);
     o->call(q, &r);
     return r;
-}
-
-/* Whether the archive has the operation. */
-static inline bool present(const Operation *o) {
-    uint32_t none[1] = {0};
-    Request q = {none, 0, none, 0, {0}, none, 0, none, 0};
-    return call(o, &q).verdict.number != ABSENT;
 }
 
 static inline const Operation *operation(const char *name) {

@@ -80,8 +80,7 @@ pub struct Approximation {
 
 /// A function of words and room.
 macro_rules! asks {
-    ($(#[$meta:meta])* $name:ident, $symbol:ident, $answer:ty) => {
-        $(#[$meta])*
+    ($name:ident, $symbol:ident, $answer:ty) => {
         #[doc = concat!("[`crate::", stringify!($name), "`], over what is lent.")]
         pub fn $name(words: &[u32], room: &mut [u32]) -> $answer {
             extern "C" {
@@ -94,8 +93,7 @@ macro_rules! asks {
 
 /// A function of words, room and output.
 macro_rules! writes {
-    ($(#[$meta:meta])* $name:ident, $symbol:ident, $answer:ty) => {
-        $(#[$meta])*
+    ($name:ident, $symbol:ident, $answer:ty) => {
         #[doc = concat!("[`crate::", stringify!($name), "`], over what is lent.")]
         pub fn $name(words: &[u32], room: &mut [u32], output: &mut [u32]) -> $answer {
             extern "C" {
@@ -111,8 +109,7 @@ macro_rules! writes {
 
 /// A cut by a list.
 macro_rules! cuts_by_list {
-    ($(#[$meta:meta])* $name:ident, $symbol:ident) => {
-        $(#[$meta])*
+    ($name:ident, $symbol:ident) => {
         #[doc = concat!("[`crate::", stringify!($name), "`], over what is lent.")]
         pub fn $name(words: &[u32], list: &[u32], room: &mut [u32], output: &mut [u32]) -> Diagram {
             extern "C" {
@@ -129,8 +126,7 @@ macro_rules! cuts_by_list {
 
 /// A cut to a target.
 macro_rules! cuts_to {
-    ($(#[$meta:meta])* $name:ident, $symbol:ident, $target:ty) => {
-        $(#[$meta])*
+    ($name:ident, $symbol:ident, $target:ty) => {
         #[doc = concat!("[`crate::", stringify!($name), "`], over what is lent.")]
         pub fn $name(words: &[u32], target: $target, room: &mut [u32], output: &mut [u32]) -> Approximation {
             extern "C" {
@@ -151,21 +147,20 @@ asks!(exact_clause_cardinality, houayletan_exact_clause_cardinality, Counted);
 asks!(cardinality, houayletan_cardinality, CountedFloat);
 writes!(node_valuation_weights, houayletan_node_valuation_weights, Verdict);
 writes!(reduce, houayletan_reduce, Diagram);
-
-asks!(#[cfg(has = "size")] size, houayletan_size, Amount);
-asks!(#[cfg(has = "num_vars")] num_vars, houayletan_num_vars, Amount);
-asks!(#[cfg(has = "is_true")] is_true, houayletan_is_true, Amount);
-asks!(#[cfg(has = "is_false")] is_false, houayletan_is_false, Amount);
-asks!(#[cfg(has = "is_clause")] is_clause, houayletan_is_clause, Amount);
-asks!(#[cfg(has = "is_valuation")] is_valuation, houayletan_is_valuation, Amount);
-writes!(#[cfg(has = "size_per_variable")] size_per_variable, houayletan_size_per_variable, Verdict);
-writes!(#[cfg(has = "not")] not, houayletan_not, Diagram);
-cuts_by_list!(#[cfg(has = "underapproximate")] underapproximate, houayletan_underapproximate);
-cuts_by_list!(#[cfg(has = "overapproximate")] overapproximate, houayletan_overapproximate);
-cuts_to!(#[cfg(has = "underapproximate_to_size")] underapproximate_to_size, houayletan_underapproximate_to_size, u32);
-cuts_to!(#[cfg(has = "overapproximate_to_size")] overapproximate_to_size, houayletan_overapproximate_to_size, u32);
-cuts_to!(#[cfg(has = "underapproximate_to_cardinality")] underapproximate_to_cardinality, houayletan_underapproximate_to_cardinality, Count);
-cuts_to!(#[cfg(has = "overapproximate_to_cardinality")] overapproximate_to_cardinality, houayletan_overapproximate_to_cardinality, Count);
+asks!(size, houayletan_size, Amount);
+asks!(num_vars, houayletan_num_vars, Amount);
+asks!(is_true, houayletan_is_true, Amount);
+asks!(is_false, houayletan_is_false, Amount);
+asks!(is_clause, houayletan_is_clause, Amount);
+asks!(is_valuation, houayletan_is_valuation, Amount);
+writes!(size_per_variable, houayletan_size_per_variable, Verdict);
+writes!(not, houayletan_not, Diagram);
+cuts_by_list!(underapproximate, houayletan_underapproximate);
+cuts_by_list!(overapproximate, houayletan_overapproximate);
+cuts_to!(underapproximate_to_size, houayletan_underapproximate_to_size, u32);
+cuts_to!(overapproximate_to_size, houayletan_overapproximate_to_size, u32);
+cuts_to!(underapproximate_to_cardinality, houayletan_underapproximate_to_cardinality, Count);
+cuts_to!(overapproximate_to_cardinality, houayletan_overapproximate_to_cardinality, Count);
 
 /// Makes the first `count` words zero, or all where there are fewer.
 pub fn clear(room: &mut [u32], count: usize) {

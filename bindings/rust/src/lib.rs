@@ -159,7 +159,6 @@ pub fn cardinality(words: &[u32]) -> Result<f64, Refusal> {
 /// ```
 /// assert_eq!(houayletan::size(&[3, 0, 0, 3, 1, 1]), Ok(2));
 /// ```
-#[cfg(has = "size")]
 pub fn size(words: &[u32]) -> Result<usize, Refusal> {
     let said = lent::size(words, &mut room_for(words));
     accepted(said.verdict).map(|_| said.amount)
@@ -170,7 +169,6 @@ pub fn size(words: &[u32]) -> Result<usize, Refusal> {
 /// ```
 /// assert_eq!(houayletan::num_vars(&[3, 0, 0, 3, 1, 1]), Ok(3));
 /// ```
-#[cfg(has = "num_vars")]
 pub fn num_vars(words: &[u32]) -> Result<usize, Refusal> {
     let said = lent::num_vars(words, &mut room_for(words));
     accepted(said.verdict).map(|_| said.amount)
@@ -181,7 +179,6 @@ pub fn num_vars(words: &[u32]) -> Result<usize, Refusal> {
 /// ```
 /// assert_eq!(houayletan::is_true(&[3, 0, 0, 3, 1, 1]), Ok(true));
 /// ```
-#[cfg(has = "is_true")]
 pub fn is_true(words: &[u32]) -> Result<bool, Refusal> {
     let said = lent::is_true(words, &mut room_for(words));
     accepted(said.verdict).map(|_| said.amount == 1)
@@ -192,7 +189,6 @@ pub fn is_true(words: &[u32]) -> Result<bool, Refusal> {
 /// ```
 /// assert_eq!(houayletan::is_false(&[3, 0, 0, 3, 1, 1]), Ok(false));
 /// ```
-#[cfg(has = "is_false")]
 pub fn is_false(words: &[u32]) -> Result<bool, Refusal> {
     let said = lent::is_false(words, &mut room_for(words));
     accepted(said.verdict).map(|_| said.amount == 1)
@@ -205,7 +201,6 @@ pub fn is_false(words: &[u32]) -> Result<bool, Refusal> {
 /// // x0 and not x1
 /// assert_eq!(houayletan::is_clause(&[3, 0, 0, 3, 1, 1, 1, 1, 0, 0, 0, 2]), Ok(true));
 /// ```
-#[cfg(has = "is_clause")]
 pub fn is_clause(words: &[u32]) -> Result<bool, Refusal> {
     let said = lent::is_clause(words, &mut room_for(words));
     accepted(said.verdict).map(|_| said.amount == 1)
@@ -219,7 +214,6 @@ pub fn is_clause(words: &[u32]) -> Result<bool, Refusal> {
 /// assert_eq!(houayletan::is_valuation(&[3, 0, 0, 3, 1, 1, 1, 1, 0, 0, 0, 2]), Ok(false));
 /// assert_eq!(houayletan::is_valuation(&[2, 0, 0, 2, 1, 1, 1, 1, 0, 0, 0, 2]), Ok(true));
 /// ```
-#[cfg(has = "is_valuation")]
 pub fn is_valuation(words: &[u32]) -> Result<bool, Refusal> {
     let said = lent::is_valuation(words, &mut room_for(words));
     accepted(said.verdict).map(|_| said.amount == 1)
@@ -232,7 +226,6 @@ pub fn is_valuation(words: &[u32]) -> Result<bool, Refusal> {
 /// assert_eq!(houayletan::size_per_variable(&words)?, [1, 0, 2]);
 /// # Ok::<(), houayletan::Refusal>(())
 /// ```
-#[cfg(has = "size_per_variable")]
 pub fn size_per_variable(words: &[u32]) -> Result<Vec<u32>, Refusal> {
     let mut output = vec![0; MOST_VARS];
     let accepted = accepted(lent::size_per_variable(words, &mut room_for(words), &mut output))?;
@@ -247,7 +240,6 @@ pub fn size_per_variable(words: &[u32]) -> Result<Vec<u32>, Refusal> {
 /// assert_eq!(houayletan::not(&[1, 0, 0])?, [1, 0, 0, 1, 1, 1]);
 /// # Ok::<(), houayletan::Refusal>(())
 /// ```
-#[cfg(has = "not")]
 pub fn not(words: &[u32]) -> Result<Vec<u32>, Refusal> {
     diagram(words, |room, output| lent::not(words, room, output))
 }
@@ -261,7 +253,6 @@ pub fn not(words: &[u32]) -> Result<Vec<u32>, Refusal> {
 /// assert_eq!((refusal.number, refusal.place), (13, 1));
 /// # Ok::<(), houayletan::Refusal>(())
 /// ```
-#[cfg(has = "underapproximate")]
 pub fn underapproximate(words: &[u32], list: &[u32]) -> Result<Vec<u32>, Refusal> {
     diagram(words, |room, output| lent::underapproximate(words, list, room, output))
 }
@@ -273,12 +264,10 @@ pub fn underapproximate(words: &[u32], list: &[u32]) -> Result<Vec<u32>, Refusal
 /// assert_eq!(houayletan::overapproximate(&words, &[3])?, [3, 0, 0, 3, 1, 1, 2, 0, 1, 0, 2, 1]);
 /// # Ok::<(), houayletan::Refusal>(())
 /// ```
-#[cfg(has = "overapproximate")]
 pub fn overapproximate(words: &[u32], list: &[u32]) -> Result<Vec<u32>, Refusal> {
     diagram(words, |room, output| lent::overapproximate(words, list, room, output))
 }
 
-#[cfg(any(has = "underapproximate_to_size", has = "underapproximate_to_cardinality"))]
 fn cut(words: &[u32], write: impl FnOnce(&mut [u32], &mut [u32]) -> lent::Approximation) -> Result<Cut, Refusal> {
     let mut trials = 0;
     let words = diagram(words, |room, output| {
@@ -298,7 +287,6 @@ fn cut(words: &[u32], write: impl FnOnce(&mut [u32], &mut [u32]) -> lent::Approx
 /// assert_eq!((cut.words, cut.trials), (vec![3, 0, 0, 3, 1, 1, 2, 0, 1, 0, 2, 0], 2));
 /// # Ok::<(), houayletan::Refusal>(())
 /// ```
-#[cfg(has = "underapproximate_to_size")]
 pub fn underapproximate_to_size(words: &[u32], target: u32) -> Result<Cut, Refusal> {
     cut(words, |room, output| lent::underapproximate_to_size(words, target, room, output))
 }
@@ -312,7 +300,6 @@ pub fn underapproximate_to_size(words: &[u32], target: u32) -> Result<Cut, Refus
 /// assert_eq!((cut.words, cut.trials), (vec![3, 0, 0, 3, 1, 1, 2, 0, 1, 0, 2, 1], 2));
 /// # Ok::<(), houayletan::Refusal>(())
 /// ```
-#[cfg(has = "overapproximate_to_size")]
 pub fn overapproximate_to_size(words: &[u32], target: u32) -> Result<Cut, Refusal> {
     cut(words, |room, output| lent::overapproximate_to_size(words, target, room, output))
 }
@@ -326,7 +313,6 @@ pub fn overapproximate_to_size(words: &[u32], target: u32) -> Result<Cut, Refusa
 /// assert_eq!((cut.words, cut.trials), (vec![3, 0, 0, 3, 1, 1, 2, 0, 1, 0, 2, 0], 1));
 /// # Ok::<(), houayletan::Refusal>(())
 /// ```
-#[cfg(has = "underapproximate_to_cardinality")]
 pub fn underapproximate_to_cardinality(words: &[u32], target: Count) -> Result<Cut, Refusal> {
     cut(words, |room, output| lent::underapproximate_to_cardinality(words, target, room, output))
 }
@@ -341,7 +327,6 @@ pub fn underapproximate_to_cardinality(words: &[u32], target: Count) -> Result<C
 /// assert_eq!(houayletan::overapproximate_to_cardinality(&words, 9u32.into()).unwrap_err().number, 16);
 /// # Ok::<(), houayletan::Refusal>(())
 /// ```
-#[cfg(has = "overapproximate_to_cardinality")]
 pub fn overapproximate_to_cardinality(words: &[u32], target: Count) -> Result<Cut, Refusal> {
     cut(words, |room, output| lent::overapproximate_to_cardinality(words, target, room, output))
 }
