@@ -17,7 +17,8 @@ use Rattle.diagram.specs.Diagram.{size, vars}
 use Rattle.diagram.specs.Verdict.{most}
 use Rattle.diagram.specs.Valuations.{countOf, weightOf}
 use Rattle.diagram.proofs.Tests.{by-test}
-use Rattle.weights.specs.Passes.{num, weightsFrom}
+use Rattle.counts.specs.Table.{num}
+use Rattle.weights.specs.Passes.{weightsFrom}
 use Rattle.approximation.specs.Cut.{cut, listed}
 use Rattle.approximation.specs.Search.{answer, order, cutFirst, covering, reached, countSearch, underToCount}
 use Rattle.approximation.proofs.Cut.{cut-same}
