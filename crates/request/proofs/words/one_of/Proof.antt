@@ -1,27 +1,18 @@
 use mathlib.Core.Bool.{Bool, _||_}
 use mathlib.Core.Path.{_∙_, ap₂}
-use native.Mathlib.Omega.{arith}
 use borrow.Author.Needs.{needs}
 use Rattle.request.proofs.words.one_of.Statement.{statement}
 use Rattle.request.proofs.words.one_of.Tie as tie
-use Rattle.request.proofs.words.one_of.Reads as reads
-use Rattle.request.proofs.words.one_of.Lts as lts
-use Rattle.request.proofs.words.either.Reads as either-reads
-use Rattle.request.proofs.words.same.Reads as same-reads
 
--- src/words.rt:43:9
 same-requires : tie.Need-same-requires
 same-requires c κs = search needs
 
--- src/words.rt:44:9
 same-requires-2 : tie.Need-same-requires-2
 same-requires-2 c κs = search needs
 
--- src/words.rt:45:5
 either-requires : tie.Need-either-requires
 either-requires c κs = search needs
 
--- src/words.rt:40:1
 returns : tie.Need-returns
 returns c = c .either .ensures ∙ ap₂ (λ (x : Bool) (y : Bool). x || y) (c .before .before .same .ensures) (c .before .same2 .ensures)
 

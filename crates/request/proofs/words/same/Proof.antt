@@ -7,8 +7,6 @@ use borrow.Author.Needs.{needs}
 use native.Mathlib.Omega.{arith}
 use Rattle.request.proofs.words.same.Statement.{statement}
 use Rattle.request.proofs.words.same.Tie as tie
-use Rattle.request.proofs.words.same.Reads as reads
-use Rattle.request.proofs.words.same.Lts as lts
 
 abbrev Inv-loop : tie.InvT-loop
 Inv-loop a b i₀ i = (i ≤ length a) × (alike (drop i a) (drop i b) ≡ alike a b)
@@ -16,39 +14,30 @@ Inv-loop a b i₀ i = (i ≤ length a) × (alike (drop i a) (drop i b) ≡ alike
 abbrev μ-loop : tie.MeasureT-loop
 μ-loop a b i₀ i = length a - i
 
--- src/words.rt:10:9
 returns : tie.Need-returns Inv-loop μ-loop
 returns c = unlike-lengths (c .before .args .a .now) (c .before .args .b .now) (c .if1 .taken)
 
--- src/words.rt:13:5
 loop-holds : tie.Need-loop-holds Inv-loop μ-loop
 loop-holds c = (omega arith, refl)
 
--- src/words.rt:14:12
 shared-slice-read-if2 : tie.Need-shared-slice-read-if2 Inv-loop μ-loop
 shared-slice-read-if2 c = search needs
 
--- src/words.rt:14:20
 shared-slice-read-if2-2 : tie.Need-shared-slice-read-if2-2 Inv-loop μ-loop
 shared-slice-read-if2-2 c = search needs
 
--- src/words.rt:15:13
 returns-2 : tie.Need-returns-2 Inv-loop μ-loop
 returns-2 c = sym (unlike-here (c .before .before .before .before .before .before .args .a .now) (c .before .before .before .before .before .before .args .b .now) (c .before .before .before .before .loop .i) (c .before .before .before .loop-test .taken) (omega (arith, c .before .before .before .before .before .if1 .left, c .before .before .before .loop-test .taken)) (c .if2 .taken)) ∙ c .before .before .before .before .loop .inv .1
 
--- src/words.rt:17:9
 add-i : tie.Need-add-i Inv-loop μ-loop
 add-i c = search needs
 
--- src/words.rt:13:5
 loop-less : tie.Need-loop-less Inv-loop μ-loop
 loop-less c = search needs
 
--- src/words.rt:13:5
 loop-again : tie.Need-loop-again Inv-loop μ-loop
 loop-again c = (omega (arith, c .before .before .before .loop-test .taken), alike-next (c .before .before .before .before .before .before .args .a .now) (c .before .before .before .before .before .before .args .b .now) (c .before .before .before .before .loop .i) (c .before .before .before .loop-test .taken) (omega (arith, c .before .before .before .before .before .if1 .left, c .before .before .before .loop-test .taken)) (c .if2 .left) ∙ c .before .before .before .before .loop .inv .1)
 
--- src/words.rt:6:1
 returns-3 : tie.Need-returns-3 Inv-loop μ-loop
 returns-3 c = sym (alike-ends (c .before .before .before .args .a .now) (c .before .before .before .args .b .now) (c .before .loop .i) (omega (arith, c .loop-test .left)) (omega (arith, c .before .before .if1 .left, c .loop-test .left))) ∙ c .before .loop .inv .1
 

@@ -1,35 +1,23 @@
 use Rattle.writing.proofs.Laws.{wrote-then}
-use native.Mathlib.Omega.{arith}
 use borrow.Author.Needs.{needs}
 use Rattle.shrinking.proofs.summary.write_middle.Statement.{statement}
 use Rattle.shrinking.proofs.summary.write_middle.Tie as tie
-use Rattle.shrinking.proofs.summary.write_middle.Reads as reads
-use Rattle.shrinking.proofs.summary.write_middle.Lts as lts
-use Rattle.shrinking.proofs.summary.count_of.Reads as count-of-reads
-use Rattle.shrinking.proofs.summary.write_change.Reads as write-change-reads
-use Rattle.shrinking.proofs.summary.write_counts.Reads as write-counts-reads
 
--- src/summary.rt:66:9
 count-of-requires : tie.Need-count-of-requires
 count-of-requires c κs = (c .before .before .before .pre .0, c .before .before .before .pre .1)
 
--- src/summary.rt:67:9
 count-of-requires-2 : tie.Need-count-of-requires-2
 count-of-requires-2 c κs = (c .before .before .before .before .pre .2, c .before .before .before .before .pre .3)
 
--- src/summary.rt:68:9
 write-counts-requires : tie.Need-write-counts-requires
 write-counts-requires c κs = search needs
 
--- src/summary.rt:69:5
 write-change-requires : tie.Need-write-change-requires
 write-change-requires c κs = search needs
 
--- src/summary.rt:62:1
 same-length : tie.Need-same-length
 same-length c = search needs
 
--- src/summary.rt:62:1
 returns : tie.Need-returns
 returns c = wrote-then (rw (c .before .before .before .before .before .before .before .before .before .count-of .ensures, c .before .before .before .before .before .before .before .before .count-of2 .ensures) at (c .before .before .before .before .before .before .write-counts .ensures)) (rw (c .before .before .before .before .before .before .before .before .before .count-of .ensures, c .before .before .before .before .before .before .before .before .count-of2 .ensures) at (c .before .before .write-change .ensures))
 
