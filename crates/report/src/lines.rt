@@ -15,15 +15,15 @@ ghost use Rattle.writing.specs.Writing.{Wrote};
 ghost use Rattle.text.specs.Digits.{decimal, hexadecimal};
 ghost use Rattle.report.specs.Report.{weightIn, refusal, line, lines, head};
 
-// A word and a number after it.
-fn write_number(out: &mut [u8], at: usize, label: &[u8], x: u64) -> usize
+// A label and a number after it.
+pub fn write_number(out: &mut [u8], at: usize, label: &[u8], x: u64) -> usize
     ensures { λ r. ⌜ Wrote (now (label .entry) ++ decimal x) (now (out .entry)) at (now (out .exit)) r ⌝ }
 {
     let next = write(out, at, label);
     write_decimal(out, next, x)
 }
 
-fn write_count(out: &mut [u8], at: usize, label: &[u8], a: Natural) -> usize
+pub fn write_count(out: &mut [u8], at: usize, label: &[u8], a: Natural) -> usize
     ensures { λ r. ⌜ Wrote (now (label .entry) ++ hexadecimal (value (a .words))) (now (out .entry)) at (now (out .exit)) r ⌝ }
 {
     let next = write(out, at, label);

@@ -1,0 +1,5 @@
+-- Laws that belong to no one function.
+--     Alike   words compared byte by byte
+--     Asking  a request from its parts
+pub mod Alike
+pub mod Asking

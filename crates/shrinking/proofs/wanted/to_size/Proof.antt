@@ -1,0 +1,43 @@
+use Rattle.shrinking.specs.Shrinking.{toSize}
+use borrow.Author.Needs.{needs}
+use Rattle.shrinking.proofs.wanted.to_size.Statement.{statement}
+use Rattle.shrinking.proofs.wanted.to_size.Tie as tie
+
+overapproximate-to-size-requires : tie.Need-overapproximate-to-size-requires
+overapproximate-to-size-requires c κs = search needs
+
+same-length : tie.Need-same-length
+same-length c = search needs
+
+same-length-2 : tie.Need-same-length-2
+same-length-2 c = search needs
+
+returns : tie.Need-returns
+unfolding toSize
+returns c = rw (c .before .before .before .before .before .before .before .if1 .taken) (c .before .before .before .before .overapproximate-to-size .ensures)
+
+underapproximate-to-size-requires : tie.Need-underapproximate-to-size-requires
+underapproximate-to-size-requires c κs = search needs
+
+same-length-3 : tie.Need-same-length-3
+same-length-3 c = search needs
+
+same-length-4 : tie.Need-same-length-4
+same-length-4 c = search needs
+
+returns-2 : tie.Need-returns-2
+unfolding toSize
+returns-2 c = rw (c .before .before .before .before .before .before .before .if1 .left) (c .before .before .before .before .underapproximate-to-size .ensures)
+
+pub to-size-spec : {M : Type 1} → statement M
+to-size-spec =
+    tie.close
+    (tie.spec
+    overapproximate-to-size-requires
+    same-length
+    same-length-2
+    returns
+    underapproximate-to-size-requires
+    same-length-3
+    same-length-4
+    returns-2)
