@@ -1,8 +1,8 @@
 use lib.Seq.{length-take-le}
 use mathlib.Core.Path.{sym}
 use borrow.Author.Needs.{needs}
-use Rattle.shrink.proofs.show.Statement.{statement}
-use Rattle.shrink.proofs.show.Tie as tie
+use Rattle.shrink_program.proofs.show.Statement.{statement}
+use Rattle.shrink_program.proofs.show.Tie as tie
 
 slice-aggregate-write-all : tie.Need-slice-aggregate-write-all
 slice-aggregate-write-all c = sym (length-take-le (c .before .before .before .args .end) (c .before .before .before .args .bytes .now) (c .before .if1 .taken))
