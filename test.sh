@@ -1,7 +1,7 @@
 #!/usr/bin/env bash
 # All tests: the layout of every file; every crate proved from nothing, every must-fail edit refused, every test program
-# run and its output compared (rt ci); then, over the same proofs, the archive for C and Rust, the C test, the replay of
-# stored requests and the Rust crate's tests. Each of these counts as one beside what rt ci counts.
+# run and its output compared (rt ci); then, over the same proofs, the programs on stored inputs, the archive for C and
+# Rust, the C test, the replay of stored requests and the Rust crate's tests. Each of these counts as one beside what rt ci counts.
 # The last line is 'N passed, M failed'; the exit status is 0 only where M is 0.
 # A missing C compiler or cargo is said; what needs it is not run and not counted, and does not fail the others.
 set -u
@@ -72,6 +72,7 @@ make_archive() {
 
 step "layout" rt fmt --check
 if gate; then
+    step "programs" bash tests/programs.sh target/bin
     step "archive for C and Rust" make_archive
     if [ ! -f "$archive" ]; then
         leave_out "the C test, the replay and the Rust tests: there is no archive"
@@ -89,7 +90,7 @@ if gate; then
         fi
     fi
 else
-    leave_out "the archive, the C test, the replay and the Rust tests: rt ci failed"
+    leave_out "the programs, the archive, the C test, the replay and the Rust tests: rt ci failed"
 fi
 
 [ -z "$left_out" ] || echo "${left_out#?}"

@@ -411,4 +411,5 @@ def main():
     print(f'{len(made)} requests, {len(asked)} of them answered: {letters}; {len(stdin)} and {len(stdout)} bytes')
 
 
-main()
+if __name__ == '__main__':
+    main()

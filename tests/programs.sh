@@ -1,0 +1,23 @@
+#!/usr/bin/env bash
+# Runs the built programs weigh and shrink on the cases of tests/programs (made by tests/program_cases.py) and compares
+# standard output and standard error, byte by byte. Argument: the folder of the programs.
+set -u
+programs=$(cd "${1:-target/bin}" && pwd) || exit 2
+cd "$(dirname "$0")/programs" || exit 2
+made=$(mktemp -d) || exit 2
+passed=0 failed=0
+for call in *.call; do
+    name=${call%.call}
+    read -r program words < "$call"
+    # shellcheck disable=SC2086
+    "$programs/$program" $words < "$name.in" > "$made/out" 2> "$made/err"
+    if cmp -s "$made/out" "$name.out" && cmp -s "$made/err" "$name.err"; then
+        passed=$((passed + 1))
+    else
+        failed=$((failed + 1))
+        echo "programs: $name: $(cat "$call"): not what tests/programs has"
+    fi
+done
+rm -rf "$made"
+echo "programs: $passed passed, $failed failed"
+[ "$failed" -eq 0 ] && [ "$passed" -gt 0 ]
