@@ -1,7 +1,7 @@
 -- The answers to a count target that take no search, and what a search begins with.
 use Prim.Native.Nat.{ℕ, _+_, _*_, _≤_, _<_, max}
 use mathlib.Core.Path.{_≡_, refl, sym, ap, _∙_}
-use mathlib.Core.Bool.{cond}
+use mathlib.Core.Bool.{false, cond}
 use mathlib.Core.List.{List}
 use native.Mathlib.Omega.{arith}
 use lib.ListN.{length, getD, take, drop, replicate, length-drop, length-replicate, getD-replicate}
@@ -18,11 +18,16 @@ use Rattle.approximation.proofs.Listing.{under-accepted-open}
 use Rattle.approximation.proofs.Targets.{to-count-none, to-count-same, search-many}
 use Rattle.cuts.specs.Marks.{constantAt}
 use Rattle.cuts.proofs.Answering.{drop-more}
-use Rattle.trials.specs.Trials.{Preparing, Prepared, Found}
+use Rattle.levels.specs.Chains.{chainCount, Given}
+use Rattle.cuts.specs.Marks.{markedIn}
+use Rattle.recounts.specs.Kept.{linksFrom, countsTo, Beginning, Begun}
+use Rattle.recounts.proofs.Counting.{begun-marks, begun-stale}
+use Rattle.trials.specs.Trials.{Ready, Preparing, Prepared, Found}
 use Rattle.trials.specs.First.{Unmarkable, Unmarked}
 use Rattle.trials.specs.Answers.{Keeping, Kept}
 use Rattle.trials.proofs.Readying.{ready-marks}
 use Rattle.size_search.proofs.Early.{searching-few, searching-keeps, falsely}
+use Rattle.count_search.proofs.Walks.{ready-same}
 use Rattle.count_search.specs.Rounds.{Countable, Taken, Seeking, Aiming, Above}
 
 -- A part of a room that is zero.
@@ -125,53 +130,78 @@ module _ {w r : List ℕ} {k count n v : ℕ} (a : Above w r k count n v) where
       is : n ≡ size w
       is = a .aiming .searching .is-size
 
+      given : Given w n
+      given = let many = above-many in record { ordered = ordered (a .aiming); nodes = is; two = omega arith }
+
       back : (j : ℕ) → 17 * size w ≤ j → drop j t ≡ drop j r
       back j h = let e = is in drop-more (2 * n) j t s (omega arith) (u .beyond) ∙ drop-more (17 * size w) j s r h (p .beyond)
 
-      nothing-taken : Taken w t t 0
-      unfolding listed
-      nothing-taken = record {
-        few = omega arith;
-        kept = refl;
-        ready = ready-marks (p .ready) (u .kept) (rw (sym is) (u .before)) (rw (sym is) (u .beyond));
-        marks = λ q h. rw (sym is) (u .none q (let e = is in omega arith));
-        beyond = refl;
-      }
-
-      pub above-seeking : {sent : List ℕ} → 3 * maxNodes ≤ length sent → Seeking w sent t k count n v
-      above-seeking long-sent =
-          let few = ordered (a .aiming) .formed .few in
-          let whole = ordered (a .aiming) .formed .whole in
-          let e = is in
-          let is-most = above-most in
+      pub above-begins : {heads : List ℕ} → heads ≡ replicate chainCount 0 → Beginning w heads t n v
+      above-begins e =
           let long = a .aiming .searching .long in
-          let zero = a .aiming .searching .zero in
-          let kept = p .kept in
-          let same = u .kept in
-          record {
-            ordered = ordered (a .aiming);
-            is-size = e;
-            is-vars = a .aiming .searching .is-vars;
-            many = above-many;
-            copy = omega arith;
-            long = omega arith;
-            zero = ap (λ (l : List ℕ). take (9 * n) l) (back (17 * n) (omega arith)) ∙ zeros-part r (17 * n) (9 * n) (omega arith) (λ j h. zero j (omega arith));
-            taken = nothing-taken;
-            low = a .low;
-            high = a .high;
-            is-count = a .is-count;
-          }
-
-      pub above-found : {b : Answer} {after : List ℕ} {j trials : ℕ} → Found w b t after j trials → Found w b r after j trials
-      above-found f =
           let is-most = above-most in
-          let e = is in
-          record {
-            trials = f .trials;
-            count = f .count;
-            words = f .words;
-            fits = f .fits;
-            kept = f .kept ∙ u .kept ∙ p .kept;
-            made = f .made;
-            beyond = f .beyond ∙ back (26 * most w) (omega arith);
-          }
+          let same = u .kept in
+          let kept = p .kept in
+          record { given = given; is-vars = a .aiming .searching .is-vars; empty = e; long = omega arith }
+
+      module _ {heads : List ℕ} {b : List ℕ} (x : Begun w heads t b) where
+        begun-long : countsTo (size w) ≤ length t
+        begun-long = rw is at (above-begins refl .long)
+
+        nothing-marked : (q : ℕ) → q < size w → markedIn (size w) t q ≡ false
+        nothing-marked q h = rw (sym is) (u .none q (let e = is in omega arith))
+
+        unmarked-ready : Ready w t
+        unmarked-ready = ready-marks (p .ready) (u .kept) (rw (sym is) (u .before)) (rw (sym is) (u .beyond))
+
+        begun-ready : Ready w b
+        begun-ready =
+            ready-same (linksFrom (size w)) begun-long (omega arith) (x .kept) (x .before) unmarked-ready
+
+        nothing-taken : (sent : List ℕ) → Taken w heads b sent b 0
+        unfolding listed
+        nothing-taken sent =
+            let stale = begun-stale (rw is at given) x nothing-marked sent in
+            record {
+              few = omega arith;
+              kept = refl;
+              ready = begun-ready;
+              marks = λ q h. begun-marks x q h ∙ nothing-marked q h;
+              beyond = refl;
+              stale = stale;
+            }
+
+        pub above-seeking : {sent : List ℕ} → 3 * maxNodes ≤ length sent → Seeking w heads sent b k count n v
+        above-seeking {sent} long-sent =
+            let few = ordered (a .aiming) .formed .few in
+            let whole = ordered (a .aiming) .formed .whole in
+            let e = is in
+            let long = begun-long in
+            let kept = x .kept in
+            record {
+              ordered = ordered (a .aiming);
+              is-size = e;
+              is-vars = a .aiming .searching .is-vars;
+              many = above-many;
+              copy = omega arith;
+              long = omega arith;
+              taken = nothing-taken sent;
+              low = a .low;
+              high = a .high;
+              is-count = a .is-count;
+            }
+
+        pub above-found : {d : Answer} {after : List ℕ} {j trials : ℕ} → Found w d b after j trials → Found w d r after j trials
+        above-found f =
+            let is-most = above-most in
+            let e = is in
+            let same-most : 26 * most w ≡ countsTo (size w) = omega arith in
+            record {
+              trials = f .trials;
+              count = f .count;
+              words = f .words;
+              fits = f .fits;
+              kept = f .kept ∙ x .kept ∙ u .kept ∙ p .kept;
+              made = f .made;
+              beyond = f .beyond ∙ rw same-most (x .beyond) ∙ back (26 * most w) (omega arith);
+            }

@@ -3,14 +3,18 @@
 use Prim.Native.Nat.{ℕ, _+_, _-_, _*_, _≤_, _<_}
 use mathlib.Core.Path.{_≡_}
 use mathlib.Core.List.{List}
-use lib.ListN.{length, getD, take, drop, replicate}
+use lib.ListN.{length, getD, set, take, drop, replicate}
+use Rattle.naturals.specs.Natural.{Holds}
 use Rattle.diagram.specs.Limits.{maxNodes}
 use Rattle.diagram.specs.Diagram.{size, vars, Ordered}
 use Rattle.diagram.specs.Verdict.{accepted}
 use Rattle.diagram.specs.Valuations.{countOf}
+use Rattle.counts.specs.Table.{num, Noted}
+use Rattle.weights.specs.Passes.{weightsFrom}
 use Rattle.approximation.specs.Cut.{listed, underCountOf}
 use Rattle.approximation.specs.Search.{order}
 use Rattle.cuts.specs.Marks.{markedIn}
+use Rattle.recounts.specs.Kept.{countsFrom, countsTo, Stale}
 use Rattle.trials.specs.Trials.{Ready, Searching}
 
 -- An ordered array can be counted at a place of the room.
@@ -21,37 +25,36 @@ pub record Countable (w r : List ℕ) (at n : ℕ) : Type 0 where
   pub long : at + 9 * n ≤ length r
   pub zero : take (9 * n) (drop at r) ≡ replicate (9 * n) 0
 
-pub record Recounting (w sent r : List ℕ) (n : ℕ) : Type 0 where
-  pub ordered : Ordered w
-  pub is-size : n ≡ size w
-  pub copy : length w ≤ length sent
-  pub long : 26 * n ≤ length r
-  pub zero : take (9 * n) (drop (17 * n) r) ≡ replicate (9 * n) 0
-
 -- A node stands at place i of the priorities.
 pub record Takeable (r : List ℕ) (n i : ℕ) : Type 0 where
   pub few : n ≤ maxNodes
   pub inside : getD r i 0 < n
-  pub long : 17 * n ≤ length r
+  pub long : countsTo n ≤ length r
 
--- The first c priorities are marked, and no other node; from the counting part on the room is as it was at the start.
-pub record Taken (w start r : List ℕ) (c : ℕ) : Type 0 where
+-- Node p is taken, and words are its weight.
+pub record Took (changed r changed′ after : List ℕ) (n p : ℕ) (words : List ℕ) : Type 0 where
+  pub flag : changed′ ≡ set changed p 1
+  pub noted : Noted (countsFrom n) (set r (n + p) 1) p 0 after
+  pub weight : Holds (num (weightsFrom n) after p) words
+
+-- The first c priorities are marked, and no other node; beyond the counts the room is as it was at the start.
+pub record Taken (w heads start changed r : List ℕ) (c : ℕ) : Type 0 where
   pub few : c ≤ size w - 2
   pub kept : length r ≡ length start
   pub ready : Ready w r
   pub marks : (q : ℕ) → q < size w → markedIn (size w) r q ≡ listed (take c (order w)) q
-  pub beyond : drop (17 * size w) r ≡ drop (17 * size w) start
+  pub beyond : drop (countsTo (size w)) r ≡ drop (countsTo (size w)) start
+  pub stale : Stale w heads changed r
 
 -- The search itself begins: nothing is taken.
-pub record Seeking (w sent r : List ℕ) (k count n v : ℕ) : Type 0 where
+pub record Seeking (w heads sent r : List ℕ) (k count n v : ℕ) : Type 0 where
   pub ordered : Ordered w
   pub is-size : n ≡ size w
   pub is-vars : v ≡ vars w
   pub many : 2 < n
   pub copy : length w ≤ length sent
-  pub long : 26 * n ≤ length r
-  pub zero : take (9 * n) (drop (17 * n) r) ≡ replicate (9 * n) 0
-  pub taken : Taken w r r 0
+  pub long : countsTo n ≤ length r
+  pub taken : Taken w heads r sent r 0
   pub low : 0 < k
   pub high : k < countOf w
   pub is-count : count ≡ countOf w

@@ -11,8 +11,10 @@ use cuts::cut::SENT;
 use cuts::cut::constant;
 use diagram::lengths::most;
 use diagram::node::BddPointer;
+use levels::CHAINS;
 use naturals::Natural;
 use naturals::is_zero;
+use recounts::begin;
 use rounds::search;
 use trials::answers::keep;
 use trials::first::unmark;
@@ -41,9 +43,11 @@ fn seek(
     ensures { λ r. ⌜ Found (now (words .entry)) (underToCount (now (words .entry)) (value (target .words))) (now (room .entry)) (now (room .exit)) (r .nodes) (r .trials) ⌝ }
 {
     let mut sent = [0u32; SENT];
+    let mut heads = [0u32; CHAINS];
     prepare(words, room, nodes, vars);
     unmark(room, nodes);
-    search(words, &mut sent, room, target, count, nodes, vars)
+    begin(words, &mut heads, room, nodes, vars);
+    search(words, &heads, &mut sent, room, target, count, nodes, vars)
 }
 
 pub fn under_count(

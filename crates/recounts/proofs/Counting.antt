@@ -1,0 +1,242 @@
+-- What a count begins with and gives, and the counts of a diagram of which nothing is taken.
+use Prim.Native.Nat.{ℕ, _+_, _-_, _*_, _^_, _≤_, _<_}
+use mathlib.Core.Path.{_≡_, refl, sym, ap, _∙_}
+use mathlib.Core.Logic.{_≢_}
+use mathlib.Core.Bool.{Bool, true, false, cond, _||_, or-false, true≢false}
+use mathlib.Core.List.{List, _++_}
+use native.Mathlib.Omega.{arith}
+use lib.Dec.{eqb}
+use borrow.Author.Tests.{eq-eqb, ne-eqb}
+use lib.ListN.{length, getD, set, take, drop, length-drop, List·getD-append}
+use lib.Seq.{drop-drop, drop-at, drop-append-le, take-append-le, length-take-le, getD-take, getD-drop, getD-set-other, drop-set-lt}
+use borrow.Rule.Slice.PartMut.{putMid, midOf, postOf, take-put, drop-put, same-len-mid, mid-len}
+use Rattle.naturals.specs.Natural.{value, limit, wordCount, Holds, Fitted}
+use Rattle.naturals.specs.declared.Fit.{Fit}
+use Rattle.naturals.proofs.Answer.{holds-as, fitted-below}
+use Rattle.diagram.specs.Diagram.{varOf, size, vars, root, Ordered}
+use Rattle.diagram.specs.Valuations.{countOf}
+use Rattle.diagram.proofs.Tests.{by-test, by-eq, or-right}
+use Rattle.diagram.proofs.Reading.{layered, at-end, root-in}
+use Rattle.levels.specs.Chains.{Last, Given, Known}
+use Rattle.counts.specs.Table.{entry, num, In, Noted}
+use Rattle.counts.specs.Worth.{worthOf, Worths}
+use Rattle.approximation.specs.Cut.{cut}
+use Rattle.approximation.proofs.Cut.{cut-same}
+use Rattle.cuts.specs.Marks.{markedIn}
+use Rattle.cuts.proofs.Marking.{set-marks}
+use Rattle.recounts.specs.Kept.{leftOf, linksFrom, countsFrom, countsTo, Untouched, Chained, Stale, Renewing, Renewed, Passing, Recounting, Recounted, Beginning, Begun}
+use Rattle.recounts.proofs.Left.{left-cond, left-end, left-none, left-total, left-total-fits}
+use Rattle.recounts.proofs.Passes.{marks-read, untouched-noted, untouched-marks}
+
+-- ---- a count
+
+module _ {w heads changed room : List ℕ} {n v : ℕ} (a : Recounting w heads changed room n v) where
+  abbrev o : Ordered w
+  o = a .given .ordered
+
+  pub recount-few : n ≤ 4096
+  recount-few = let few = o .formed .few in let e = a .given .nodes in omega arith
+
+  abbrev old : ℕ → Bool
+  old = a .stale .before
+
+  abbrev taken : ℕ → Bool
+  taken = markedIn (size w) room
+
+  never : (q : ℕ) → q < 2 → q < size w → old q ≡ false
+  never q t h = by-test (old q) (λ e. absurd (true≢false (sym (a .stale .less q h e) ∙ a .stale .ends q t))) (λ e. e)
+
+  -- at a terminal nothing changes
+  end-same : (q : ℕ) → q < 2 → q < size w → leftOf w taken q ≡ leftOf w old q
+  end-same q t h = left-end w o taken q t h (a .stale .ends q t) ∙ sym (left-end w o old q t h (never q t h))
+
+  pub recount-passes : Passing w heads changed room n v
+  recount-passes =
+      let e = a .given .nodes in
+      let long = a .long in
+      let flags = a .flags in
+      let ev = a .is-vars in
+      record {
+        given = a .given;
+        is-vars = ev;
+        head = a .stale .chained .head;
+        renewing = record {
+          long = omega arith;
+          flags = omega arith;
+          next = a .stale .chained .next;
+          before = old;
+          taken = taken;
+          marks = λ q h. refl;
+          less = a .stale .less;
+          done = λ q h k.
+              let t = at-end w (vars w) (size w) (layered w o) q h (let up = k .level in omega arith) in
+              let same = end-same q t h in
+              (holds-as (rw (a .stale .ends q t) (sym same)) (a .stale .left q h), λ x. same);
+          todo = λ q h k. (a .stale .left q h, a .stale .same q h);
+        };
+      }
+
+  module _ {changed′ after : List ℕ} (x : Renewed w room changed′ after 0 0) where
+    right : (q : ℕ) → q < size w → Holds (leftOf w (x .renewing .taken) q) (entry (countsFrom (size w)) after q)
+    right q h = x .renewing .done q h (record { level = omega arith; turn = λ e. omega arith }) .0
+
+    pub recount-root : In (countsFrom n) after (n - 1)
+    recount-root =
+        let e = a .given .nodes in
+        let two = a .given .two in
+        let long = x .renewing .long in
+        omega arith
+
+    recount-kept : {flags : List ℕ} → Stale w heads flags after
+    recount-kept = record {
+      chained = record { head = a .stale .chained .head; next = x .renewing .next };
+      before = x .renewing .taken;
+      ends = λ q t.
+          let e = a .given .nodes in
+          let two = a .given .two in
+          untouched-marks (x .untouched) q (omega arith) ∙ a .stale .ends q t;
+      less = λ q h e. x .renewing .marks q h ∙ e;
+      left = λ q h. holds-as (sym (ap (λ (b : Bool). cond b 0 (leftOf w (x .renewing .taken) q)) (x .renewing .marks q h) ∙ left-cond w (x .renewing .taken) q)) (right q h);
+      same = λ q h f. x .renewing .marks q h;
+    }
+
+    same-cut : countOf (cut w (x .renewing .taken) 0) ≡ countOf (cut w (markedIn n room) 0)
+    same-cut =
+        ap (λ (l : List ℕ). countOf l)
+        (cut-same w o (x .renewing .taken) (markedIn (size w) room) 0 (λ q h. sym (x .renewing .marks q h) ∙ untouched-marks (x .untouched) q h))
+        ∙ ap (λ (i : ℕ). countOf (cut w (markedIn i room) 0)) (sym (a .given .nodes))
+
+    pub recount-done : {below : List ℕ} → Holds (num (countsFrom n) after (n - 1)) below → (above : ℕ) → above ≡ varOf w (n - 1)
+        → {f : Fit} → Fitted (value below * 2 ^ above) f → {flags : List ℕ} → Recounted w heads room flags after n (f .natural .words)
+    recount-done {below} h above ea {f} fit {flags} =
+        let m = x .renewing .taken in
+        let root-is : n - 1 ≡ root w = ap (λ (k : ℕ). k - 1) (a .given .nodes) in
+        let noted : num (countsFrom n) after (n - 1) ≡ leftOf w m (root w) =
+        ap (λ (k : ℕ). num (countsFrom k) after (k - 1)) (a .given .nodes) ∙ right (root w) (root-in w o) .worth in
+        let e : value below * 2 ^ above ≡ leftOf w m (root w) * 2 ^ varOf w (root w) = rw (h .worth, noted, ea, root-is) refl in
+        record {
+          count = holds-as (left-total w o m ∙ same-cut) (fitted-below (rw e at fit) (left-total-fits w o m) .1);
+          stale = recount-kept;
+          untouched = rw (a .given .nodes) (x .untouched);
+        }
+
+-- ---- the beginning
+
+-- A part of the room that was lent, read in the whole.
+module _ (at e : ℕ) (r part : List ℕ) (order : at ≤ e) (inside : e ≤ length r) (same : length part ≡ length (midOf at (e - at) r)) where
+  abbrev whole : List ℕ
+  whole = putMid at (e - at) r part
+
+  from-part : drop at whole ≡ part ++ postOf at (e - at) r
+  from-part = drop-at (take at r) (part ++ postOf at (e - at) r) at (length-take-le at r (omega arith))
+
+  pub part-words : (i k : ℕ) → i + k ≤ length part → take k (drop (at + i) whole) ≡ take k (drop i part)
+  part-words i k fits =
+      let rest = length-drop i part in
+      ap (λ (l : List ℕ). take k l) (sym (drop-drop i at whole))
+      ∙ ap (λ (l : List ℕ). take k (drop i l)) from-part
+      ∙ ap (λ (l : List ℕ). take k l) (drop-append-le i part (postOf at (e - at) r) (omega arith))
+      ∙ take-append-le k (drop i part) (postOf at (e - at) r) (omega arith)
+
+  pub part-word : (i : ℕ) → i < length part → getD whole (at + i) 0 ≡ getD part i 0
+  part-word i h =
+      sym (getD-drop at whole i 0)
+      ∙ ap (λ (l : List ℕ). getD l i 0) from-part
+      ∙ List·getD-append part (postOf at (e - at) r) 0 i h
+
+module _ {w heads room : List ℕ} {n v : ℕ} (a : Beginning w heads room n v) where
+  pub begin-few : n ≤ 4096
+  begin-few = let few = a .given .ordered .formed .few in let e = a .given .nodes in omega arith
+
+  pub begin-long : n + wordCount * n ≤ length (midOf (linksFrom n) (countsTo n - linksFrom n) room)
+  begin-long = let e = mid-len (linksFrom n) (countsTo n) room (a .long) in omega arith
+
+  module _ {heads′ part : List ℕ} (same : length part ≡ length (midOf (linksFrom n) (countsTo n - linksFrom n) room))
+      (made : ((c : ℕ) → c < vars w → Last w c n (getD heads′ c 0)) × Worths true w part 0 0) where
+    pub begun : Begun w heads′ room (putMid (linksFrom n) (countsTo n - linksFrom n) room part)
+    begun =
+        let e = a .given .nodes in
+        let long = a .long in
+        let part-long = same ∙ mid-len (linksFrom n) (countsTo n) room long in
+        let from = linksFrom n in
+        let to = countsTo n in
+        let after = putMid from (to - from) room part in
+        record {
+          kept = same-len-mid from (to - from) room part same;
+          before = λ k h.
+              sym (getD-take from after k 0 (omega arith)) ∙ ap (λ (l : List ℕ). getD l k 0) (take-put from (to - from) room part (omega arith))
+              ∙ getD-take from room k 0 (omega arith);
+          beyond = ap (λ (i : ℕ). drop (countsTo i) after) (sym e) ∙ drop-put from to room part (omega arith) long part-long ∙ ap (λ (i : ℕ). drop (countsTo i) room) e;
+          chained = record {
+            head = λ c h. rw e at (made .0 c h);
+            next = λ p two h.
+                rw (ap (λ (i : ℕ). getD after (linksFrom i + p) 0) (sym e), part-word from to room part (omega arith) long same p (omega arith))
+                (made .1 .next p two h);
+          };
+          left = λ q h.
+              let place : countsFrom (size w) + wordCount * q ≡ from + (size w + wordCount * q) = omega arith in
+              let is : entry (countsFrom (size w)) after q ≡ entry (size w) part q =
+              ap (λ (i : ℕ). take wordCount (drop i after)) place ∙ part-words from to room part (omega arith) long same (size w + wordCount * q) wordCount (omega arith) in
+              rw is (made .1 .right q h (record { level = omega arith; turn = λ x. omega arith }));
+        }
+
+pub begun-marks : {w heads room after : List ℕ} → Begun w heads room after → (q : ℕ) → q < size w → markedIn (size w) after q ≡ markedIn (size w) room q
+begun-marks {w} {heads} {room} {after} b q h = marks-read (size w) room after q (b .before (size w + q) (omega arith))
+
+-- Nothing is taken, whatever is said to have changed.
+pub begun-stale : {w heads room after : List ℕ} → Given w (size w) → Begun w heads room after
+    → ((q : ℕ) → q < size w → markedIn (size w) room q ≡ false) → (changed : List ℕ) → Stale w heads changed after
+begun-stale {w} {heads} {room} {after} given b free changed = record {
+  chained = b .chained;
+  before = λ q. false;
+  ends = λ q t. let two = given .two in marks q (omega arith);
+  less = λ q h e. absurd (true≢false (sym e));
+  left = λ q h. rw (marks q h) (holds-as (sym (left-none w q)) (b .left q h));
+  same = λ q h f. marks q h;
+}
+  where
+    marks : (q : ℕ) → q < size w → markedIn (size w) after q ≡ false
+    marks q h = begun-marks b q h ∙ free q h
+
+-- ---- one more node is taken
+
+module _ {w heads changed room : List ℕ} (x : Stale w heads changed room) {p : ℕ} (two : 2 ≤ p) (inside : p < size w)
+    (long : countsTo (size w) ≤ length room) (flags : size w ≤ length changed)
+    {changed′ after : List ℕ} (flag : changed′ ≡ set changed p 1) (k : Noted (countsFrom (size w)) (set room (size w + p) 1) p 0 after) where
+  marked : List ℕ
+  marked = set room (size w + p) 1
+
+  taken-marks : (q : ℕ) → q < size w → markedIn (size w) after q ≡ (markedIn (size w) room q || eqb q p)
+  taken-marks q h = untouched-marks (untouched-noted inside k) q h ∙ set-marks (size w) room p q (omega arith)
+
+  taken-flags : (q : ℕ) → markedIn 0 changed′ q ≡ (markedIn 0 changed q || eqb q p)
+  taken-flags q =
+      let z : p ≡ 0 + p = omega arith in
+      ap (λ (l : List ℕ). markedIn 0 l q) (flag ∙ ap (λ (i : ℕ). set changed i 1) z) ∙ set-marks 0 changed p q (omega arith)
+
+  word-same : (j : ℕ) → j < countsFrom (size w) → j ≢ size w + p → getD after j 0 ≡ getD room j 0
+  word-same j h ne = k .before j h ∙ getD-set-other room (size w + p) j 1 0 ne
+
+  same-entry : (q : ℕ) → q ≢ p → entry (countsFrom (size w)) after q ≡ entry (countsFrom (size w)) room q
+  same-entry q ne =
+      k .other q ne
+      ∙ ap (λ (l : List ℕ). take wordCount l) (drop-set-lt (countsFrom (size w) + wordCount * q) room (size w + p) 1 (omega arith))
+
+  pub stale-taken : Stale w heads changed′ after
+  stale-taken = record {
+    chained = record {
+      head = x .chained .head;
+      next = λ q t h. rw (word-same (linksFrom (size w) + q) (omega arith) (λ e. omega arith)) (x .chained .next q t h);
+    };
+    before = x .before;
+    ends = λ q t. taken-marks q (omega arith) ∙ rw (x .ends q t, ne-eqb q p (λ e. omega arith)) refl;
+    less = λ q h e. taken-marks q h ∙ rw (x .less q h e) refl;
+    left = λ q h. by-eq q p
+        (λ e. rw (taken-marks q h, eq-eqb q p e) (rw (or-right (markedIn (size w) room q) true refl) (rw e (k .here))))
+        (λ ne. rw (taken-marks q h, ne-eqb q p ne, or-false (markedIn (size w) room q), same-entry q ne) (x .left q h));
+    same = λ q h f. by-eq q p
+        (λ e. absurd (true≢false (sym (taken-flags q ∙ rw (eq-eqb q p e) (or-right (markedIn 0 changed q) true refl)) ∙ f)))
+        (λ ne.
+        let unset : markedIn 0 changed q ≡ false = sym (taken-flags q ∙ rw (ne-eqb q p ne) (or-false (markedIn 0 changed q))) ∙ f in
+        taken-marks q h ∙ rw (ne-eqb q p ne) (or-false (markedIn (size w) room q)) ∙ x .same q h unset);
+  }

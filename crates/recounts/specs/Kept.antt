@@ -1,0 +1,133 @@
+-- What is left at each node when some are taken away, kept in the working room. No promise to a caller rests on this file. For a
+-- diagram of n nodes the room has the marks of those that are taken (crates/cuts), and
+--     [17n, 18n)    the chains' links
+--     [18n, 26n)    what is left at each node
+-- Other lent words, one for each node, are not zero where that has changed.
+use Prim.Native.Nat.{ℕ, suc, _+_, _*_, _≤_, _<_}
+use mathlib.Core.Path.{_≡_}
+use mathlib.Core.Logic.{_≢_}
+use mathlib.Core.Bool.{Bool, true, false, cond}
+use mathlib.Core.List.{List}
+use lib.ListN.{length, getD, drop, replicate}
+use Rattle.naturals.specs.Natural.{wordCount, limit, Holds}
+use Rattle.diagram.specs.Limits.{maxNodes}
+use Rattle.diagram.specs.Diagram.{varOf, size, vars}
+use Rattle.diagram.specs.Valuations.{countOf}
+use Rattle.levels.specs.Chains.{chainCount, Last, Given, Node, Known}
+use Rattle.counts.specs.Table.{entry, num, In, scaled}
+use Rattle.counts.specs.Worth.{worthOf}
+use Rattle.approximation.specs.Cut.{cut, send}
+use Rattle.cuts.specs.Marks.{markedIn}
+
+-- How many valuations of the variables from p's own on lead from p to node 1 past no node that is taken; none where p is.
+unfoldable pub leftOf : List ℕ → (ℕ → Bool) → ℕ → ℕ
+leftOf w taken p = cond (taken p) 0 (worthOf true (send taken 0 w) p)
+
+abbrev pub linksFrom : ℕ → ℕ
+linksFrom n = 17 * n
+
+abbrev pub countsFrom : ℕ → ℕ
+countsFrom n = 18 * n
+
+abbrev pub countsTo : ℕ → ℕ
+countsTo n = (18 + wordCount) * n
+
+-- Only what is left has changed in the room.
+pub record Untouched (n : ℕ) (room after : List ℕ) : Type 0 where
+  pub kept : length after ≡ length room
+  pub before : (k : ℕ) → k < countsFrom n → getD after k 0 ≡ getD room k 0
+  pub beyond : drop (countsTo n) after ≡ drop (countsTo n) room
+
+-- The chains of the variables stand in the room, with their heads beside.
+pub record Chained (w heads room : List ℕ) : Type 0 where
+  pub head : (c : ℕ) → c < vars w → Last w c (size w) (getD heads c 0)
+  pub next : (p : ℕ) → 2 ≤ p → p < size w → Last w (varOf w p) p (getD room (linksFrom (size w) + p) 0)
+
+-- Between two counts: what is left was worked out when fewer nodes were taken. Those that were taken since have nothing left, and
+-- are among those that have changed.
+pub record Stale (w heads changed room : List ℕ) : Type 0 where
+  pub chained : Chained w heads room
+  pub before : ℕ → Bool
+  pub ends : (q : ℕ) → q < 2 → markedIn (size w) room q ≡ false
+  pub less : (q : ℕ) → q < size w → before q ≡ true → markedIn (size w) room q ≡ true
+  pub left : (q : ℕ) → q < size w → Holds (cond (markedIn (size w) room q) 0 (leftOf w before q)) (entry (countsFrom (size w)) room q)
+  pub same : (q : ℕ) → q < size w → markedIn 0 changed q ≡ false → markedIn (size w) room q ≡ before q
+
+-- While it is worked out again, from the last variable to the first, at variable c and node b of it: the nodes that the pass has
+-- been at are right, and stand as they did where they have not changed.
+pub record Renewing (w changed room : List ℕ) (c b : ℕ) : Type 0 where
+  pub long : countsTo (size w) ≤ length room
+  pub flags : size w ≤ length changed
+  pub next : (p : ℕ) → 2 ≤ p → p < size w → Last w (varOf w p) p (getD room (linksFrom (size w) + p) 0)
+  pub before : ℕ → Bool
+  pub taken : ℕ → Bool
+  pub marks : (q : ℕ) → q < size w → markedIn (size w) room q ≡ taken q
+  pub less : (q : ℕ) → q < size w → before q ≡ true → taken q ≡ true
+  pub done : (q : ℕ) → q < size w → Known w c b q
+      → Holds (leftOf w taken q) (entry (countsFrom (size w)) room q) × (markedIn 0 changed q ≡ false → leftOf w taken q ≡ leftOf w before q)
+  pub todo : (q : ℕ) → q < size w → (Known w c b q → ⊥)
+      → Holds (cond (taken q) 0 (leftOf w before q)) (entry (countsFrom (size w)) room q) × (markedIn 0 changed q ≡ false → taken q ≡ before q)
+
+pub record Renewed (w room changed after : List ℕ) (c b : ℕ) : Type 0 where
+  pub renewing : Renewing w changed after c b
+  pub untouched : Untouched (size w) room after
+
+-- What a child's part, one node, the nodes of one variable, and the whole pass ask for.
+pub record Parting (w room : List ℕ) (n p q : ℕ) : Type 0 where
+  pub few : n ≤ maxNodes
+  pub inside : In (countsFrom n) room q
+  pub above : varOf w p < varOf w q
+  pub fits : scaled w p q (num (countsFrom n) room q) < limit
+
+pub record Turning (w changed room : List ℕ) (n p : ℕ) : Type 0 where
+  pub given : Given w n
+  pub node : Node w p
+  pub renewing : Renewing w changed room (varOf w p) (suc p)
+
+pub record Joining (w changed room : List ℕ) (n p : ℕ) : Type 0 where
+  pub turning : Turning w changed room n p
+  pub free : markedIn n room p ≡ false
+
+pub record Levelling (w heads changed room : List ℕ) (n c : ℕ) : Type 0 where
+  pub given : Given w n
+  pub level : c < vars w
+  pub head : (i : ℕ) → i < vars w → Last w i (size w) (getD heads i 0)
+  pub renewing : Renewing w changed room (suc c) 0
+
+-- In the chain of c, at p, or at its end where p is 0.
+pub record AtLevel (w start changed room : List ℕ) (c p : ℕ) : Type 0 where
+  pub node : p ≢ 0 → Node w p × (varOf w p ≡ c)
+  pub renewed : Renewed w start changed room c (suc p)
+
+pub record Passing (w heads changed room : List ℕ) (n v : ℕ) : Type 0 where
+  pub given : Given w n
+  pub is-vars : v ≡ vars w
+  pub head : (i : ℕ) → i < vars w → Last w i (size w) (getD heads i 0)
+  pub renewing : Renewing w changed room v 0
+
+-- What a count asks for and gives.
+pub record Recounting (w heads changed room : List ℕ) (n v : ℕ) : Type 0 where
+  pub given : Given w n
+  pub is-vars : v ≡ vars w
+  pub long : countsTo n ≤ length room
+  pub flags : n ≤ length changed
+  pub stale : Stale w heads changed room
+
+pub record Recounted (w heads room changed after : List ℕ) (n : ℕ) (words : List ℕ) : Type 0 where
+  pub count : Holds (countOf (cut w (markedIn n room) 0)) words
+  pub stale : Stale w heads changed after
+  pub untouched : Untouched n room after
+
+-- The counts of a diagram of which nothing is taken.
+pub record Beginning (w heads room : List ℕ) (n v : ℕ) : Type 0 where
+  pub given : Given w n
+  pub is-vars : v ≡ vars w
+  pub empty : heads ≡ replicate chainCount 0
+  pub long : countsTo n ≤ length room
+
+pub record Begun (w heads room after : List ℕ) : Type 0 where
+  pub kept : length after ≡ length room
+  pub before : (k : ℕ) → k < linksFrom (size w) → getD after k 0 ≡ getD room k 0
+  pub beyond : drop (countsTo (size w)) after ≡ drop (countsTo (size w)) room
+  pub chained : Chained w heads after
+  pub left : (q : ℕ) → q < size w → Holds (worthOf true w q) (entry (countsFrom (size w)) after q)

@@ -1,0 +1,75 @@
+// The count of a cut, kept while more and more nodes are taken away (document 01, "The evening's cut": a count after each walk).
+// Taking a node away changes what is left at the nodes above it only; so a count works out those again whose children have
+// changed, and reads the others where they stand.
+pub mod changes;
+mod renewal;
+
+use counts::down::count_down;
+use counts::table::count_at;
+use diagram::node::BddPointer;
+use diagram::node::var_of;
+use diagram::room::clear;
+use levels::link;
+use naturals::Natural;
+use naturals::shift_left;
+use renewal::renew_all;
+ghost use mathlib.Core.Path.{_≡_};
+ghost use mathlib.Core.Bool.{true};
+ghost use Prim.Native.Nat.{ℕ, _+_, _*_, _≤_, _<_};
+ghost use lib.ListN.{length, getD, replicate};
+ghost use Rattle.naturals.specs.Natural.{wordCount};
+ghost use Rattle.diagram.specs.Diagram.{vars as varsOf};
+ghost use Rattle.levels.specs.Chains.{chainCount, Last, Given};
+ghost use Rattle.counts.specs.Worth.{Worths};
+ghost use Rattle.recounts.specs.Kept.{Beginning, Begun, Recounting, Recounted};
+
+// Where the chains' links and what is left at the nodes stand in the working room, in words for each node.
+pub const LINKS: usize = 17;
+
+pub const COUNTS: usize = 18;
+
+pub const END: usize = COUNTS + naturals::WORDS;
+
+// The chains, and the counts behind their links.
+fn count_whole(words: &[u32], heads: &mut [u32], part: &mut [u32], nodes: usize, vars: u32)
+    requires { ⌜ Given (now words) nodes × (vars ≡ varsOf (now words)) × (now heads ≡ replicate chainCount 0) × (nodes + wordCount * nodes ≤ length (now part)) ⌝ }
+    ensures { λ _. ⌜ ((c : ℕ) → c < varsOf (now (words .entry)) → Last (now (words .entry)) c nodes (getD (now (heads .exit)) c 0)) × Worths true (now (words .entry)) (now (part .exit)) 0 0 ⌝ }
+{
+    link(words, heads, part, nodes);
+    count_down(words, heads, part, nodes, vars, true);
+}
+
+// Nothing is taken away yet: the counts of the whole diagram.
+pub fn begin(words: &[u32], heads: &mut [u32], room: &mut [u32], nodes: usize, vars: u32)
+    requires { ⌜ Beginning (now words) (now heads) (now room) nodes vars ⌝ }
+    ensures { λ _. ⌜ Begun (now (words .entry)) (now (heads .exit)) (now (room .entry)) (now (room .exit)) ⌝ }
+{
+    count_whole(
+        words,
+        heads,
+        &mut room[LINKS * nodes..END * nodes],
+        nodes,
+        vars,
+    );
+}
+
+// The count of the cut by the marks. The cut is not built.
+pub fn recount(
+    words: &[u32],
+    heads: &[u32],
+    changed: &mut [u32],
+    room: &mut [u32],
+    nodes: usize,
+    vars: u32,
+) -> Natural
+    requires { ⌜ Recounting (now words) (now heads) (now changed) (now room) nodes vars ⌝ }
+    ensures { λ r. ⌜ Recounted (now (words .entry)) (now (heads .entry)) (now (room .entry)) (now (changed .exit)) (now (room .exit)) nodes (r .words) ⌝ }
+{
+    renew_all(words, heads, changed, room, nodes, vars);
+    clear(changed, nodes);
+    let root = BddPointer((nodes - 1) as u32);
+    let below = count_at(room, COUNTS * nodes, root);
+    let above = var_of(words, root);
+    let scaled = shift_left(below, above.0);
+    scaled.natural
+}
