@@ -11,7 +11,6 @@ use Rattle.diagram.specs.Limits.{maxNodes}
 use Rattle.diagram.specs.Diagram.{size, Ordered}
 use Rattle.diagram.specs.Verdict.{most}
 use Rattle.diagram.specs.Valuations.{countOf}
-use Rattle.diagram.proofs.Reading.{accepted-ordered}
 use Rattle.approximation.specs.Cut.{listed}
 use Rattle.approximation.specs.Search.{Answer, underToCount}
 use Rattle.approximation.proofs.Listing.{under-accepted-open}
@@ -26,7 +25,7 @@ use Rattle.trials.specs.Trials.{Ready, Preparing, Prepared, Found}
 use Rattle.trials.specs.First.{Unmarkable, Unmarked}
 use Rattle.trials.specs.Answers.{Keeping, Kept}
 use Rattle.trials.proofs.Readying.{ready-marks}
-use Rattle.size_search.proofs.Early.{searching-few, searching-keeps, falsely}
+use Rattle.trials.proofs.Early.{searching-ordered, searching-few, searching-most, searching-keeps, searching-kept, falsely}
 use Rattle.count_search.proofs.Walks.{ready-same}
 use Rattle.count_search.specs.Rounds.{Countable, Taken, Seeking, Aiming, Above}
 
@@ -43,14 +42,14 @@ zeros-part r at k long zero =
 
 module _ {w r : List ℕ} {k n v : ℕ} (a : Aiming w r k n v) where
   ordered : Ordered w
-  ordered = accepted-ordered w (a .searching .accepted)
+  ordered = searching-ordered (a .searching)
 
   pub aiming-few : n ≤ maxNodes
   aiming-few = searching-few (a .searching)
 
   module _ {m : ℕ} (is-m : m ≡ max n 2) where
     is-most : m ≡ most w
-    is-most = is-m ∙ ap (λ (i : ℕ). max i 2) (a .searching .is-size)
+    is-most = is-m ∙ searching-most (a .searching)
 
     pub aiming-none : k ≡ 0 → {after : List ℕ} {j : ℕ} → (after ≡ constantAt r (18 * m) 0 v) × (j ≡ cond (eqb 0 0) 1 2)
         → Found w (underToCount w k) r after j 0
@@ -78,21 +77,7 @@ module _ {w r : List ℕ} {k n v : ℕ} (a : Aiming w r k n v) where
       -- the input words
       pub aiming-kept : (k ≡ 0 → ⊥) → {count : ℕ} → count ≡ countOf w → count ≤ k → {after : List ℕ} → Kept w m s after → Found w (underToCount w k) r after n 0
       aiming-kept ne e h {after} x =
-          let is = a .searching .is-size in
-          let whole = ordered .formed .whole in
-          let m-most = is-most in
-          let three : length w ≡ 3 * n = omega arith in
-          rw (to-count-same w k (omega arith) (omega arith)) (record {
-            trials = refl;
-            count = is;
-            words = three;
-            fits = omega arith;
-            kept = x .kept ∙ ap (λ (l : List ℕ). length l) same;
-            made = ap (λ (i : ℕ). take i (drop (18 * most w) after)) (sym three)
-                ∙ ap (λ (i : ℕ). take (length w) (drop (18 * i) after)) (sym m-most) ∙ x .made;
-            beyond = ap (λ (i : ℕ). drop (26 * i) after) (sym m-most) ∙ x .beyond ∙ ap (λ (i : ℕ). drop (26 * i) s) m-most
-                ∙ ap (λ (l : List ℕ). drop (26 * most w) l) same;
-          })
+          searching-kept (a .searching) is-m (rw same at x) (to-count-same w k (omega arith) (omega arith))
 
       pub aiming-above : (k ≡ 0 → ⊥) → {count : ℕ} → count ≡ countOf w → k < count → Above w s k count n v
       aiming-above ne e h = rw same (record { aiming = a; low = omega arith; high = omega arith; is-count = e })

@@ -8,7 +8,7 @@ use lib.ListN.{length, replicate, length-replicate}
 use borrow.Rule.Slice.PartMut.{putMid, midOf, put-same}
 use Rattle.naturals.specs.Natural.{Holds}
 use Rattle.naturals.proofs.Answer.{holds-as}
-use Rattle.diagram.specs.Diagram.{size, holds, Ordered}
+use Rattle.diagram.specs.Diagram.{size, Ordered}
 use Rattle.diagram.specs.Valuations.{countOf}
 use Rattle.counts.specs.Worth.{totalOf}
 use Rattle.counts.proofs.Nodes.{total-valuations}

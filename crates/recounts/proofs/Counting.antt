@@ -10,21 +10,21 @@ use borrow.Author.Tests.{eq-eqb, ne-eqb}
 use lib.ListN.{length, getD, set, take, drop, length-drop, List·getD-append}
 use lib.Seq.{drop-drop, drop-at, drop-append-le, take-append-le, length-take-le, getD-take, getD-drop, getD-set-other, drop-set-lt}
 use borrow.Rule.Slice.PartMut.{putMid, midOf, postOf, take-put, drop-put, same-len-mid, mid-len}
-use Rattle.naturals.specs.Natural.{value, limit, wordCount, Holds, Fitted}
+use Rattle.naturals.specs.Natural.{value, wordCount, Holds, Fitted}
 use Rattle.naturals.specs.declared.Fit.{Fit}
 use Rattle.naturals.proofs.Answer.{holds-as, fitted-below}
 use Rattle.diagram.specs.Diagram.{varOf, size, vars, root, Ordered}
 use Rattle.diagram.specs.Valuations.{countOf}
 use Rattle.diagram.proofs.Tests.{by-test, by-eq, or-right}
 use Rattle.diagram.proofs.Reading.{layered, at-end, root-in}
-use Rattle.levels.specs.Chains.{Last, Given, Known}
+use Rattle.levels.specs.Chains.{Last, Given}
 use Rattle.counts.specs.Table.{entry, num, In, Noted}
-use Rattle.counts.specs.Worth.{worthOf, Worths}
+use Rattle.counts.specs.Worth.{Worths}
 use Rattle.approximation.specs.Cut.{cut}
 use Rattle.approximation.proofs.Cut.{cut-same}
 use Rattle.cuts.specs.Marks.{markedIn}
 use Rattle.cuts.proofs.Marking.{set-marks}
-use Rattle.recounts.specs.Kept.{leftOf, linksFrom, countsFrom, countsTo, Untouched, Chained, Stale, Renewing, Renewed, Passing, Recounting, Recounted, Beginning, Begun}
+use Rattle.recounts.specs.Kept.{leftOf, linksFrom, countsFrom, countsTo, Stale, Renewed, Passing, Recounting, Recounted, Beginning, Begun}
 use Rattle.recounts.proofs.Left.{left-cond, left-end, left-none, left-total, left-total-fits}
 use Rattle.recounts.proofs.Passes.{marks-read, untouched-noted, untouched-marks}
 

@@ -8,16 +8,15 @@ use native.Mathlib.Nat.{zero-mul}
 use lib.ListN.{length, getD}
 use lib.Seq.{ext-getD}
 use lib.Dec.{ltb, eqb}
-use Rattle.naturals.specs.Natural.{limit, wordCount}
+use Rattle.naturals.specs.Natural.{limit}
 use Rattle.diagram.specs.Diagram.{varOf, lowOf, highOf, size, vars, root, holds, Ordered}
 use Rattle.diagram.specs.Valuations.{tally, countOf}
 use Rattle.diagram.proofs.Tests.{by-test}
 use Rattle.diagram.proofs.Tally.{tally-same}
-use Rattle.diagram.proofs.Reading.{root-in}
 use Rattle.reduction.specs.Reduce.{reduce}
 use Rattle.reduction.proofs.Canonical.{reduce-vars, reduce-holds}
 use Rattle.counts.specs.Table.{scaled}
-use Rattle.counts.specs.Worth.{worthOf, doublings, partOf, totalOf}
+use Rattle.counts.specs.Worth.{worthOf, doublings, partOf}
 use Rattle.counts.proofs.Nodes.{worth-end, worth-node, worth-fits, part-fits, total-valuations, total-fits, under-limit}
 use Rattle.approximation.specs.Links.{relinked}
 use Rattle.approximation.specs.Cut.{cut, send}

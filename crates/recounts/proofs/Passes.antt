@@ -2,20 +2,19 @@
 use Prim.Native.Nat.{ℕ, suc, _+_, _-_, _*_, _≤_, _<_}
 use mathlib.Core.Path.{_≡_, refl, sym, ap, _∙_}
 use mathlib.Core.Logic.{_≢_}
-use mathlib.Core.Bool.{Bool, true, false, cond, _||_, or-false, true≢false}
+use mathlib.Core.Bool.{Bool, true, false, _||_, or-false, true≢false}
 use mathlib.Core.List.{List}
 use native.Mathlib.Omega.{arith}
 use lib.ListN.{length, getD, set, take, drop, length-set, length-drop}
 use lib.Seq.{ext-getD, getD-take, getD-drop, length-take-le}
-use lib.Dec.{eqb}
 use borrow.Author.Tests.{eq-eqb, ne-eqb}
-use Rattle.naturals.specs.Natural.{value, limit, wordCount, Holds, Fitted}
+use Rattle.naturals.specs.Natural.{value, limit, Holds, Fitted}
 use Rattle.naturals.specs.declared.Fit.{Fit}
 use Rattle.naturals.proofs.Answer.{holds-as, fitted-below}
 use Rattle.diagram.specs.Diagram.{varOf, lowOf, highOf, size, vars, Ordered}
 use Rattle.diagram.proofs.Tests.{by-eq, by-test, or-right}
 use Rattle.diagram.proofs.Reading.{Layer, layered, by-two}
-use Rattle.levels.specs.Chains.{Last, Given, Node, Known}
+use Rattle.levels.specs.Chains.{Last, Given, Known}
 use Rattle.levels.proofs.Chaining.{known-from, known-begins, known-ends, at-chain, chain-falls}
 use Rattle.counts.specs.Table.{entry, num, In, Noted, scaled}
 use Rattle.cuts.specs.Marks.{markedIn}

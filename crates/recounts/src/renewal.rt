@@ -17,7 +17,7 @@ use naturals::add;
 ghost use Rattle.naturals.specs.Natural.{Holds};
 ghost use Rattle.diagram.specs.Diagram.{varOf};
 ghost use Rattle.counts.specs.Table.{num, scaled as scaledBy};
-ghost use Rattle.recounts.specs.Kept.{countsFrom, Parting, Joining, Turning, Levelling, Renewing, Passing, Renewed};
+ghost use Rattle.recounts.specs.Kept.{countsFrom, Parting, Joining, Turning, Levelling, Passing, Renewed};
 
 // What is left at a child, as it counts at its parent.
 fn part(words: &[u32], room: &[u32], nodes: usize, node: BddPointer, child: BddPointer) -> Natural

@@ -1,11 +1,11 @@
 -- The search for a size, step by step.
-use Prim.Native.Nat.{ℕ, suc, _+_, _-_, _*_, _/_, _≤_, _<_}
+use Prim.Native.Nat.{ℕ, suc, _+_, _-_, _*_, _≤_, _<_}
 use mathlib.Core.Path.{_≡_, refl, sym, ap, _∙_}
 use mathlib.Core.List.{List}
 use native.Mathlib.Omega.{arith}
 use native.Mathlib.Numerals.{add-one}
 use lib.ListN.{length, take, drop}
-use Rattle.diagram.specs.Diagram.{size, vars, Ordered}
+use Rattle.diagram.specs.Diagram.{size}
 use Rattle.diagram.specs.Verdict.{most}
 use Rattle.approximation.specs.Search.{Answer, answer, cutFirst, middle, sizeSearch}
 use Rattle.approximation.proofs.Search.{search-last, search-exact, search-fewer, search-more}

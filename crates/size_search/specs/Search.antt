@@ -1,13 +1,10 @@
 -- What the search for a size asks. No promise to a caller rests on this file.
-use Prim.Native.Nat.{ℕ, suc, _+_, _-_, _*_, _≤_, _<_}
+use Prim.Native.Nat.{ℕ, _+_, _-_, _*_, _≤_, _<_}
 use mathlib.Core.Path.{_≡_}
-use mathlib.Core.Bool.{cond}
 use mathlib.Core.List.{List}
 use lib.ListN.{length}
-use lib.Dec.{eqb}
 use Rattle.diagram.specs.Diagram.{size, vars, Ordered}
 use Rattle.approximation.specs.Search.{sizeSearch}
-use Rattle.cuts.specs.Marks.{constantAt}
 use Rattle.trials.specs.Trials.{Ready}
 
 -- A diagram of n nodes, more than the target, with its priorities in the room.
@@ -28,8 +25,3 @@ pub record At (w : List ℕ) (t c start stop trials : ℕ) : Type 0 where
   pub tried : trials ≤ c
   pub left : stop ≤ start + (c - trials)
   pub same : sizeSearch w t c 0 c 0 ≡ sizeSearch w t (c - trials) start stop trials
-
-pub record Constant (m t v : ℕ) (r after : List ℕ) (k made-trials : ℕ) : Type 0 where
-  pub room : after ≡ constantAt r (18 * m) t v
-  pub count : k ≡ cond (eqb t 0) 1 2
-  pub trials : made-trials ≡ 0

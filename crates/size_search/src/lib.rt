@@ -11,7 +11,8 @@ ghost use Prim.Native.Nat.{_-_, _<_, _≤_, max};
 ghost use Rattle.diagram.specs.Limits.{maxNodes};
 ghost use Rattle.approximation.specs.Search.{sizeSearch, underToSize};
 ghost use Rattle.trials.specs.Trials.{Searching, Found};
-ghost use Rattle.size_search.specs.Search.{Halving, Constant};
+ghost use Rattle.trials.specs.Answers.{Constant};
+ghost use Rattle.size_search.specs.Search.{Halving};
 
 // How many nodes the answer has, and how many cuts by a list were made for it.
 pub struct Sized {

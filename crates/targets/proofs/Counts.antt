@@ -1,30 +1,30 @@
 -- Cutting to a count: what the search is given, and overapproximating by negation.
-use Prim.Native.Nat.{ℕ, _+_, _-_, _*_, _^_, _≤_, _<_, max}
+use Prim.Native.Nat.{ℕ, _-_, _*_, _^_, _≤_, max}
 use mathlib.Core.Path.{_≡_, refl, sym, ap, _∙_}
 use mathlib.Core.Bool.{Bool, true, false, _&&_}
-use mathlib.Core.List.{List, _++_}
+use mathlib.Core.List.{List}
 use native.Mathlib.Omega.{arith}
-use lib.ListN.{length, take, drop}
+use lib.ListN.{length, take}
 use lib.Dec.{leb, ltb, eqb}
 use borrow.Author.Tests.{leb-true, leb-false}
 use Rattle.naturals.specs.Natural.{value, Holds}
 use Rattle.diagram.specs.Limits.{maxVariables}
-use Rattle.diagram.specs.Diagram.{size, vars, Accepted}
+use Rattle.diagram.specs.Diagram.{size, vars}
 use Rattle.diagram.specs.Valuations.{countOf}
-use Rattle.diagram.specs.Verdict.{Outcome, accepted, refused, said, row, andThen, ifAccepted, verdictOf, most, Checked}
+use Rattle.diagram.specs.Verdict.{Outcome, accepted, refused, said, row, andThen, verdictOf, most, Checked}
 use Rattle.diagram.specs.declared.verdict.Verdict.{Verdict}
 use Rattle.diagram.specs.declared.verdict.Verdict.the-variants.{Accepted as Yes, Refused as No}
 use Rattle.diagram.specs.declared.verdict.Output.the-variants.{Diagram}
 use Rattle.diagram.proofs.Entering.{admitted}
 use Rattle.negation.specs.Negation.{negated}
-use Rattle.negation.proofs.Meaning.{negated-vars, negated-accepted, negated-count}
+use Rattle.negation.proofs.Meaning.{negated-accepted, negated-count}
 use Rattle.approximation.specs.Cut.{between, underCountOf, overCountOf, Under}
-use Rattle.approximation.specs.Search.{Answer, answer, back, underToCount, overToCount}
-use Rattle.approximation.proofs.Listing.{under-open-accepted, under-accepted-open, over-accepted-open, over-accepted-most}
+use Rattle.approximation.specs.Search.{Answer, back, underToCount, overToCount}
+use Rattle.approximation.proofs.Listing.{under-open-accepted, over-accepted-open, over-accepted-most}
 use Rattle.approximation.proofs.Targets.{Open, opposite, opposite-open, over-count-same, over-count-negates, to-count-under}
-use Rattle.trials.specs.Trials.{Searching, Found}
+use Rattle.trials.specs.Trials.{Found}
 use Rattle.trials.specs.Answers.{Keeping, Kept, Returned}
-use Rattle.size_search.proofs.Early.{searching-keeps}
+use Rattle.trials.proofs.Early.{searching-keeps, searching-kept}
 use Rattle.count_search.specs.Rounds.{Aiming, Countable}
 use Rattle.count_search.proofs.Aims.{aiming-countable}
 use Rattle.targets.specs.Targets.{Meets, Targeting, UnderCounting, OverCounting, Fewer, Hit}
@@ -57,19 +57,7 @@ module _ {w r out : List ℕ} {k n v : ℕ} (a : OverCounting w r out k n v) {m 
       over-met t {after} kept =
           let low = leb-true k (value count) (sym is-c ∙ t) in
           let is = held .worth in
-          let whole = a .targeting .accepted .formed .whole in
-          let sized = a .targeting .is-size in
-          let m-most = m-is in
-          let three : length w ≡ 3 * n = omega arith in
-          rw (over-count-same w k (omega arith)) (record {
-            trials = refl;
-            count = sized;
-            words = three;
-            fits = omega arith;
-            kept = kept .kept ∙ ap (λ (l : List ℕ). length l) same;
-            made = ap (λ (i : ℕ). take i (drop (18 * most w) after)) (sym three) ∙ ap (λ (i : ℕ). take (length w) (drop (18 * i) after)) (sym m-most) ∙ kept .made;
-            beyond = ap (λ (i : ℕ). drop (26 * i) after) (sym m-most) ∙ kept .beyond ∙ ap (λ (l : List ℕ). drop (26 * m) l) same ∙ ap (λ (i : ℕ). drop (26 * i) r) m-most;
-          })
+          searching-kept (targeting-searches (a .targeting)) is-m (rw same at kept) (over-count-same w k (omega arith))
 
       pub over-fewer : c ≡ false → Fewer w s out k n v
       over-fewer f =

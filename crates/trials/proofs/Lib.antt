@@ -2,6 +2,8 @@
 --     Readying   priorities and weights in the working room
 --     Firsts     the cut by the first priorities
 --     Giving     the answer kept, and given
+--     Early      the answers that take no cut
 pub mod Readying
 pub mod Firsts
 pub mod Giving
+pub mod Early

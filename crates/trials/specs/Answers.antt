@@ -1,15 +1,24 @@
 -- The answer of a search in the working room, and how it is given. No promise to a caller rests on this file.
-use Prim.Native.Nat.{ℕ, _+_, _-_, _*_, _≤_, _<_, min}
+use Prim.Native.Nat.{ℕ, _+_, _-_, _*_, _≤_}
 use mathlib.Core.Path.{_≡_}
+use mathlib.Core.Bool.{cond}
 use mathlib.Core.List.{List, _++_}
-use lib.ListN.{length, getD, take, drop, replicate}
+use lib.ListN.{length, take, drop, replicate}
+use lib.Dec.{eqb}
 use Rattle.diagram.specs.Limits.{maxNodes}
-use Rattle.diagram.specs.Diagram.{size, vars}
+use Rattle.diagram.specs.Diagram.{size}
+use Rattle.cuts.specs.Marks.{constantAt}
 use Rattle.negation.specs.Negation.{negated, over, Ready}
 
 -- The words of an answer of k nodes.
 abbrev pub answerIn : ℕ → List ℕ → ℕ → List ℕ
 answerIn m r k = take (3 * k) (drop (18 * m) r)
+
+-- A constant is the answer.
+pub record Constant (m t v : ℕ) (r after : List ℕ) (k made-trials : ℕ) : Type 0 where
+  pub room : after ≡ constantAt r (18 * m) t v
+  pub count : k ≡ cond (eqb t 0) 1 2
+  pub trials : made-trials ≡ 0
 
 pub record Keeping (w r : List ℕ) (m : ℕ) : Type 0 where
   pub few : m ≤ maxNodes

@@ -4,9 +4,9 @@
 --     [m, 2m)       marks
 --     [9m, 17m)     the weights
 --     [17m, 26m)    the tables of reduction and of counting, with the words of a cut, or of the answer, from 18m on
-use Prim.Native.Nat.{ℕ, _+_, _-_, _*_, _≤_, _<_}
+use Prim.Native.Nat.{ℕ, _-_, _*_, _≤_, _<_}
 use mathlib.Core.Path.{_≡_}
-use mathlib.Core.List.{List, _++_}
+use mathlib.Core.List.{List}
 use lib.ListN.{length, getD, take, drop}
 use Rattle.naturals.specs.Natural.{Holds}
 use Rattle.diagram.specs.Diagram.{size, vars, Accepted, Ordered}

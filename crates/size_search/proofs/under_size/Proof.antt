@@ -1,4 +1,5 @@
-use Rattle.size_search.proofs.Early.{searching-few, falsely, truly, size-none, size-true, size-false, searching-keeps, size-kept}
+use Rattle.trials.proofs.Early.{searching-few, falsely, truly, searching-keeps}
+use Rattle.size_search.proofs.Early.{size-none, size-true, size-false, size-kept}
 use native.Mathlib.Omega.{arith}
 use borrow.Author.Needs.{needs}
 use Rattle.size_search.proofs.under_size.Statement.{statement}
