@@ -44,6 +44,15 @@ def load(s, at):
     lines.append(f'load {len(s)} {at} ' + fit(at + WORDS <= len(s), number(s[at:at + WORDS])))
 
 
+def order(a, b):
+    return 'less' if a < b else 'equal' if a == b else 'greater'
+
+
+def compare_at(s, a, b):
+    read = lambda at: number(s[at:at + WORDS]) if at + WORDS <= len(s) else 0
+    lines.append(f'compare at {a} {b} ' + order(read(a), read(b)))
+
+
 def store(s, at):
     ok = at + WORDS <= len(s)
     if ok:
@@ -57,7 +66,7 @@ for i, a in enumerate(SAMPLES):
         lines.append(f'add {i} {j} ' + below(a + b))
         lines.append(f'subtract {i} {j} ' + fit(b <= a, a - b))
         lines.append(f'multiply {i} {j} ' + below(a * b))
-        lines.append(f'compare {i} {j} ' + ('less' if a < b else 'equal' if a == b else 'greater'))
+        lines.append(f'compare {i} {j} ' + order(a, b))
     for k in SHIFTS:
         lines.append(f'shift {i} {k} ' + shifted(a, k))
 for k in SHIFTS:
@@ -67,7 +76,13 @@ lines.append('zero 0')
 for at in PLACES:
     s = [2863311530 + i for i in range(20)]
     load(s, at)
+    compare_at(s, at, 1)
+    compare_at(s, 1, at)
     store(s, at)
+s = [1] + [0] * (WORDS - 1) + [2] + [0] * (19 - WORDS)
+compare_at(s, 0, WORDS)
+compare_at(s, WORDS, 0)
+compare_at(s, 1, WORDS + 1)
 s = [5] * (WORDS - 1)
 load(s, 0)
 store(s, 0)

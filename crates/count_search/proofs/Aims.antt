@@ -7,6 +7,8 @@ use native.Mathlib.Omega.{arith}
 use lib.ListN.{length, getD, take, drop, replicate, length-drop, length-replicate, getD-replicate}
 use lib.Seq.{getD-take, getD-drop, ext-getD, length-take-le}
 use lib.Dec.{eqb}
+use native.Mathlib.Decide.{decLt}
+use Rattle.naturals.specs.Natural.{value, Holds}
 use Rattle.diagram.specs.Limits.{maxNodes}
 use Rattle.diagram.specs.Diagram.{size, Ordered}
 use Rattle.diagram.specs.Verdict.{most}
@@ -20,13 +22,12 @@ use Rattle.cuts.proofs.Answering.{drop-more}
 use Rattle.levels.specs.Chains.{chainCount, Given}
 use Rattle.cuts.specs.Marks.{markedIn}
 use Rattle.recounts.specs.Kept.{linksFrom, countsTo, Beginning, Begun}
-use Rattle.recounts.proofs.Counting.{begun-marks, begun-stale}
-use Rattle.trials.specs.Trials.{Ready, Preparing, Prepared, Found}
+use Rattle.recounts.proofs.Counting.{begun-stale}
+use Rattle.trials.specs.Trials.{Preparing, Prepared, Found}
 use Rattle.trials.specs.First.{Unmarkable, Unmarked}
 use Rattle.trials.specs.Answers.{Keeping, Kept}
 use Rattle.trials.proofs.Readying.{ready-marks}
 use Rattle.trials.proofs.Early.{searching-ordered, searching-few, searching-most, searching-keeps, searching-kept, falsely}
-use Rattle.count_search.proofs.Walks.{ready-same}
 use Rattle.count_search.specs.Rounds.{Countable, Taken, Seeking, Aiming, Above}
 
 -- A part of a room that is zero.
@@ -70,44 +71,107 @@ module _ {w r : List ℕ} {k n v : ℕ} (a : Aiming w r k n v) where
           zero = zeros-part r (17 * m) (9 * n) (omega arith) (λ j h. zero j (omega arith));
         }
 
-    module _ {s : List ℕ} (same : s ≡ r) where
-      pub aiming-keeps : Keeping w s m
-      aiming-keeps = rw same (searching-keeps (a .searching) is-m)
+    pub aiming-keeps : Keeping w r m
+    aiming-keeps = searching-keeps (a .searching) is-m
 
-      -- the input words
-      pub aiming-kept : (k ≡ 0 → ⊥) → {count : ℕ} → count ≡ countOf w → count ≤ k → {after : List ℕ} → Kept w m s after → Found w (underToCount w k) r after n 0
-      aiming-kept ne e h {after} x =
-          searching-kept (a .searching) is-m (rw same at x) (to-count-same w k (omega arith) (omega arith))
+    -- a constant: a target that is not refused is met
+    pub aiming-constant : (k ≡ 0 → ⊥) → n ≤ 2 → {after : List ℕ} → Kept w m r after → Found w (underToCount w k) r after n 0
+    aiming-constant ne small x = searching-kept (a .searching) is-m x (to-count-same w k (omega arith) met)
+      where
+        met : countOf w ≤ k
+        met = elim (decLt k (countOf w)) [
+          | yes h ↦
+              let is = a .searching .is-size in
+              let many = search-many w k (a .searching .accepted) (under-accepted-open w k (a .target)) (omega arith) h in
+              absurd (omega arith)
+          | no h ↦ omega arith
+        ]
 
-      pub aiming-above : (k ≡ 0 → ⊥) → {count : ℕ} → count ≡ countOf w → k < count → Above w s k count n v
-      aiming-above ne e h = rw same (record { aiming = a; low = omega arith; high = omega arith; is-count = e })
+pub above-none : {k : ℕ} → (k ≡ 0 → ⊥) → 0 < k
+above-none ne = omega arith
 
-      pub aiming-found : {b : Answer} {after : List ℕ} {j trials : ℕ} → Found w b s after j trials → Found w b r after j trials
-      aiming-found f = rw same at f
+-- ---- more than two nodes: the count
+
+module _ {w r : List ℕ} {k n v : ℕ} (a : Aiming w r k n v) (low : 0 < k) (many : 2 < n) where
+  whole-most : most w ≡ n
+  whole-most = let is = a .searching .is-size in omega arith
+
+  pub aiming-begins : {heads : List ℕ} → heads ≡ replicate chainCount 0 → Beginning w heads r n v
+  aiming-begins e =
+      let long = a .searching .long in
+      let is-most = whole-most in
+      record {
+        given = record { ordered = ordered a; nodes = a .searching .is-size; two = omega arith };
+        is-vars = a .searching .is-vars;
+        empty = e;
+        long = omega arith;
+      }
+
+  module _ {heads b : List ℕ} (x : Begun w heads r b) where
+    same-beyond : (m : ℕ) → m ≡ n → drop (26 * m) b ≡ drop (26 * m) r
+    same-beyond m e = rw (e ∙ a .searching .is-size) (x .beyond)
+
+    pub begun-keeps : Keeping w b n
+    begun-keeps =
+        let few = aiming-few a in
+        let whole = ordered a .formed .whole in
+        let is = a .searching .is-size in
+        let long = a .searching .long in
+        let is-most = whole-most in
+        let kept = x .kept in
+        record { few = few; fits = omega arith; long = omega arith }
+
+    pub begun-kept : {count : List ℕ} → Holds (countOf w) count → value count ≤ k → {after : List ℕ} → Kept w n b after
+        → Found w (underToCount w k) r after n 0
+    begun-kept held h y =
+        let e = held .worth in
+        let most-is : n ≡ max n 2 = omega arith in
+        searching-kept (a .searching) most-is
+        (record { kept = y .kept ∙ x .kept; made = y .made; beyond = y .beyond ∙ same-beyond n refl })
+        (to-count-same w k low (omega arith))
+
+    pub begun-above : {count : List ℕ} → Holds (countOf w) count → k < value count → Above w heads b k (value count) n v
+    begun-above held h =
+        let e = held .worth in
+        record { start = r; aiming = a; begun = x; low = low; high = omega arith; is-count = e }
+
+    pub begun-found : {d : Answer} {after : List ℕ} {j trials : ℕ} → Found w d b after j trials → Found w d r after j trials
+    begun-found f = record {
+      trials = f .trials;
+      count = f .count;
+      words = f .words;
+      fits = f .fits;
+      kept = f .kept ∙ x .kept;
+      made = f .made;
+      beyond = f .beyond ∙ same-beyond (most w) whole-most;
+    }
 
 -- ---- the search
 
-module _ {w r : List ℕ} {k count n v : ℕ} (a : Above w r k count n v) where
+module _ {w heads r : List ℕ} {k count n v : ℕ} (a : Above w heads r k count n v) where
   above-many : 2 < n
   above-many =
       let is = a .aiming .searching .is-size in
       let many = search-many w k (a .aiming .searching .accepted) (under-accepted-open w k (a .aiming .target)) (a .low) (a .high) in
       omega arith
 
-  above-most : most w ≡ n
-  above-most = let many = above-many in let is = a .aiming .searching .is-size in omega arith
+  above-long : countsTo n ≤ length r
+  above-long =
+      let many = above-many in
+      let is = a .aiming .searching .is-size in
+      let long = a .aiming .searching .long in
+      let kept = a .begun .kept in
+      omega arith
 
   pub above-prepares : Preparing w r n v
   above-prepares =
-      let is = a .aiming .searching .is-size in
-      let long = a .aiming .searching .long in
-      record { ordered = ordered (a .aiming); is-size = is; is-vars = a .aiming .searching .is-vars; many = above-many; long = omega arith }
+      let long = above-long in
+      record { ordered = ordered (a .aiming); is-size = a .aiming .searching .is-size; is-vars = a .aiming .searching .is-vars; many = above-many; long = omega arith }
 
   module _ {s : List ℕ} (p : Prepared w r s) where
     pub above-unmarkable : Unmarkable s n
     above-unmarkable =
-        let is = a .aiming .searching .is-size in
-        let long = a .aiming .searching .long in
+        let long = above-long in
         let kept = p .kept in
         record { few = aiming-few (a .aiming); long = omega arith }
 
@@ -115,78 +179,56 @@ module _ {w r : List ℕ} {k count n v : ℕ} (a : Above w r k count n v) where
       is : n ≡ size w
       is = a .aiming .searching .is-size
 
-      given : Given w n
-      given = let many = above-many in record { ordered = ordered (a .aiming); nodes = is; two = omega arith }
+      given : Given w (size w)
+      given = let many = above-many in let e = is in record { ordered = ordered (a .aiming); nodes = refl; two = omega arith }
 
-      back : (j : ℕ) → 17 * size w ≤ j → drop j t ≡ drop j r
-      back j h = let e = is in drop-more (2 * n) j t s (omega arith) (u .beyond) ∙ drop-more (17 * size w) j s r h (p .beyond)
+      back : (j : ℕ) → linksFrom (size w) ≤ j → drop j t ≡ drop j r
+      back j h = let e = is in drop-more (2 * n) j t s (omega arith) (u .beyond) ∙ drop-more (linksFrom (size w)) j s r h (p .beyond)
 
-      pub above-begins : {heads : List ℕ} → heads ≡ replicate chainCount 0 → Beginning w heads t n v
-      above-begins e =
-          let long = a .aiming .searching .long in
-          let is-most = above-most in
+      nothing-marked : (q : ℕ) → q < size w → markedIn (size w) t q ≡ false
+      nothing-marked q h = rw (sym is) (u .none q (let e = is in omega arith))
+
+      nothing-taken : (sent : List ℕ) → Taken w heads t sent t 0
+      unfolding listed
+      nothing-taken sent = record {
+        few = omega arith;
+        kept = refl;
+        ready = ready-marks (p .ready) (u .kept) (rw (sym is) (u .before)) (rw (sym is) (u .beyond));
+        marks = nothing-marked;
+        beyond = refl;
+        stale = begun-stale given (a .begun) (back (linksFrom (size w)) (omega arith)) nothing-marked sent;
+      }
+
+      pub above-seeking : {sent : List ℕ} → 3 * maxNodes ≤ length sent → Seeking w heads sent t k count n v
+      above-seeking {sent} long-sent =
+          let few = ordered (a .aiming) .formed .few in
+          let whole = ordered (a .aiming) .formed .whole in
+          let long = above-long in
           let same = u .kept in
           let kept = p .kept in
-          record { given = given; is-vars = a .aiming .searching .is-vars; empty = e; long = omega arith }
+          record {
+            ordered = ordered (a .aiming);
+            is-size = is;
+            is-vars = a .aiming .searching .is-vars;
+            many = above-many;
+            copy = omega arith;
+            long = omega arith;
+            taken = nothing-taken sent;
+            low = a .low;
+            high = a .high;
+            is-count = a .is-count;
+          }
 
-      module _ {heads : List ℕ} {b : List ℕ} (x : Begun w heads t b) where
-        begun-long : countsTo (size w) ≤ length t
-        begun-long = rw is at (above-begins refl .long)
-
-        nothing-marked : (q : ℕ) → q < size w → markedIn (size w) t q ≡ false
-        nothing-marked q h = rw (sym is) (u .none q (let e = is in omega arith))
-
-        unmarked-ready : Ready w t
-        unmarked-ready = ready-marks (p .ready) (u .kept) (rw (sym is) (u .before)) (rw (sym is) (u .beyond))
-
-        begun-ready : Ready w b
-        begun-ready =
-            ready-same (linksFrom (size w)) begun-long (omega arith) (x .kept) (x .before) unmarked-ready
-
-        nothing-taken : (sent : List ℕ) → Taken w heads b sent b 0
-        unfolding listed
-        nothing-taken sent =
-            let stale = begun-stale (rw is at given) x nothing-marked sent in
-            record {
-              few = omega arith;
-              kept = refl;
-              ready = begun-ready;
-              marks = λ q h. begun-marks x q h ∙ nothing-marked q h;
-              beyond = refl;
-              stale = stale;
-            }
-
-        pub above-seeking : {sent : List ℕ} → 3 * maxNodes ≤ length sent → Seeking w heads sent b k count n v
-        above-seeking {sent} long-sent =
-            let few = ordered (a .aiming) .formed .few in
-            let whole = ordered (a .aiming) .formed .whole in
-            let e = is in
-            let long = begun-long in
-            let kept = x .kept in
-            record {
-              ordered = ordered (a .aiming);
-              is-size = e;
-              is-vars = a .aiming .searching .is-vars;
-              many = above-many;
-              copy = omega arith;
-              long = omega arith;
-              taken = nothing-taken sent;
-              low = a .low;
-              high = a .high;
-              is-count = a .is-count;
-            }
-
-        pub above-found : {d : Answer} {after : List ℕ} {j trials : ℕ} → Found w d b after j trials → Found w d r after j trials
-        above-found f =
-            let is-most = above-most in
-            let e = is in
-            let same-most : 26 * most w ≡ countsTo (size w) = omega arith in
-            record {
-              trials = f .trials;
-              count = f .count;
-              words = f .words;
-              fits = f .fits;
-              kept = f .kept ∙ x .kept ∙ u .kept ∙ p .kept;
-              made = f .made;
-              beyond = f .beyond ∙ rw same-most (x .beyond) ∙ back (26 * most w) (omega arith);
-            }
+      pub above-found : {d : Answer} {after : List ℕ} {j trials : ℕ} → Found w d t after j trials → Found w d r after j trials
+      above-found f =
+          let many = above-many in
+          let e = is in
+          record {
+            trials = f .trials;
+            count = f .count;
+            words = f .words;
+            fits = f .fits;
+            kept = f .kept ∙ u .kept ∙ p .kept;
+            made = f .made;
+            beyond = f .beyond ∙ back (26 * most w) (omega arith);
+          }

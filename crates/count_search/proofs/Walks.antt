@@ -28,23 +28,20 @@ use Rattle.cuts.specs.Marks.{markedIn}
 use Rattle.cuts.proofs.Steps.{present}
 use Rattle.cuts.proofs.Marking.{set-marks, listed-take}
 use Rattle.cuts.proofs.Answering.{drop-more}
-use Rattle.recounts.specs.Kept.{linksFrom, countsFrom, countsTo, Untouched, Recounting, Recounted}
+use Rattle.recounts.specs.Kept.{countsFrom, countsTo, Untouched, Recounting, Recounted}
 use Rattle.recounts.proofs.Passes.{same-words, untouched-marks, untouched-noted}
 use Rattle.recounts.proofs.Counting.{stale-taken}
 use Rattle.trials.specs.Trials.{Ready, Trying, Tried, Found}
 use Rattle.trials.proofs.Readying.{ready-marks}
 use Rattle.count_search.specs.Rounds.{Takeable, Took, Taken, Seeking}
 
--- Priorities and weights stand before the links and the counts.
-pub ready-same : {w r after : List ℕ} (m : ℕ) → countsTo (size w) ≤ length r → linksFrom (size w) ≤ m → length after ≡ length r
-    → ((k : ℕ) → k < m → getD after k 0 ≡ getD r k 0) → Ready w r → Ready w after
-ready-same {w} {r} {after} m long fits kept same a = record {
-  order = same-words m r after kept same 0 (size w - 2) (omega arith) (omega arith) ∙ a .order;
-  weight = λ p h. rw (same-words m r after kept same (weightsFrom (size w) + wordCount * p) wordCount (omega arith) (omega arith)) (a .weight p h);
-}
-
+-- Priorities and weights stand before the counts.
 ready-untouched : {w r after : List ℕ} → countsTo (size w) ≤ length r → Ready w r → Untouched (size w) r after → Ready w after
-ready-untouched {w} long a u = ready-same (countsFrom (size w)) long (omega arith) (u .kept) (u .before) a
+ready-untouched {w} {r} {after} long a u = record {
+  order = same-words (countsFrom (size w)) r after (u .kept) (u .before) 0 (size w - 2) (omega arith) (omega arith) ∙ a .order;
+  weight = λ p h.
+      rw (same-words (countsFrom (size w)) r after (u .kept) (u .before) (weightsFrom (size w) + wordCount * p) wordCount (omega arith) (omega arith)) (a .weight p h);
+}
 
 -- ---- one more node
 

@@ -14,7 +14,7 @@ use Rattle.weights.specs.Passes.{weightsFrom}
 use Rattle.approximation.specs.Cut.{listed, underCountOf}
 use Rattle.approximation.specs.Search.{order}
 use Rattle.cuts.specs.Marks.{markedIn}
-use Rattle.recounts.specs.Kept.{countsFrom, countsTo, Stale}
+use Rattle.recounts.specs.Kept.{countsFrom, countsTo, Stale, Begun}
 use Rattle.trials.specs.Trials.{Ready, Searching}
 
 -- An ordered array can be counted at a place of the room.
@@ -64,9 +64,11 @@ pub record Aiming (w r : List ℕ) (k n v : ℕ) : Type 0 where
   pub searching : Searching w r n v
   pub target : underCountOf w k ≡ accepted (size w) (vars w)
 
--- A count that is above the target.
-pub record Above (w r : List ℕ) (k count n v : ℕ) : Type 0 where
-  pub aiming : Aiming w r k n v
+-- A count that is above the target, and what was counted; before it was the room was start.
+pub record Above (w heads r : List ℕ) (k count n v : ℕ) : Type 0 where
+  pub start : List ℕ
+  pub aiming : Aiming w start k n v
+  pub begun : Begun w heads start r
   pub low : 0 < k
   pub high : k < countOf w
   pub is-count : count ≡ countOf w

@@ -6,7 +6,6 @@ pub mod counting;
 mod rounds;
 
 use amounts::at_most;
-use counting::count_in;
 use cuts::cut::SENT;
 use cuts::cut::constant;
 use diagram::lengths::most;
@@ -19,6 +18,7 @@ use rounds::search;
 use trials::answers::keep;
 use trials::first::unmark;
 use trials::prepare;
+ghost use Prim.Native.Nat.{_<_};
 ghost use Rattle.naturals.specs.Natural.{value};
 ghost use Rattle.approximation.specs.Search.{underToCount};
 ghost use Rattle.trials.specs.Trials.{Found};
@@ -33,21 +33,40 @@ pub struct Answer {
 // The search with all it needs, for a count that is above the target.
 fn seek(
     words: &[u32],
+    heads: &[u32],
     room: &mut [u32],
     target: Natural,
     count: Natural,
     nodes: usize,
     vars: u32,
 ) -> Answer
-    requires { ⌜ Above (now words) (now room) (value (target .words)) (value (count .words)) nodes vars ⌝ }
+    requires { ⌜ Above (now words) (now heads) (now room) (value (target .words)) (value (count .words)) nodes vars ⌝ }
     ensures { λ r. ⌜ Found (now (words .entry)) (underToCount (now (words .entry)) (value (target .words))) (now (room .entry)) (now (room .exit)) (r .nodes) (r .trials) ⌝ }
 {
     let mut sent = [0u32; SENT];
-    let mut heads = [0u32; CHAINS];
     prepare(words, room, nodes, vars);
     unmark(room, nodes);
-    begin(words, &mut heads, room, nodes, vars);
-    search(words, &heads, &mut sent, room, target, count, nodes, vars)
+    search(words, heads, &mut sent, room, target, count, nodes, vars)
+}
+
+// More than two nodes: the count is made first, and where it is above the target the search goes on with what was counted.
+fn count_and_seek(
+    words: &[u32],
+    room: &mut [u32],
+    target: Natural,
+    nodes: usize,
+    vars: u32,
+) -> Answer
+    requires { ⌜ Aiming (now words) (now room) (value (target .words)) nodes vars × (0 < value (target .words)) × (2 < nodes) ⌝ }
+    ensures { λ r. ⌜ Found (now (words .entry)) (underToCount (now (words .entry)) (value (target .words))) (now (room .entry)) (now (room .exit)) (r .nodes) (r .trials) ⌝ }
+{
+    let mut heads = [0u32; CHAINS];
+    let count = begin(words, &mut heads, room, nodes, vars);
+    if at_most(count, target) {
+        keep(words, room, nodes);
+        return Answer { nodes, trials: 0 };
+    }
+    seek(words, &heads, room, target, count, nodes, vars)
 }
 
 pub fn under_count(
@@ -68,10 +87,10 @@ pub fn under_count(
             trials: 0,
         };
     }
-    let count = count_in(words, room, 17 * most, nodes);
-    if at_most(count, target) {
+    // A constant: no target is left but one that is met.
+    if nodes <= 2 {
         keep(words, room, most);
         return Answer { nodes, trials: 0 };
     }
-    seek(words, room, target, count, nodes, vars)
+    count_and_seek(words, room, target, nodes, vars)
 }

@@ -18,15 +18,25 @@ use Rattle.diagram.specs.Valuations.{countOf}
 use Rattle.diagram.proofs.Tests.{by-test, by-eq, or-right}
 use Rattle.diagram.proofs.Reading.{layered, at-end, root-in}
 use Rattle.levels.specs.Chains.{Last, Given}
-use Rattle.counts.specs.Table.{entry, num, In, Noted}
-use Rattle.counts.specs.Worth.{Worths}
+use Rattle.counts.specs.Table.{entry, num, Noted}
+use Rattle.counts.specs.Worth.{doublings, totalOf, Worths}
+use Rattle.counts.proofs.Nodes.{total-valuations, total-fits}
 use Rattle.approximation.specs.Cut.{cut}
 use Rattle.approximation.proofs.Cut.{cut-same}
 use Rattle.cuts.specs.Marks.{markedIn}
 use Rattle.cuts.proofs.Marking.{set-marks}
-use Rattle.recounts.specs.Kept.{leftOf, linksFrom, countsFrom, countsTo, Stale, Renewed, Passing, Recounting, Recounted, Beginning, Begun}
+use Rattle.cuts.proofs.Answering.{drop-more}
+use Rattle.recounts.specs.Kept.{leftOf, rootOf, linksFrom, countsFrom, countsTo, Stale, Rooted, Renewed, Passing, Recounting, Recounted, Beginning, Begun}
 use Rattle.recounts.proofs.Left.{left-cond, left-end, left-none, left-total, left-total-fits}
-use Rattle.recounts.proofs.Passes.{marks-read, untouched-noted, untouched-marks}
+use Rattle.recounts.proofs.Passes.{untouched-noted, untouched-marks}
+
+-- ---- at the root
+
+pub root-done : {w room : List ℕ} {n : ℕ} → Rooted w room n → {below : List ℕ} → Holds (num (countsFrom n) room (n - 1)) below
+    → {above : ℕ} → above ≡ varOf w (n - 1) → {f : Fit} → Fitted (value below * 2 ^ above) f → Holds (rootOf w room n) (f .natural .words)
+root-done {w} {room} {n} a {below} h {above} e {f} fit =
+    let is : value below * 2 ^ above ≡ rootOf w room n = rw (h .worth, e) refl in
+    fitted-below (rw is at fit) (a .fits) .1
 
 -- ---- a count
 
@@ -80,12 +90,17 @@ module _ {w heads changed room : List ℕ} {n v : ℕ} (a : Recounting w heads c
     right : (q : ℕ) → q < size w → Holds (leftOf w (x .renewing .taken) q) (entry (countsFrom (size w)) after q)
     right q h = x .renewing .done q h (record { level = omega arith; turn = λ e. omega arith }) .0
 
-    pub recount-root : In (countsFrom n) after (n - 1)
+    root-left : rootOf w after n ≡ leftOf w (x .renewing .taken) (root w) * 2 ^ varOf w (root w)
+    root-left =
+        ap (λ (k : ℕ). rootOf w after k) (a .given .nodes)
+        ∙ ap (λ (y : ℕ). y * 2 ^ varOf w (root w)) (right (root w) (root-in w o) .worth)
+
+    pub recount-root : Rooted w after n
     recount-root =
         let e = a .given .nodes in
         let two = a .given .two in
         let long = x .renewing .long in
-        omega arith
+        record { some = omega arith; few = recount-few; inside = omega arith; fits = rw root-left (left-total-fits w o (x .renewing .taken)) }
 
     recount-kept : {flags : List ℕ} → Stale w heads flags after
     recount-kept = record {
@@ -106,19 +121,12 @@ module _ {w heads changed room : List ℕ} {n v : ℕ} (a : Recounting w heads c
         (cut-same w o (x .renewing .taken) (markedIn (size w) room) 0 (λ q h. sym (x .renewing .marks q h) ∙ untouched-marks (x .untouched) q h))
         ∙ ap (λ (i : ℕ). countOf (cut w (markedIn i room) 0)) (sym (a .given .nodes))
 
-    pub recount-done : {below : List ℕ} → Holds (num (countsFrom n) after (n - 1)) below → (above : ℕ) → above ≡ varOf w (n - 1)
-        → {f : Fit} → Fitted (value below * 2 ^ above) f → {flags : List ℕ} → Recounted w heads room flags after n (f .natural .words)
-    recount-done {below} h above ea {f} fit {flags} =
-        let m = x .renewing .taken in
-        let root-is : n - 1 ≡ root w = ap (λ (k : ℕ). k - 1) (a .given .nodes) in
-        let noted : num (countsFrom n) after (n - 1) ≡ leftOf w m (root w) =
-        ap (λ (k : ℕ). num (countsFrom k) after (k - 1)) (a .given .nodes) ∙ right (root w) (root-in w o) .worth in
-        let e : value below * 2 ^ above ≡ leftOf w m (root w) * 2 ^ varOf w (root w) = rw (h .worth, noted, ea, root-is) refl in
-        record {
-          count = holds-as (left-total w o m ∙ same-cut) (fitted-below (rw e at fit) (left-total-fits w o m) .1);
-          stale = recount-kept;
-          untouched = rw (a .given .nodes) (x .untouched);
-        }
+    pub recount-done : {words : List ℕ} → Holds (rootOf w after n) words → {flags : List ℕ} → Recounted w heads room flags after n words
+    recount-done h = record {
+      count = holds-as (root-left ∙ left-total w o (x .renewing .taken) ∙ same-cut) h;
+      stale = recount-kept;
+      untouched = rw (a .given .nodes) (x .untouched);
+    }
 
 -- ---- the beginning
 
@@ -151,7 +159,7 @@ module _ {w heads room : List ℕ} {n v : ℕ} (a : Beginning w heads room n v) 
   pub begin-long : n + wordCount * n ≤ length (midOf (linksFrom n) (countsTo n - linksFrom n) room)
   begin-long = let e = mid-len (linksFrom n) (countsTo n) room (a .long) in omega arith
 
-  module _ {heads′ part : List ℕ} (same : length part ≡ length (midOf (linksFrom n) (countsTo n - linksFrom n) room))
+  module _ (heads′ : List ℕ) {part : List ℕ} (same : length part ≡ length (midOf (linksFrom n) (countsTo n - linksFrom n) room))
       (made : ((c : ℕ) → c < vars w → Last w c n (getD heads′ c 0)) × Worths true w part 0 0) where
     pub begun : Begun w heads′ room (putMid (linksFrom n) (countsTo n - linksFrom n) room part)
     begun =
@@ -180,23 +188,44 @@ module _ {w heads room : List ℕ} {n v : ℕ} (a : Beginning w heads room n v) 
               rw is (made .1 .right q h (record { level = omega arith; turn = λ x. omega arith }));
         }
 
-pub begun-marks : {w heads room after : List ℕ} → Begun w heads room after → (q : ℕ) → q < size w → markedIn (size w) after q ≡ markedIn (size w) room q
-begun-marks {w} {heads} {room} {after} b q h = marks-read (size w) room after q (b .before (size w + q) (omega arith))
+-- The count of the whole.
+module _ {w heads room after : List ℕ} {n : ℕ} (given : Given w n) (b : Begun w heads room after) where
+  root-worth : rootOf w after n ≡ totalOf true w
+  unfolding doublings
+  root-worth =
+      ap (λ (k : ℕ). rootOf w after k) (given .nodes)
+      ∙ ap (λ (y : ℕ). y * 2 ^ varOf w (root w)) (b .left (root w) (root-in w (given .ordered)) .worth)
 
--- Nothing is taken, whatever is said to have changed.
-pub begun-stale : {w heads room after : List ℕ} → Given w (size w) → Begun w heads room after
-    → ((q : ℕ) → q < size w → markedIn (size w) room q ≡ false) → (changed : List ℕ) → Stale w heads changed after
-begun-stale {w} {heads} {room} {after} given b free changed = record {
-  chained = b .chained;
+  pub begun-root : countsTo n ≤ length room → Rooted w after n
+  begun-root long =
+      let e = given .nodes in
+      let two = given .two in
+      let few = given .ordered .formed .few in
+      let kept = b .kept in
+      record { some = omega arith; few = omega arith; inside = omega arith; fits = rw root-worth (total-fits w (given .ordered) true) }
+
+  pub begun-count : {words : List ℕ} → Holds (rootOf w after n) words → Holds (countOf w) words
+  begun-count h = holds-as (root-worth ∙ total-valuations w (given .ordered)) h
+
+-- Later, when the words before the links are others and nothing is marked there: nothing is taken, whatever is said to have changed.
+pub begun-stale : {w heads room begun after : List ℕ} → Given w (size w) → Begun w heads room begun
+    → drop (linksFrom (size w)) after ≡ drop (linksFrom (size w)) begun
+    → ((q : ℕ) → q < size w → markedIn (size w) after q ≡ false) → (changed : List ℕ) → Stale w heads changed after
+begun-stale {w} {heads} {room} {begun} {after} given b same free changed = record {
+  chained = record {
+    head = b .chained .head;
+    next = λ p two h.
+        rw (sym (getD-drop (linksFrom (size w)) after p 0) ∙ ap (λ (l : List ℕ). getD l p 0) same ∙ getD-drop (linksFrom (size w)) begun p 0)
+        (b .chained .next p two h);
+  };
   before = λ q. false;
-  ends = λ q t. let two = given .two in marks q (omega arith);
+  ends = λ q t. let two = given .two in free q (omega arith);
   less = λ q h e. absurd (true≢false (sym e));
-  left = λ q h. rw (marks q h) (holds-as (sym (left-none w q)) (b .left q h));
-  same = λ q h f. marks q h;
+  left = λ q h.
+      rw (free q h, drop-more (linksFrom (size w)) (countsFrom (size w) + wordCount * q) after begun (omega arith) same)
+      (holds-as (sym (left-none w q)) (b .left q h));
+  same = λ q h f. free q h;
 }
-  where
-    marks : (q : ℕ) → q < size w → markedIn (size w) after q ≡ false
-    marks q h = begun-marks b q h ∙ free q h
 
 -- ---- one more node is taken
 

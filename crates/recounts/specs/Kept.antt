@@ -3,7 +3,7 @@
 --     [17n, 18n)    the chains' links
 --     [18n, 26n)    what is left at each node
 -- Other lent words, one for each node, are not zero where that has changed.
-use Prim.Native.Nat.{ℕ, suc, _+_, _*_, _≤_, _<_}
+use Prim.Native.Nat.{ℕ, suc, _+_, _-_, _*_, _^_, _≤_, _<_}
 use mathlib.Core.Path.{_≡_}
 use mathlib.Core.Logic.{_≢_}
 use mathlib.Core.Bool.{Bool, true, false, cond}
@@ -104,6 +104,16 @@ pub record Passing (w heads changed room : List ℕ) (n v : ℕ) : Type 0 where
   pub is-vars : v ≡ vars w
   pub head : (i : ℕ) → i < vars w → Last w i (size w) (getD heads i 0)
   pub renewing : Renewing w changed room v 0
+
+-- What is left in all: at the root, doubled for the variables above it.
+abbrev pub rootOf : List ℕ → List ℕ → ℕ → ℕ
+rootOf w room n = num (countsFrom n) room (n - 1) * 2 ^ varOf w (n - 1)
+
+pub record Rooted (w room : List ℕ) (n : ℕ) : Type 0 where
+  pub some : 0 < n
+  pub few : n ≤ maxNodes
+  pub inside : In (countsFrom n) room (n - 1)
+  pub fits : rootOf w room n < limit
 
 -- What a count asks for and gives.
 pub record Recounting (w heads changed room : List ℕ) (n v : ℕ) : Type 0 where

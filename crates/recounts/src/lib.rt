@@ -17,11 +17,12 @@ ghost use mathlib.Core.Path.{_≡_};
 ghost use mathlib.Core.Bool.{true};
 ghost use Prim.Native.Nat.{ℕ, _+_, _*_, _≤_, _<_};
 ghost use lib.ListN.{length, getD, replicate};
-ghost use Rattle.naturals.specs.Natural.{wordCount};
+ghost use Rattle.naturals.specs.Natural.{wordCount, Holds};
 ghost use Rattle.diagram.specs.Diagram.{vars as varsOf};
+ghost use Rattle.diagram.specs.Valuations.{countOf};
 ghost use Rattle.levels.specs.Chains.{chainCount, Last, Given};
 ghost use Rattle.counts.specs.Worth.{Worths};
-ghost use Rattle.recounts.specs.Kept.{Beginning, Begun, Recounting, Recounted};
+ghost use Rattle.recounts.specs.Kept.{rootOf, Rooted, Beginning, Begun, Recounting, Recounted};
 
 // Where the chains' links and what is left at the nodes stand in the working room, in words for each node.
 pub const LINKS: usize = 17;
@@ -39,10 +40,22 @@ fn count_whole(words: &[u32], heads: &mut [u32], part: &mut [u32], nodes: usize,
     count_down(words, heads, part, nodes, vars, true);
 }
 
-// Nothing is taken away yet: the counts of the whole diagram.
-pub fn begin(words: &[u32], heads: &mut [u32], room: &mut [u32], nodes: usize, vars: u32)
+// What is left at the root, doubled for the variables above it.
+fn whole(words: &[u32], room: &[u32], nodes: usize) -> Natural
+    requires { ⌜ Rooted (now words) (now room) nodes ⌝ }
+    ensures { λ r. ⌜ Holds (rootOf (now (words .entry)) (now (room .entry)) nodes) (r .words) ⌝ }
+{
+    let root = BddPointer((nodes - 1) as u32);
+    let below = count_at(room, COUNTS * nodes, root);
+    let above = var_of(words, root);
+    let scaled = shift_left(below, above.0);
+    scaled.natural
+}
+
+// Nothing is taken away yet: the counts of the whole diagram, and its own.
+pub fn begin(words: &[u32], heads: &mut [u32], room: &mut [u32], nodes: usize, vars: u32) -> Natural
     requires { ⌜ Beginning (now words) (now heads) (now room) nodes vars ⌝ }
-    ensures { λ _. ⌜ Begun (now (words .entry)) (now (heads .exit)) (now (room .entry)) (now (room .exit)) ⌝ }
+    ensures { λ r. ⌜ Begun (now (words .entry)) (now (heads .exit)) (now (room .entry)) (now (room .exit)) × Holds (countOf (now (words .entry))) (r .words) ⌝ }
 {
     count_whole(
         words,
@@ -51,6 +64,7 @@ pub fn begin(words: &[u32], heads: &mut [u32], room: &mut [u32], nodes: usize, v
         nodes,
         vars,
     );
+    whole(words, room, nodes)
 }
 
 // The count of the cut by the marks. The cut is not built.
@@ -67,9 +81,5 @@ pub fn recount(
 {
     renew_all(words, heads, changed, room, nodes, vars);
     clear(changed, nodes);
-    let root = BddPointer((nodes - 1) as u32);
-    let below = count_at(room, COUNTS * nodes, root);
-    let above = var_of(words, root);
-    let scaled = shift_left(below, above.0);
-    scaled.natural
+    whole(words, room, nodes)
 }

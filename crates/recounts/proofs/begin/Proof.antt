@@ -1,4 +1,4 @@
-use Rattle.recounts.proofs.Counting.{begin-few, begin-long, begun}
+use Rattle.recounts.proofs.Counting.{begin-few, begin-long, begun, begun-root, begun-count}
 use native.Mathlib.Omega.{arith}
 use borrow.Author.Needs.{needs}
 use Rattle.recounts.proofs.begin.Statement.{statement}
@@ -6,6 +6,7 @@ use Rattle.recounts.proofs.begin.Tie as tie
 use Rattle.recounts.proofs.begin.Reads as reads
 use Rattle.recounts.proofs.begin.Lts as lts
 use Rattle.recounts.proofs.count_whole.Reads as count-whole-reads
+use Rattle.recounts.proofs.whole.Reads as whole-reads
 
 mul-count-whole : tie.Need-mul-count-whole
 mul-count-whole c = omega (arith, begin-few (c .before .before .before .before .pre))
@@ -28,6 +29,9 @@ part-count-whole-end c = c .before .before .before .before .pre .long
 count-whole-requires : tie.Need-count-whole-requires
 count-whole-requires c κs = (c .before .before .before .before .before .pre .given, c .before .before .before .before .before .pre .is-vars, c .before .before .before .before .before .pre .empty, begin-long (c .before .before .before .before .before .pre))
 
+whole-requires : tie.Need-whole-requires
+whole-requires c κs = begun-root (c .before .before .before .before .before .before .before .before .before .before .before .pre .given) (begun (c .before .before .before .before .before .before .before .before .before .before .before .pre) (c .before .before .before .before .before .count-whole .last .1 .0) (c .before .before .before .before .before .count-whole .kept .1 .1 .0) (c .before .before .before .before .before .count-whole .ensures)) (c .before .before .before .before .before .before .before .before .before .before .before .pre .long)
+
 same-length : tie.Need-same-length
 same-length c = search needs
 
@@ -35,7 +39,7 @@ same-length-2 : tie.Need-same-length-2
 same-length-2 c = search needs
 
 returns : tie.Need-returns
-returns c = begun (c .before .before .before .before .before .before .before .before .before .before .pre) (c .before .before .before .before .count-whole .kept .1 .1 .0) (c .before .before .before .before .count-whole .ensures)
+returns c = (begun (c .before .before .before .before .before .before .before .before .before .before .before .before .pre) (c .before .before .before .before .before .before .count-whole .last .1 .0) (c .before .before .before .before .before .before .count-whole .kept .1 .1 .0) (c .before .before .before .before .before .before .count-whole .ensures), begun-count (c .before .before .before .before .before .before .before .before .before .before .before .before .pre .given) (begun (c .before .before .before .before .before .before .before .before .before .before .before .before .pre) (c .before .before .before .before .before .before .count-whole .last .1 .0) (c .before .before .before .before .before .before .count-whole .kept .1 .1 .0) (c .before .before .before .before .before .before .count-whole .ensures)) (c .whole .ensures))
 
 pub begin-spec : {M : Type 1} → statement M
 begin-spec =
@@ -48,6 +52,7 @@ begin-spec =
     part-count-whole-start
     part-count-whole-end
     count-whole-requires
+    whole-requires
     same-length
     same-length-2
     returns)
