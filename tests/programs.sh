@@ -18,6 +18,19 @@ for call in *.call; do
         echo "programs: $name: $(cat "$call"): not what tests/programs has"
     fi
 done
+# Where standard output takes nothing, the one line that says so.
+if [ -w /dev/full ]; then
+    for call in 'weigh' 'shrink keep size 4'; do
+        # shellcheck disable=SC2086
+        "$programs/"$call < ../../examples/D.block > /dev/full 2> "$made/err"
+        if [ "$(cat "$made/err")" = "${call%% *}: standard output could not be written" ]; then
+            passed=$((passed + 1))
+        else
+            failed=$((failed + 1))
+            echo "programs: $call > /dev/full: it is not said that nothing was written"
+        fi
+    done
+fi
 rm -rf "$made"
 echo "programs: $passed passed, $failed failed"
 [ "$failed" -eq 0 ] && [ "$passed" -gt 0 ]

@@ -209,3 +209,38 @@ pub fn diagram(family: Family, n: usize, seed: u64) -> Vec<u32> {
     }
     graph.words(vars, vars / graph.starts.len().min(vars), family, random)
 }
+
+/// A diagram of 4,032 nodes and 255 variables, and a count target to which its search makes thousands of cuts. Fifteen conjunctions
+/// have the same weight w and stand so that priority goes round them; a sixteenth, one condition shorter, has twice as much. To
+/// remove is 15 w + 1: the first round takes a node of each and leaves 1 to remove; then each round takes one node of a conjunction
+/// that is gone already.
+pub fn many_cuts() -> (Vec<u32>, Vec<u32>) {
+    const VARS: usize = 255;
+    const COLUMNS: usize = 16;
+    const TOP: usize = 4;
+    let shorter = |column: usize| column == COLUMNS - 1;
+    let last = |column: usize| if shorter(column) { VARS - 2 } else { VARS - 1 };
+    let mut nodes: Vec<(usize, usize)> = vec![];
+    for level in 0..VARS {
+        let width = if level < TOP { 1 << level } else { COLUMNS };
+        nodes.extend((0..width).filter(|j| level < TOP || level <= last(*j)).map(|j| (level, j)));
+    }
+    let count = nodes.len();
+    let place = |level: usize, j: usize| (count + 1 - nodes.iter().position(|n| *n == (level, j)).unwrap()) as u32;
+    let v = VARS as u32;
+    let mut words = vec![0; 3 * (count + 2)];
+    words[..6].copy_from_slice(&[v, 0, 0, v, 1, 1]);
+    for (level, j) in nodes.iter().copied() {
+        let links = if level < TOP {
+            [place(level + 1, 2 * j), place(level + 1, 2 * j + 1)]
+        } else if level == last(j) {
+            [0, 1]
+        } else {
+            [0, place(level + 1, j)]
+        };
+        let at = 3 * place(level, j) as usize;
+        words[at..at + 3].copy_from_slice(&[level as u32, links[0], links[1]]);
+    }
+    // A conjunction of 251 conditions below four decisions has one valuation, the shorter one two: 17 in all, and 1 is to stay.
+    (words, vec![1])
+}

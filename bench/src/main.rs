@@ -5,6 +5,7 @@ mod ours;
 
 use generate::{diagram, vars_of, Random, FAMILIES};
 use operations::{Case, Lent, Operation, OPERATIONS};
+use num_bigint::BigUint;
 use rust_text::Bdd;
 use std::hint::black_box;
 use std::time::Instant;
@@ -72,6 +73,29 @@ fn compare_damaged(seed: u64, lent: &mut Lent) -> [usize; 2] {
     said
 }
 
+/// One diagram that takes thousands of cuts: one call of each side a pass.
+fn many_cuts(lent: &mut Lent) {
+    let (words, target) = generate::many_cuts();
+    let (bdd, count) = (Bdd::from_words(&words), BigUint::new(target));
+    let nodes = words.len() / 3;
+    let mut times = [[0.0; 2]; 2];
+    let mut trials = 0;
+    for pass in 0..2 {
+        let start = Instant::now();
+        let theirs = black_box(bdd.underapproximate_to_cardinality(&count));
+        times[0][pass] = start.elapsed().as_nanos() as f64;
+        let (room, output) = (&mut lent.room[..64 * nodes], &mut lent.output[..3 * nodes]);
+        let start = Instant::now();
+        let made = black_box(ours::underapproximate_to_cardinality(&words, operations::natural(&count), room, output));
+        times[1][pass] = start.elapsed().as_nanos() as f64;
+        assert_eq!(&lent.output[..3 * made.nodes], theirs.to_words());
+        trials = made.trials;
+    }
+    let [rust, ours] = times.map(least);
+    println!("\nmany cuts: columns of conjunctions, {nodes} nodes, {} variables, to count {count}: {trials} cuts", words[0]);
+    println!("Rust text {} ns, ours {} ns, ours / Rust {:.3}: the smaller of two calls each", ns(rust), ns(ours), ours / rust);
+}
+
 fn main() {
     let seed = std::env::args().nth(1).map_or(2026, |s| s.parse().expect("the seed is a number"));
     let wanted = std::env::args().nth(2);
@@ -118,7 +142,12 @@ fn main() {
             }
         }
     }
-    print(&rows);
+    if !rows.is_empty() {
+        print(&rows);
+    }
+    if wanted.map_or(true, |w| w == "many cuts") {
+        many_cuts(&mut lent);
+    }
 }
 
 fn ns(x: f64) -> String {

@@ -176,7 +176,7 @@ pub const OPERATIONS: [Operation; 11] = [
 ];
 
 /// A count target as eight words.
-fn natural(count: &BigUint) -> ours::Natural {
+pub fn natural(count: &BigUint) -> ours::Natural {
     let mut words = [0; 8];
     count.iter_u32_digits().zip(&mut words).for_each(|(digit, word)| *word = digit);
     ours::Natural { words }

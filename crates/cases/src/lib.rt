@@ -1,6 +1,8 @@
 // Cases of a test program as lines of decimal numbers, and what a test looks at in a lent room.
-ghost use Prim.Native.Nat.{_≤_, _<_};
-ghost use lib.ListN.{length};
+ghost use mathlib.Core.Path.{_≡_};
+ghost use Prim.Native.Nat.{_≤_, _<_, min};
+ghost use lib.ListN.{length, drop, replicate};
+ghost use Rattle.cases.specs.Lines.{isDigit, withDigit, numberAt, after, lineEnds, Reads, runOf};
 
 // A number of the text and where the next one begins.
 pub struct Token {
@@ -14,14 +16,16 @@ pub struct Line {
     pub next: usize,
 }
 
-fn is_digit(byte: u8) -> bool {
+fn is_digit(byte: u8) -> bool
+    ensures { λ r. ⌜ r ≡ isDigit byte ⌝ }
+{
     48 <= byte && byte <= 57
 }
 
 // A value with one decimal digit more, within 32 bits.
 fn with_digit(value: u64, byte: u8) -> u64
     requires { ⌜ value < 4294967296 ⌝ }
-    ensures { λ r. ⌜ r < 4294967296 ⌝ }
+    ensures { λ r. ⌜ (r < 4294967296) × (r ≡ withDigit value byte) ⌝ }
 {
     (value * 10 + byte as u64) % 4294967296
 }
@@ -29,7 +33,7 @@ fn with_digit(value: u64, byte: u8) -> u64
 // The digits from a place on, and the one byte after them.
 pub fn number(text: &[u8], from: usize) -> Token
     requires { ⌜ from < length (now text) ⌝ }
-    ensures { λ r. ⌜ (from < r .next) × (r .next ≤ length (now (text .entry))) ⌝ }
+    ensures { λ r. ⌜ (from < r .next) × (r .next ≤ length (now (text .entry))) × (r .value ≡ numberAt (now (text .entry)) from) × (r .next ≡ after (now (text .entry)) from) ⌝ }
 {
     let mut value: u64 = 0;
     let mut at = from;
@@ -51,7 +55,9 @@ pub fn number(text: &[u8], from: usize) -> Token
 }
 
 // Whether a line ends right before a place.
-pub fn line_ends(text: &[u8], at: usize) -> bool {
+pub fn line_ends(text: &[u8], at: usize) -> bool
+    ensures { λ r. ⌜ r ≡ lineEnds (now (text .entry)) at ⌝ }
+{
     if at == 0 {
         return true;
     }
@@ -64,7 +70,7 @@ pub fn line_ends(text: &[u8], at: usize) -> bool {
 // The numbers up to the line's end, as words.
 pub fn words_of(text: &[u8], from: usize, words: &mut [u32]) -> Line
     requires { ⌜ from ≤ length (now text) ⌝ }
-    ensures { λ r. ⌜ (r .count ≤ length (now (words .exit))) × (from ≤ r .next) × (r .next ≤ length (now (text .entry))) ⌝ }
+    ensures { λ r. ⌜ (r .count ≤ length (now (words .exit))) × (from ≤ r .next) × (r .next ≤ length (now (text .entry))) × Reads (now (text .entry)) from (now (words .entry)) (now (words .exit)) (r .count) (r .next) ⌝ }
 {
     let mut count = 0;
     let mut at = from;
@@ -83,7 +89,9 @@ pub fn words_of(text: &[u8], from: usize, words: &mut [u32]) -> Line
     Line { count, next: at }
 }
 
-pub fn fill(room: &mut [u32], word: u32) {
+pub fn fill(room: &mut [u32], word: u32)
+    ensures { λ _. ⌜ now (room .exit) ≡ replicate (length (now (room .entry))) word ⌝ }
+{
     let mut i = 0;
     while i < room.len() {
         room[i] = word;
@@ -92,7 +100,9 @@ pub fn fill(room: &mut [u32], word: u32) {
 }
 
 // How many words from a place on equal a word.
-pub fn run_of(room: &[u32], from: usize, word: u32) -> usize {
+pub fn run_of(room: &[u32], from: usize, word: u32) -> usize
+    ensures { λ r. ⌜ r ≡ runOf (drop from (now (room .entry))) word ⌝ }
+{
     let mut i = from;
     while i < room.len() {
         if room[i] != word {
@@ -104,7 +114,7 @@ pub fn run_of(room: &[u32], from: usize, word: u32) -> usize {
 }
 
 pub fn least(a: usize, b: usize) -> usize
-    ensures { λ r. ⌜ (r ≤ a) × (r ≤ b) ⌝ }
+    ensures { λ r. ⌜ (r ≤ a) × (r ≤ b) × (r ≡ min a b) ⌝ }
 {
     if a < b { a } else { b }
 }

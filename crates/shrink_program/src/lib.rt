@@ -32,10 +32,12 @@ fn blank_word() -> [u8; WORD] {
     [0u8; WORD]
 }
 
-fn show(channel: i32, bytes: &[u8], end: usize) {
-    if end <= bytes.len() {
-        io::write_all(channel, &bytes[..end]);
+// Whether all of it was written.
+fn show(channel: i32, bytes: &[u8], end: usize) -> bool {
+    if bytes.len() < end {
+        return false;
     }
+    io::write_all(channel, &bytes[..end])
 }
 
 fn help() {
@@ -56,11 +58,22 @@ fn unknown() {
     );
 }
 
+fn unwritten() {
+    io::write_all(
+        STDERR_FILENO,
+        b"shrink: standard output could not be written\n",
+    );
+}
+
+// The summary says what was cut, so it is given only where the file is.
 fn run(bytes: &[u8], request: Request) {
     let mut file = blank_file();
     let mut text = blank_text();
     let ends = shrink(bytes, request, &mut file, &mut text);
-    show(STDOUT_FILENO, &file, ends.file);
+    if !show(STDOUT_FILENO, &file, ends.file) {
+        unwritten();
+        return;
+    }
     show(STDERR_FILENO, &text, ends.text);
 }
 

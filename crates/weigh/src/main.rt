@@ -1,5 +1,6 @@
 // Reads a block file on standard input and prints the count of its diagram and the weight of each node, or the one line
 // of its refusal. At most three blocks are read, and a little more to see whether bytes stand after them.
+use libc::STDERR_FILENO;
 use libc::STDOUT_FILENO;
 use report::weigh::report;
 
@@ -16,15 +17,22 @@ fn blank_text() -> [u8; TEXT] {
     [0u8; TEXT]
 }
 
-fn show(text: &[u8], end: usize) {
-    if end <= text.len() {
-        io::write_all(STDOUT_FILENO, &text[..end]);
+// Whether all of it was written.
+fn show(text: &[u8], end: usize) -> bool {
+    if text.len() < end {
+        return false;
     }
+    io::write_all(STDOUT_FILENO, &text[..end])
 }
 
 fn weigh(bytes: &[u8], text: &mut [u8]) {
     let end = report(text, bytes);
-    show(text, end);
+    if !show(text, end) {
+        io::write_all(
+            STDERR_FILENO,
+            b"weigh: standard output could not be written\n",
+        );
+    }
 }
 
 fn main() {
