@@ -2,6 +2,16 @@ use Prim.Native.Nat.{_-_, _≤_}
 use borrow.Author.Needs.{needs}
 use Rattle.naturals_run.proofs.main.Statement.{statement}
 use Rattle.naturals_run.proofs.main.Tie as tie
+use Rattle.naturals_run.proofs.main.Reads as reads
+use Rattle.naturals_run.proofs.main.Lts as lts
+use Rattle.naturals_run.proofs.alone.Reads as alone-reads
+use Rattle.naturals_run.proofs.just_enough.Reads as just-enough-reads
+use Rattle.naturals_run.proofs.lowest_words.Reads as lowest-words-reads
+use Rattle.naturals_run.proofs.pairs.Reads as pairs-reads
+use Rattle.naturals_run.proofs.places.Reads as places-reads
+use Rattle.naturals_run.proofs.powers.Reads as powers-reads
+use Rattle.naturals_run.proofs.shifts.Reads as shifts-reads
+use Rattle.naturals_run.proofs.too_short.Reads as too-short-reads
 
 abbrev Inv-loop : tie.InvT-loop
 Inv-loop i₀ i = i ≤ 12
@@ -36,6 +46,9 @@ powers-requires c κs = search needs
 places-requires : tie.Need-places-requires Inv-loop μ-loop
 places-requires c κs = search needs
 
+lowest-words-requires : tie.Need-lowest-words-requires Inv-loop μ-loop
+lowest-words-requires c κs = search needs
+
 too-short-requires : tie.Need-too-short-requires Inv-loop μ-loop
 too-short-requires c κs = search needs
 
@@ -60,6 +73,7 @@ main-spec =
     loop-again
     powers-requires
     places-requires
+    lowest-words-requires
     too-short-requires
     just-enough-requires
     returns)
