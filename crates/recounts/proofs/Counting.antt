@@ -232,9 +232,6 @@ begun-stale {w} {heads} {room} {begun} {after} given b same free changed = recor
 module _ {w heads changed room : List ℕ} (x : Stale w heads changed room) {p : ℕ} (two : 2 ≤ p) (inside : p < size w)
     (long : countsTo (size w) ≤ length room) (flags : size w ≤ length changed)
     {changed′ after : List ℕ} (flag : changed′ ≡ set changed p 1) (k : Noted (countsFrom (size w)) (set room (size w + p) 1) p 0 after) where
-  marked : List ℕ
-  marked = set room (size w + p) 1
-
   taken-marks : (q : ℕ) → q < size w → markedIn (size w) after q ≡ (markedIn (size w) room q || eqb q p)
   taken-marks q h = untouched-marks (untouched-noted inside k) q h ∙ set-marks (size w) room p q (omega arith)
 
