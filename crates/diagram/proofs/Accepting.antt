@@ -9,13 +9,15 @@ use lib.ListN.{length, drop, replicate}
 use lib.Dec.{leb, ltb, eqb}
 use Rattle.diagram.specs.Limits.{maxNodes, maxVariables}
 use Rattle.diagram.specs.Diagram.{varOf, lowOf, highOf, size, vars, Terminal, InRange, Formed}
-use Rattle.diagram.specs.Verdict.{Outcome, said, Checked, accepted, refused, row, roomOf, short, lengthsOf, isTerminal, terminalsOf, firstNode, faultOf, rangesOf, graphOf, contentsOf, verdictOf}
+use Rattle.diagram.specs.Verdict.{Outcome, said, Checked, accepted, refused, row, roomOf, short, lengthsOf, isTerminal, terminalsOf, firstNode, rangesOf, graphOf, contentsOf, verdictOf}
+use Rattle.diagram.specs.Faults.{faultOf, isFaulty}
 use Rattle.diagram.specs.Marking.{Sized}
 use Rattle.diagram.specs.declared.verdict.Output.{Output}
 use Rattle.diagram.specs.declared.verdict.Verdict.{Verdict}
 use Rattle.diagram.specs.declared.verdict.Verdict.the-variants.{Accepted, Refused}
 use Rattle.diagram.proofs.Tests.{by-test, and-both, cond-true, cond-false}
 use Rattle.diagram.proofs.Count.{first-least}
+use Rattle.diagram.proofs.Faulty.{ranges-by}
 
 never : (n v k p : ℕ) → refused k p ≡ accepted n v → ⊥
 never n v k p e = let z : _≡_ {A = ℕ} 0 1 = cc in omega arith
@@ -110,10 +112,9 @@ no-fault n v w p e =
     wrong k l z = omega arith
 
 pub ranges-accepted : (w : List ℕ) (n v : ℕ) → rangesOf w ≡ accepted n v → Ranged w n v
-unfolding rangesOf
 ranges-accepted w n v e =
-    let t : ℕ → Bool = λ p. not (eqb (faultOf (size w) (vars w) w p) 0) in
-    let r = row-passed (faultOf (size w) (vars w) w (firstNode w t)) (ltb (firstNode w t) (size w)) (firstNode w t) (accepted (size w) (vars w)) n v e in
+    let t : ℕ → Bool = isFaulty (size w) (vars w) w in
+    let r = row-passed (faultOf (size w) (vars w) w (firstNode w t)) (ltb (firstNode w t) (size w)) (firstNode w t) (accepted (size w) (vars w)) n v (sym (ranges-by w) ∙ e) in
     let l = ltb-false (firstNode w t) (size w) (r .0) in
     let same : accepted (size w) (vars w) ≡ accepted n v = r .1 in
     record {

@@ -8,9 +8,11 @@
 --     Reaching    the test `reaches` says `Reach`
 --     Marking     the search for reachable nodes
 --     Breaks      the tests of check 11
+--     Faulty      8 to 10 by the first node with a fault
 --     Rows        the returns of the checks are the rows of the verdict
 --     Accepting   what an acceptance tells
 --     Meaning     the verdict in document 01's words
+--     Promised    demand 1
 --     Entering    what the check tells an operation that begins with it
 --     Parents     an acceptance without a search
 pub mod Words
@@ -22,8 +24,10 @@ pub mod Meeting
 pub mod Reaching
 pub mod Marking
 pub mod Breaks
+pub mod Faulty
 pub mod Rows
 pub mod Accepting
 pub mod Meaning
+pub mod Promised
 pub mod Entering
 pub mod Parents

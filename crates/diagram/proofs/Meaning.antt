@@ -9,11 +9,15 @@ use native.Mathlib.Omega.{arith}
 use borrow.Author.Tests.{ltb-true, ltb-false, lt-ltb, le-ltb, eq-eqb, ne-eqb, not-true, not-false}
 use lib.ListN.{length}
 use lib.Dec.{ltb, eqb}
+use Rattle.diagram.specs.Limits.{maxNodes, maxVariables}
 use Rattle.diagram.specs.Diagram.{varOf, lowOf, highOf, size, vars, root, Reach, Terminal, Above, Formed, Accepted}
-use Rattle.diagram.specs.Verdict.{Outcome, accepted, refused, row, andThen, roomOf, short, lengthsOf, isTerminal, terminalsOf, firstNode, faultOf, rangesOf, reaches, isAbove, isBroken, graphOf, contentsOf, verdictOf}
+use Rattle.diagram.specs.Verdict.{Outcome, accepted, refused, row, andThen, roomOf, short, lengthsOf, isTerminal, terminalsOf, firstNode, rangesOf, reaches, isAbove, isBroken, graphOf, contentsOf, verdictOf}
+use Rattle.diagram.specs.Demand1.{Smallest, Broken, Lost}
+use Rattle.diagram.specs.Faults.{faultOf, isFaulty}
 use Rattle.diagram.specs.declared.verdict.Output.{Output}
 use Rattle.diagram.proofs.Tests.{by-test, not-both, and-both, both-and}
 use Rattle.diagram.proofs.Count.{first-from, first-least, first-passes, first-is}
+use Rattle.diagram.proofs.Faulty.{ranges-by}
 use Rattle.diagram.proofs.Rows.{fault-none}
 use Rattle.diagram.proofs.Reaching.{reaches-sound, reaches-complete}
 use Rattle.diagram.proofs.Accepting.{lengths-accepted, lent-accepted, terminals-accepted, ranges-accepted}
@@ -25,24 +29,11 @@ above-told w p e =
     let b = and-both (ltb (varOf w p) (varOf w (lowOf w p))) (ltb (varOf w p) (varOf w (highOf w p))) e in
     record { low = ltb-true (varOf w p) (varOf w (lowOf w p)) (b .0); high = ltb-true (varOf w p) (varOf w (highOf w p)) (b .1) }
 
-above-tells : (w : List ℕ) (p : ℕ) → Above w p → isAbove w p ≡ true
+pub above-tells : (w : List ℕ) (p : ℕ) → Above w p → isAbove w p ≡ true
 unfolding isAbove
 above-tells w p a =
     both-and (ltb (varOf w p) (varOf w (lowOf w p))) (ltb (varOf w p) (varOf w (highOf w p)))
     (lt-ltb (varOf w p) (varOf w (lowOf w p)) (a .low)) (lt-ltb (varOf w p) (varOf w (highOf w p)) (a .high))
-
--- p is the smallest non-terminal with a property
-pub record Smallest (w : List ℕ) (P : ℕ → Type 0) (p : ℕ) : Type 0 where
-  pub node : (2 ≤ p) × (p < size w)
-  pub holds : P p
-  pub least : (q : ℕ) → 2 ≤ q → q < p → P q → ⊥
-
--- a reachable node with a child that is not at a larger variable; a node out of reach
-abbrev pub Broken : List ℕ → ℕ → Type 0
-Broken w p = Reach w (root w) p × ¬ Above w p
-
-abbrev pub Lost : List ℕ → ℕ → Type 0
-Lost w p = ¬ Reach w (root w) p
 
 module _ (w : List ℕ) (formed : Formed w) where
   reach-test : (p : ℕ) → reaches w p ≡ false → Reach w (root w) p → ⊥
@@ -163,7 +154,7 @@ module _ (w : List ℕ) (formed : Formed w) where
           graph-12 (none-is (Broken w) (isBroken w) broken-told broken-tells (s .0)) (omega (arith, q, s .1 .node .1))
           ∙ ap (λ (x : ℕ). refused 12 x) q
 
-  graph-accepted : (n v : ℕ) → graphOf w ≡ accepted n v → Accepted w
+  pub graph-accepted : (n v : ℕ) → graphOf w ≡ accepted n v → Accepted w
   unfolding broken-at lost-at
   graph-accepted n v e =
       by-graph
@@ -190,7 +181,7 @@ module _ (w : List ℕ) (formed : Formed w) where
       (none-is (Lost w) (λ p′. not (reaches w p′)) lost-told lost-tells (λ p two m l. l (a .reached p two m)))
 
 -- both of two checks accept
-both-accept : (a b : Outcome) (n v : ℕ) → andThen a b ≡ accepted n v → ((m : ℕ) × (u : ℕ) × (a ≡ accepted m u)) × (b ≡ accepted n v)
+pub both-accept : (a b : Outcome) (n v : ℕ) → andThen a b ≡ accepted n v → ((m : ℕ) × (u : ℕ) × (a ≡ accepted m u)) × (b ≡ accepted n v)
 both-accept (accepted m u) b n v e = ((m, u, refl), e)
 both-accept (refused k p) b n v e = let z : _≡_ {A = ℕ} 0 1 = cc in absurd (omega arith)
 
@@ -233,38 +224,36 @@ terminal-tells w p t =
     both-and (eqb (varOf w p) (vars w)) (eqb (lowOf w p) p && eqb (highOf w p) p) (eq-eqb (varOf w p) (vars w) (t .var))
     (both-and (eqb (lowOf w p) p) (eqb (highOf w p) p) (eq-eqb (lowOf w p) p (t .low)) (eq-eqb (highOf w p) p (t .high)))
 
-accepted-lengths : (w : List ℕ) (o : Output) (room : ℕ) → Formed w → short w o ≡ false → roomOf w ≤ room → lengthsOf w o room ≡ accepted (size w) (vars w)
+pub accepted-lengths : (w : List ℕ) (o : Output) (room : ℕ) → Formed w → short w o ≡ false → roomOf w ≤ room → lengthsOf w o room ≡ accepted (size w) (vars w)
 unfolding lengthsOf row
 accepted-lengths w o room f s l =
     simp (
       ne-eqb (length w) 0 (λ x. omega (arith, f .whole, f .some)),
       eq-eqb (length w % 3) 0 (omega (arith, f .whole)),
-      le-ltb 4096 (size w) (f .few),
+      le-ltb maxNodes (size w) (f .few),
       s,
       le-ltb room (roomOf w) l,
     )
 
-accepted-terminals : (w : List ℕ) → Formed w → terminalsOf w ≡ accepted (size w) (vars w)
+pub accepted-terminals : (w : List ℕ) → Formed w → terminalsOf w ≡ accepted (size w) (vars w)
 unfolding terminalsOf row
 accepted-terminals w f =
     by-test (ltb 1 (size w))
-    (λ e. simp (terminal-tells w 0 (f .zero-terminal), e, terminal-tells w 1 (f .one-terminal (ltb-true 1 (size w) e)), le-ltb 255 (vars w) (f .variables)))
-    (λ e. simp (terminal-tells w 0 (f .zero-terminal), e, le-ltb 255 (vars w) (f .variables)))
+    (λ e. simp (terminal-tells w 0 (f .zero-terminal), e, terminal-tells w 1 (f .one-terminal (ltb-true 1 (size w) e)), le-ltb maxVariables (vars w) (f .variables)))
+    (λ e. simp (terminal-tells w 0 (f .zero-terminal), e, le-ltb maxVariables (vars w) (f .variables)))
 
-accepted-ranges : (w : List ℕ) → Formed w → rangesOf w ≡ accepted (size w) (vars w)
-unfolding rangesOf row
-accepted-ranges w f = simp (le-ltb (firstNode w faulty) (size w) none)
+pub accepted-ranges : (w : List ℕ) → Formed w → rangesOf w ≡ accepted (size w) (vars w)
+unfolding row
+accepted-ranges w f = simp (ranges-by w, le-ltb (firstNode w (isFaulty (size w) (vars w) w)) (size w) none)
   where
-    faulty : ℕ → Bool
-    faulty p = not (eqb (faultOf (size w) (vars w) w p) 0)
-
-    right : (p : ℕ) → 2 ≤ p → p < size w → faulty p ≡ false
+    right : (p : ℕ) → 2 ≤ p → p < size w → isFaulty (size w) (vars w) w p ≡ false
     right p two m =
         let i = f .ranges p two m in
         ap not (eq-eqb (faultOf (size w) (vars w) w p) 0 (sym (fault-none (size w) (vars w) w p (varOf w p) refl (i .var) (lowOf w p) refl (i .low) (highOf w p) refl (i .high))))
 
-    none : size w ≤ firstNode w faulty
+    none : size w ≤ firstNode w (isFaulty (size w) (vars w) w)
     none =
+        let faulty : ℕ → Bool = isFaulty (size w) (vars w) w in
         by-test (ltb (firstNode w faulty) (size w))
         (λ e.
         let l = ltb-true (firstNode w faulty) (size w) e in

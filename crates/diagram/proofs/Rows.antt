@@ -9,13 +9,15 @@ use borrow.Author.Tests.{lt-ltb, le-ltb, le-leb, lt-leb, eq-eqb, ne-eqb}
 use lib.ListN.{length, getD, take, drop, length-take, length-drop}
 use lib.Seq.{getD-take, getD-drop}
 use lib.Dec.{ltb, eqb}
-use Rattle.diagram.specs.Limits.{maxNodes}
+use Rattle.diagram.specs.Limits.{maxNodes, maxVariables, roomPerNode}
 use Rattle.diagram.specs.Diagram.{varOf, lowOf, highOf, size, vars}
-use Rattle.diagram.specs.Verdict.{accepted, refused, row, short, lengthsOf, isTerminal, terminalsOf, first, firstNode, faultOf, rangesOf, reaches, isBroken, graphOf}
+use Rattle.diagram.specs.Verdict.{accepted, refused, row, short, lengthsOf, isTerminal, terminalsOf, first, firstNode, rangesOf, reaches, isBroken, graphOf}
+use Rattle.diagram.specs.Faults.{faultOf, isFaulty}
 use Rattle.diagram.specs.Marking.{Marks}
 use Rattle.diagram.specs.declared.verdict.Output.{Output}
 use Rattle.diagram.specs.declared.verdict.Output.the-variants.{Nothing, Diagram, Weights, PerVariable}
 use Rattle.diagram.proofs.Count.{first-shift, first-from, first-same}
+use Rattle.diagram.proofs.Faulty.{ranges-by}
 
 -- 4: by what is lent
 module _ (w : List ℕ) (o : Output) where
@@ -31,7 +33,7 @@ module _ (w : List ℕ) (o : Output) where
   unfolding short
   short-weights lent e = rw e
 
-  pub short-per-variable : (lent : ℕ) → o ≡ PerVariable lent → ltb lent 255 ≡ short w o
+  pub short-per-variable : (lent : ℕ) → o ≡ PerVariable lent → ltb lent maxVariables ≡ short w o
   unfolding short
   short-per-variable lent e = rw e
 
@@ -49,21 +51,21 @@ module _ (w : List ℕ) (o : Output) (room : ℕ) where
     module _ (b : length w % 3 ≡ 0) where
       pub refuse-3 : maxNodes < size w → refused 3 0 ≡ lengthsOf w o room
       unfolding lengthsOf row
-      refuse-3 c = simp (ne-eqb (length w) 0 a, eq-eqb (length w % 3) 0 b, lt-ltb 4096 (size w) c)
+      refuse-3 c = simp (ne-eqb (length w) 0 a, eq-eqb (length w % 3) 0 b, lt-ltb maxNodes (size w) c)
 
       module _ (c : size w ≤ maxNodes) where
         pub refuse-4 : (s : Bool) → s ≡ short w o → s ≡ true → refused 4 0 ≡ lengthsOf w o room
         unfolding lengthsOf row
-        refuse-4 s e d = simp (ne-eqb (length w) 0 a, eq-eqb (length w % 3) 0 b, le-ltb 4096 (size w) c, sym e ∙ d)
+        refuse-4 s e d = simp (ne-eqb (length w) 0 a, eq-eqb (length w % 3) 0 b, le-ltb maxNodes (size w) c, sym e ∙ d)
 
         module _ (s : Bool) (e : s ≡ short w o) (d : s ≡ false) (m : ℕ) (em : m ≡ max (size w) 2) where
-          pub refuse-5 : room < 64 * m → refused 5 0 ≡ lengthsOf w o room
+          pub refuse-5 : room < roomPerNode * m → refused 5 0 ≡ lengthsOf w o room
           unfolding lengthsOf row
-          refuse-5 f = simp (ne-eqb (length w) 0 a, eq-eqb (length w % 3) 0 b, le-ltb 4096 (size w) c, sym e ∙ d, lt-ltb room (64 * max (size w) 2) (rw em at f))
+          refuse-5 f = simp (ne-eqb (length w) 0 a, eq-eqb (length w % 3) 0 b, le-ltb maxNodes (size w) c, sym e ∙ d, lt-ltb room (roomPerNode * max (size w) 2) (rw em at f))
 
-          pub pass-5 : 64 * m ≤ room → (v : ℕ) → v ≡ vars w → accepted (size w) v ≡ lengthsOf w o room
+          pub pass-5 : roomPerNode * m ≤ room → (v : ℕ) → v ≡ vars w → accepted (size w) v ≡ lengthsOf w o room
           unfolding lengthsOf row
-          pass-5 f v ev = simp (ne-eqb (length w) 0 a, eq-eqb (length w % 3) 0 b, le-ltb 4096 (size w) c, sym e ∙ d, le-ltb room (64 * max (size w) 2) (rw em at f)) (ap (λ (x : ℕ). accepted (size w) x) ev)
+          pass-5 f v ev = simp (ne-eqb (length w) 0 a, eq-eqb (length w % 3) 0 b, le-ltb maxNodes (size w) c, sym e ∙ d, le-ltb room (roomPerNode * max (size w) 2) (rw em at f)) (ap (λ (x : ℕ). accepted (size w) x) ev)
 
 -- 6 and 7: a node is a terminal
 module _ (w : List ℕ) (p var v : ℕ) (e₁ : var ≡ varOf w p) (e₂ : v ≡ vars w) where
@@ -101,13 +103,13 @@ module _ (w : List ℕ) where
       refuse-6-one b = simp (← e₀, a, ← e₁, b)
 
       module _ (b : lacks ≡ false) (v : ℕ) (ev : v ≡ vars w) where
-        pub refuse-7 : 255 < v → refused 7 0 ≡ terminalsOf w
+        pub refuse-7 : maxVariables < v → refused 7 0 ≡ terminalsOf w
         unfolding terminalsOf row
-        refuse-7 l = simp (← e₀, a, ← e₁, b, lt-ltb 255 (vars w) (rw ev at l))
+        refuse-7 l = simp (← e₀, a, ← e₁, b, lt-ltb maxVariables (vars w) (rw ev at l))
 
-        pub pass-7 : v ≤ 255 → accepted (size w) v ≡ terminalsOf w
+        pub pass-7 : v ≤ maxVariables → accepted (size w) v ≡ terminalsOf w
         unfolding terminalsOf row
-        pass-7 l = simp (← e₀, a, ← e₁, b, le-ltb 255 (vars w) (rw ev at l)) (ap (λ (x : ℕ). accepted (size w) x) ev)
+        pass-7 l = simp (← e₀, a, ← e₁, b, le-ltb maxVariables (vars w) (rw ev at l)) (ap (λ (x : ℕ). accepted (size w) x) ev)
 
 -- 8 to 10: what is out of range at a node
 module _ (n v : ℕ) (w : List ℕ) (p var : ℕ) (e₁ : var ≡ varOf w p) where
@@ -149,35 +151,35 @@ module _ (w : List ℕ) where
       word-at i j e m = ap (λ (x : ℕ). getD w x 0) e ∙ sym (stretch-word j m)
 
   pub stretch-first : (n v : ℕ) → 2 < size w
-      → firstNode w (λ p. not (eqb (faultOf n v w p) 0)) ≡ 2 + first (λ p. not (eqb (faultOf n v stretch p) 0)) 0 (length stretch / 3)
+      → firstNode w (isFaulty n v w) ≡ 2 + first (isFaulty n v stretch) 0 (length stretch / 3)
   stretch-first n v l =
       let e : length stretch / 3 ≡ size w - 2 = simp (length-take, length-drop) (omega arith) in
       rw e
-      (first-shift (λ p. not (eqb (faultOf n v w p) 0)) (λ p. not (eqb (faultOf n v stretch p) 0)) 2 0 (size w - 2)
+      (first-shift (isFaulty n v w) (isFaulty n v stretch) 2 0 (size w - 2)
       (λ p a b. ap (λ (x : ℕ). not (eqb x 0)) (stretch-fault n v p (omega arith))))
 
 -- 8 to 10
 module _ (w : List ℕ) (v : ℕ) (ev : v ≡ vars w) where
   abbrev fault : ℕ → Bool
-  fault p = not (eqb (faultOf (size w) (vars w) w p) 0)
+  fault = isFaulty (size w) (vars w) w
 
   pub ranges-few : size w ≤ 2 → accepted (size w) v ≡ rangesOf w
-  unfolding rangesOf row
+  unfolding row
   ranges-few l =
-      simp (le-ltb (firstNode w fault) (size w) (omega (arith, first-from fault 2 (size w - 2) .0))) (ap (λ (x : ℕ). accepted (size w) x) ev)
+      simp (ranges-by w, le-ltb (firstNode w fault) (size w) (omega (arith, first-from fault 2 (size w - 2) .0))) (ap (λ (x : ℕ). accepted (size w) x) ev)
 
-  module _ (more : 2 < size w) (at : ℕ) (ea : at ≡ first (λ p. not (eqb (faultOf (size w) v (stretch w) p) 0)) 0 (length (stretch w) / 3)) where
+  module _ (more : 2 < size w) (at : ℕ) (ea : at ≡ first (isFaulty (size w) v (stretch w)) 0 (length (stretch w) / 3)) where
     place-is : firstNode w fault ≡ at + 2
     place-is =
         stretch-first w (size w) (vars w) more ∙ ap (λ (x : ℕ). 2 + x) (rw (← ev) (sym ea)) ∙ add-comm 2 at
 
     pub ranges-bad : (number : ℕ) → at + 2 < size w → number ≡ faultOf (size w) v w (at + 2) → refused number (at + 2) ≡ rangesOf w
-    unfolding rangesOf row
-    ranges-bad number l e = simp (place-is, lt-ltb (at + 2) (size w) l) (rw (e, ev))
+    unfolding row
+    ranges-bad number l e = simp (ranges-by w, place-is, lt-ltb (at + 2) (size w) l) (rw (e, ev))
 
     pub ranges-good : size w ≤ at + 2 → accepted (size w) v ≡ rangesOf w
-    unfolding rangesOf row
-    ranges-good l = simp (place-is, le-ltb (at + 2) (size w) l) (ap (λ (x : ℕ). accepted (size w) x) ev)
+    unfolding row
+    ranges-good l = simp (ranges-by w, place-is, le-ltb (at + 2) (size w) l) (ap (λ (x : ℕ). accepted (size w) x) ev)
 
     pub place-fits : at ≤ size w
     place-fits = omega (arith, place-is, first-from fault 2 (size w - 2) .1)

@@ -51,9 +51,12 @@ pub record Onward (w : List ℕ) (spent : ℕ) (r : List ℕ) (top : ℕ) (r′ 
 abbrev pub Marks : List ℕ → List ℕ → Type 0
 Marks w r = (p : ℕ) → p < size w → eqb (getD r p 0) 0 ≡ not (reaches w p)
 
--- The non-terminals before k have both children at a larger variable, and a mark says that a node has a parent.
+-- The non-terminals before k have both children at a larger variable, and these have a mark; a mark says that a node has a
+-- parent.
 pub record Linked (w r : List ℕ) (k : ℕ) : Type 0 where
+  pub two : 2 ≤ k
   pub above : (p : ℕ) → 2 ≤ p → p < k → isAbove w p ≡ true
+  pub children : (p : ℕ) → 2 ≤ p → p < k → Marked r (lowOf w p) × Marked r (highOf w p)
   pub parent : (p : ℕ) → p < size w → Marked r p → (q : ℕ) × (2 ≤ q) × (q < size w) × ((lowOf w q ≡ p) ⊎ (highOf w q ≡ p))
 
 -- The lengths have been looked at: whole nodes, within the limit, and room for marks and stack.

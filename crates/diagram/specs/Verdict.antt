@@ -75,16 +75,17 @@ first test p (suc k) = cond (test p) p (first test (suc p) k)
 abbrev pub firstNode : List ℕ → (ℕ → Bool) → ℕ
 firstNode w test = first test 2 (size w - 2)
 
--- 8 to 10: what is out of range at a node, the variable, then low, then high, or 0 where nothing is; the first node
--- with such a fault. (The nodes and variables are counted apart, so that a stretch of the words can be looked at.)
-unfoldable pub faultOf : ℕ → ℕ → List ℕ → ℕ → ℕ
-faultOf n v w p = cond (leb v (varOf w p)) 8 (cond (leb n (lowOf w p)) 9 (cond (leb n (highOf w p)) 10 0))
+-- 8 to 10, node by node: the variable, then low, then high. (From node p on, k nodes.)
+unfoldable pub rangesFrom : List ℕ → ℕ → ℕ → Outcome
+rangesFrom w p zero = accepted (size w) (vars w)
+rangesFrom w p (suc k) =
+    row 8 (leb (vars w) (varOf w p)) p
+    (row 9 (leb (size w) (lowOf w p)) p
+    (row 10 (leb (size w) (highOf w p)) p
+    (rangesFrom w (suc p) k)))
 
 unfoldable pub rangesOf : List ℕ → Outcome
-rangesOf w =
-    let p = firstNode w (λ p. not (eqb (faultOf (size w) (vars w) w p) 0)) in
-    row (faultOf (size w) (vars w) w p) (ltb p (size w)) p
-    (accepted (size w) (vars w))
+rangesOf w = rangesFrom w 2 (size w - 2)
 
 -- Some number below n passes a test.
 unfoldable pub any : ℕ → (ℕ → Bool) → Bool
@@ -138,6 +139,10 @@ cleared w room = replicate (roomOf w) 0 ++ drop (roomOf w) room
 
 abbrev pub roomAfter : List ℕ → Output → List ℕ → List ℕ
 roomAfter w output room = ifAccepted (lengthsOf w output (length room)) (cleared w room) room
+
+-- What is left in an output: after a refusal it is as it was; an answer stands in front of what was there.
+abbrev pub outputAfter : Outcome → List ℕ → List ℕ → List ℕ
+outputAfter verdict answer output = ifAccepted verdict (answer ++ drop (length answer) output) output
 
 -- What every check promises: the verdict, and what is left in the room.
 pub record Checked (w : List ℕ) (output : Output) (before after : List ℕ) (r : Verdict) : Type 0 where

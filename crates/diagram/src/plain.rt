@@ -1,6 +1,6 @@
 // The quick way to an acceptance. Where variables grow along every link, a node other than the root is reached exactly if
 // its parents are, so it is enough that each has one: no path has to be followed, and links are read in the order in
-// which they stand. Where something is amiss, in reach or out of it, the search of reach.rt says what.
+// which they stand. Every accepted array is such; where something is amiss, the search of reach.rt says what.
 use crate::node::BddPointer;
 use crate::node::high_link_of;
 use crate::node::low_link_of;
@@ -9,11 +9,11 @@ use crate::reach::is_above;
 use crate::room::clear;
 use crate::room::put;
 ghost use mathlib.Core.Path.{_≡_};
-ghost use mathlib.Core.Bool.{true};
-ghost use Prim.Native.Nat.{_≤_};
+ghost use mathlib.Core.Bool.{true, false};
+ghost use Prim.Native.Nat.{_≤_, _<_};
 ghost use lib.ListN.{length, set};
-ghost use Rattle.diagram.specs.Diagram.{lowOf, highOf, size, vars, Formed};
-ghost use Rattle.diagram.specs.Verdict.{accepted, graphOf};
+ghost use Rattle.diagram.specs.Diagram.{lowOf, highOf, size, vars, Formed, Accepted};
+ghost use Rattle.diagram.specs.Verdict.{accepted, isAbove, graphOf};
 ghost use Rattle.diagram.specs.Marking.{Linked};
 
 // Marks both children of a node.
@@ -29,7 +29,7 @@ fn mark_children(words: &[u32], room: &mut [u32], node: BddPointer)
 // Marks the children of every non-terminal before the first that has one not at a larger variable; where that one is.
 fn mark_all_children(words: &[u32], room: &mut [u32], nodes: usize) -> usize
     requires { ⌜ (nodes ≡ size (now words)) × Formed (now words) × (nodes ≤ length (now room)) ⌝ }
-    ensures { λ r. ⌜ Linked (now (words .entry)) (now (room .exit)) r ⌝ }
+    ensures { λ r. ⌜ Linked (now (words .entry)) (now (room .exit)) r × (r < size (now (words .entry)) → isAbove (now (words .entry)) r ≡ false) ⌝ }
 {
     clear(room, nodes);
     let mut node = 2;
@@ -44,10 +44,10 @@ fn mark_all_children(words: &[u32], room: &mut [u32], nodes: usize) -> usize
     node
 }
 
-// Whether variables grow along every link and each node but the root has a parent.
+// Whether variables grow along every link and each node but the root has a parent: exactly then nothing is amiss.
 pub(crate) fn is_plain(words: &[u32], room: &mut [u32], nodes: usize) -> bool
     requires { ⌜ (nodes ≡ size (now words)) × Formed (now words) × (nodes ≤ length (now room)) ⌝ }
-    ensures { λ r. ⌜ (r ≡ true → graphOf (now (words .entry)) ≡ accepted (size (now (words .entry))) (vars (now (words .entry)))) ⌝ }
+    ensures { λ r. ⌜ (r ≡ true → graphOf (now (words .entry)) ≡ accepted (size (now (words .entry))) (vars (now (words .entry)))) × (r ≡ false → Accepted (now (words .entry)) → ⊥) ⌝ }
 {
     if mark_all_children(words, room, nodes) < nodes {
         return false;

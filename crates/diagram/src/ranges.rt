@@ -10,12 +10,11 @@ use crate::refusal::BAD_VARIABLE;
 use crate::verdict::Verdict;
 ghost use mathlib.Core.Path.{_≡_};
 ghost use Prim.Native.Nat.{_/_, _≤_, _^_, _<_};
-ghost use mathlib.Core.Bool.{not};
 ghost use lib.ListN.{length};
-ghost use lib.Dec.{eqb};
 ghost use Rattle.diagram.specs.Limits.{maxNodes};
 ghost use Rattle.diagram.specs.Diagram.{size};
-ghost use Rattle.diagram.specs.Verdict.{said, first, faultOf, rangesOf};
+ghost use Rattle.diagram.specs.Verdict.{said, first, rangesOf};
+ghost use Rattle.diagram.specs.Faults.{faultOf, isFaulty};
 
 // What is out of range at a node: the variable, then low, then high; 0 where nothing is.
 fn fault_of(words: &[u32], node: BddPointer, nodes: usize, vars: u32) -> u32
@@ -39,7 +38,7 @@ fn fault_of(words: &[u32], node: BddPointer, nodes: usize, vars: u32) -> u32
 // The first faulty node of a stretch of nodes, counted from the stretch's start; past its nodes where there is none.
 fn first_fault(stretch: &[u32], nodes: usize, vars: u32) -> usize
     requires { ⌜ length (now stretch) / 3 < 2 ^ 32 ⌝ }
-    ensures { λ r. ⌜ r ≡ first (λ p. not (eqb (faultOf nodes vars (now (stretch .entry)) p) 0)) 0 (length (now (stretch .entry)) / 3) ⌝ }
+    ensures { λ r. ⌜ r ≡ first (isFaulty nodes vars (now (stretch .entry))) 0 (length (now (stretch .entry)) / 3) ⌝ }
 {
     let count = stretch.len() / 3;
     let mut p = 0;

@@ -30,20 +30,18 @@ fn graph(words: &[u32], room: &mut [u32], nodes: usize, vars: u32) -> Verdict
     }
     mark(words, room, nodes);
     let broken = first_broken(words, room, nodes);
+    let lost = first_lost(room, nodes);
     if broken < nodes {
         return Verdict::Refused {
             number: BROKEN_ORDER,
             place: broken,
         };
     }
-    let lost = first_lost(room, nodes);
-    if lost < nodes {
-        return Verdict::Refused {
-            number: UNREACHABLE,
-            place: lost,
-        };
+    // Something is amiss and it is not the order.
+    Verdict::Refused {
+        number: UNREACHABLE,
+        place: lost,
     }
-    Verdict::Accepted { nodes, vars }
 }
 
 // Refusals 6 to 12.

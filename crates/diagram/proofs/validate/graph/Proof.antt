@@ -1,7 +1,7 @@
 -- `diagram::validate::graph` meets its contract.
 use denote.Ref.{now}
-use Rattle.diagram.proofs.Rows.{refuse-11, refuse-12, pass-12}
-use Rattle.diagram.proofs.Parents.{pass-plain}
+use Rattle.diagram.proofs.Rows.{refuse-11}
+use Rattle.diagram.proofs.Parents.{pass-plain, lost-left}
 use borrow.Author.Needs.{needs}
 use native.Mathlib.Omega.{arith}
 use Rattle.diagram.proofs.validate.graph.Statement.{statement}
@@ -14,7 +14,7 @@ same-length : tie.Need-same-length
 same-length c = search needs
 
 returns : tie.Need-returns
-returns c = pass-plain (now (c .before .before .before .before .before .before .before .args .words)) (c .before .before .before .before .before .before .before .args .nodes) (c .before .before .before .before .before .before .before .args .vars) (c .before .before .before .before .before .before .before .pre .0) (c .before .before .before .before .before .before .before .pre .1) (c .before .before .before .is-plain .ensures (c .if1 .taken))
+returns c = pass-plain (now (c .before .before .before .before .before .before .before .args .words)) (c .before .before .before .before .before .before .before .args .nodes) (c .before .before .before .before .before .before .before .args .vars) (c .before .before .before .before .before .before .before .pre .0) (c .before .before .before .before .before .before .before .pre .1) (c .before .before .before .is-plain .ensures .0 (c .if1 .taken))
 
 mark-requires : tie.Need-mark-requires
 mark-requires c κs = search needs
@@ -22,31 +22,21 @@ mark-requires c κs = search needs
 first-broken-requires : tie.Need-first-broken-requires
 first-broken-requires c κs = search needs
 
+first-lost-requires : tie.Need-first-lost-requires
+first-lost-requires c κs = search needs
+
 same-length-2 : tie.Need-same-length-2
 same-length-2 c = search needs
 
 returns-2 : tie.Need-returns-2
-returns-2 c =
-    refuse-11 (now (c .before .before .before .before .before .before .before .before .before .before .before .before .before .before .args .words)) (c .before .before .before .before .before .before .before .before .before .before .before .before .before .before .args .nodes) (c .before .first-broken .result) (c .before .before .before .before .before .before .before .before .before .before .before .before .before .before .pre .0) (c .before .first-broken .ensures) (c .if2 .taken)
-
-first-lost-requires : tie.Need-first-lost-requires
-first-lost-requires c κs = search needs
+returns-2 c = refuse-11 (now (c .before .before .before .before .before .before .before .before .before .before .before .before .before .before .before .before .args .words)) (c .before .before .before .before .before .before .before .before .before .before .before .before .before .before .before .before .args .nodes) (c .before .before .before .first-broken .result) (c .before .before .before .before .before .before .before .before .before .before .before .before .before .before .before .before .pre .0) (c .before .before .before .first-broken .ensures) (c .if2 .taken)
 
 same-length-3 : tie.Need-same-length-3
 same-length-3 c = search needs
 
 returns-3 : tie.Need-returns-3
 returns-3 c =
-    refuse-12 (now (c .before .before .before .before .before .before .before .before .before .before .before .before .before .before .before .before .before .args .words)) (c .before .before .before .before .before .before .before .before .before .before .before .before .before .before .before .before .before .args .nodes) (c .before .before .before .before .first-broken .result) (c .before .before .before .before .before .before .before .before .before .before .before .before .before .before .before .before .before .pre .0) (c .before .before .before .before .first-broken .ensures) (c .before .before .before .if2 .left)
-    (c .before .before .before .before .before .before .before .before .mark .last .1 .0) (c .before .before .before .before .before .before .before .before .mark .ensures) (c .before .first-lost .result) (c .before .first-lost .ensures) (c .if3 .taken)
-
-same-length-4 : tie.Need-same-length-4
-same-length-4 c = search needs
-
-returns-4 : tie.Need-returns-4
-returns-4 c =
-    pass-12 (now (c .before .before .before .before .before .before .before .before .before .before .before .before .before .before .before .before .before .args .words)) (c .before .before .before .before .before .before .before .before .before .before .before .before .before .before .before .before .before .args .nodes) (c .before .before .before .before .first-broken .result) (c .before .before .before .before .before .before .before .before .before .before .before .before .before .before .before .before .before .pre .0) (c .before .before .before .before .first-broken .ensures) (c .before .before .before .if2 .left)
-    (c .before .before .before .before .before .before .before .before .mark .last .1 .0) (c .before .before .before .before .before .before .before .before .mark .ensures) (c .before .first-lost .result) (c .before .first-lost .ensures) (c .if3 .left) (c .before .before .before .before .before .before .before .before .before .before .before .before .before .before .before .before .before .args .vars) (c .before .before .before .before .before .before .before .before .before .before .before .before .before .before .before .before .before .pre .1)
+    lost-left (now (c .before .before .before .before .before .before .before .before .before .before .before .before .before .before .before .before .args .words)) (c .before .before .before .before .before .before .before .mark .last .1 .0) (c .before .before .before .before .before .before .before .before .before .before .before .before .before .before .before .before .args .nodes) (c .before .before .before .first-broken .result) (c .before .first-lost .result) (c .before .before .before .before .before .before .before .before .before .before .before .before .before .before .before .before .pre .0) (c .before .before .before .before .before .before .before .before .before .before .before .before .before .before .before .before .pre .2) (c .before .before .before .first-broken .ensures) (c .if2 .left) (c .before .before .before .before .before .before .before .mark .ensures) (c .before .first-lost .ensures) (c .before .before .before .before .before .before .before .before .before .before .before .before .is-plain .ensures .1 (c .before .before .before .before .before .before .before .before .before .if1 .left))
 
 pub graph-spec : {M : Type 1} → statement M
 graph-spec =
@@ -57,10 +47,8 @@ graph-spec =
     returns
     mark-requires
     first-broken-requires
+    first-lost-requires
     same-length-2
     returns-2
-    first-lost-requires
     same-length-3
-    returns-3
-    same-length-4
-    returns-4)
+    returns-3)

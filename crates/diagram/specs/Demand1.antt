@@ -1,0 +1,56 @@
+-- What is promised of the check (`demand1` of proofs/Promised.antt), for any words, any output that is lent and any room.
+-- Demand 1: each refusal has one number and place, given exactly when document 01 says; the output is then untouched and
+-- the working room left as 01 states. The rows of `verdictOf` are 01's table; here is what they come to.
+use Prim.Native.Nat.{ℕ, _≤_, _<_}
+use mathlib.Core.Path.{_≡_}
+use mathlib.Core.Logic.{_↔_}
+use mathlib.Core.Bool.{false}
+use mathlib.Core.List.{List, _++_}
+use lib.ListN.{length, drop}
+use Rattle.diagram.specs.Diagram.{size, vars, root, Reach, Above, Formed, Accepted}
+use Rattle.diagram.specs.Verdict.{Outcome, accepted, refused, roomOf, short, verdictOf, cleared, roomAfter, outputAfter}
+use Rattle.diagram.specs.declared.verdict.Output.{Output}
+
+-- Lengths are enough: refusals 4 and 5 don't come up.
+pub record Lent (w : List ℕ) (output : Output) (room : ℕ) : Type 0 where
+  pub output-long : short w output ≡ false
+  pub room-long : roomOf w ≤ room
+
+-- p is the smallest non-terminal with a property.
+pub record Smallest (w : List ℕ) (P : ℕ → Type 0) (p : ℕ) : Type 0 where
+  pub node : (2 ≤ p) × (p < size w)
+  pub holds : P p
+  pub least : (q : ℕ) → 2 ≤ q → q < p → P q → ⊥
+
+-- A reachable node with a child that is not at a larger variable; a node out of reach.
+abbrev pub Broken : List ℕ → ℕ → Type 0
+Broken w p = Reach w (root w) p × ¬ Above w p
+
+abbrev pub Lost : List ℕ → ℕ → Type 0
+Lost w p = ¬ Reach w (root w) p
+
+pub record Demand1 : Type 0 where
+  -- accepted, with n and v, exactly where the words are a diagram and what is lent is long enough
+  pub accepts : (w : List ℕ) (o : Output) (room n v : ℕ)
+      → (verdictOf w o room ≡ accepted n v) ↔ ((Accepted w × Lent w o room) × (n ≡ size w) × (v ≡ vars w))
+  -- else refused, by one of the twelve numbers
+  pub refuses : (w : List ℕ) (o : Output) (room number place : ℕ) → verdictOf w o room ≡ refused number place → (1 ≤ number) × (number ≤ 12)
+  -- 11 exactly at the smallest reachable node with a child not at a larger variable, 12 exactly where there is none, at the
+  -- smallest node out of reach; both only where nothing else is wrong
+  pub eleven : (w : List ℕ) (o : Output) (room p : ℕ)
+      → (verdictOf w o room ≡ refused 11 p) ↔ ((Formed w × Lent w o room) × Smallest w (Broken w) p)
+  pub twelve : (w : List ℕ) (o : Output) (room p : ℕ)
+      → (verdictOf w o room ≡ refused 12 p) ↔ ((Formed w × Lent w o room) × ((q : ℕ) → 2 ≤ q → q < size w → Broken w q → ⊥) × Smallest w (Lost w) p)
+  -- the room: refusal 5 and those before it leave it as it was; those after it, and all answers, leave the words that were
+  -- asked for zero and the rest as it was
+  pub room-kept : (w : List ℕ) (o : Output) (room : List ℕ) (number place : ℕ) → verdictOf w o (length room) ≡ refused number place → number ≤ 5
+      → roomAfter w o room ≡ room
+  pub room-cleared : (w : List ℕ) (o : Output) (room : List ℕ) (number place : ℕ) → verdictOf w o (length room) ≡ refused number place → 5 < number
+      → roomAfter w o room ≡ cleared w room
+  pub room-answered : (w : List ℕ) (o : Output) (room : List ℕ) (n v : ℕ) → verdictOf w o (length room) ≡ accepted n v
+      → roomAfter w o room ≡ cleared w room
+  -- the output: a refusal leaves it as it was, an answer what is beyond it
+  pub output-kept : (answer output : List ℕ) (verdict : Outcome) (number place : ℕ) → verdict ≡ refused number place
+      → outputAfter verdict answer output ≡ output
+  pub output-answered : (answer output : List ℕ) (verdict : Outcome) (n v : ℕ) → verdict ≡ accepted n v
+      → outputAfter verdict answer output ≡ answer ++ drop (length answer) output
