@@ -1,9 +1,9 @@
 #!/usr/bin/env bash
-# All tests: the layout of every file; every crate proved from nothing, every must-fail edit refused, every test program
+# All tests: the layout of every file; the papers held to the crates; every crate proved from nothing, every must-fail edit refused, every test program
 # run and its output compared (rt ci); then, over the same proofs, the programs on stored inputs, the archive for C and
 # Rust, the C test, the replay of stored requests and the Rust crate's tests. Each of these counts as one beside what rt ci counts.
 # The last line is 'N passed, M failed'; the exit status is 0 only where M is 0.
-# A missing C compiler or cargo is said; what needs it is not run and not counted, and does not fail the others.
+# A missing C compiler, cargo or python3 is said; what needs it is not run and not counted, and does not fail the others.
 set -u
 cd "$(dirname "$0")" || exit 2
 if ! command -v rt > /dev/null; then
@@ -71,6 +71,11 @@ make_archive() {
 }
 
 step "layout" rt fmt --check
+if python3 --version > /dev/null 2>&1; then
+    step "papers" python3 tests/papers.py
+else
+    leave_out "the papers held to the crates: there is no python3 on this machine"
+fi
 if gate; then
     step "programs" bash tests/programs.sh target/bin
     step "archive for C and Rust" make_archive

@@ -10,8 +10,8 @@ use lib.ListN.{length, getD, set, take, drop, replicate, length-set, length-appe
 use lib.Seq.{getD-set-same, getD-set-other, drop-set-lt, drop-at, getD-at, getD-take, ext-getD, length-take-le}
 use borrow.Author.Tests.{le-leb, lt-leb, eq-eqb, ne-eqb}
 use Rattle.diagram.specs.Diagram.{varOf, size, vars, Formed}
-use Rattle.diagram.specs.Reading.{tests}
-use Rattle.diagram.specs.Marking.{count}
+use Rattle.diagram.specs.Diagram.{tests}
+use Rattle.diagram.specs.Valuations.{count}
 use Rattle.diagram.proofs.Count.{count-hit, count-miss, count-most}
 use Rattle.queries.specs.Queries.{nodesAt, table}
 

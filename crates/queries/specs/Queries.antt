@@ -6,8 +6,8 @@ use mathlib.Core.List.{List, [], _∷_, _++_}
 use lib.ListN.{length, drop}
 use lib.Dec.{ltb, eqb}
 use Rattle.diagram.specs.Diagram.{varOf, lowOf, highOf, size, vars, root}
-use Rattle.diagram.specs.Reading.{tests}
-use Rattle.diagram.specs.Marking.{count}
+use Rattle.diagram.specs.Diagram.{tests}
+use Rattle.diagram.specs.Valuations.{count}
 use Rattle.diagram.specs.Verdict.{verdictOf, ifAccepted, Checked}
 use Rattle.diagram.specs.declared.verdict.Verdict.{Verdict}
 use Rattle.diagram.specs.declared.verdict.Output.the-variants.{Nothing, PerVariable}

@@ -1,0 +1,181 @@
+#!/usr/bin/env python3
+"""Holds the papers to the crates. Run at the repository's top, with no arguments; prints what is amiss and ends with status 1 then.
+
+1. Whatever the contract of an operation leads to, definition by definition, stands in a file that docs/PROMISES.md lists under
+   "What must be believed"; so does whatever a promised record (Demand1, ..) leads to. Every listed file is there.
+2. Every must-fail edit has its row in docs/EDITS.md, every row its edit, and every edit is cited in docs/PROMISES.md as CRATE/EDIT.
+3. Every name in backquotes in docs/PROMISES.md exists: as a definition, field, function or file of the crates, or, word by
+   word, in their text.
+
+It reads the crates as text. `--believed` prints the files that must be believed, with their lines and those without comments and
+imports, and the definitions in them that no promise leads to."""
+import glob
+import os
+import re
+import sys
+
+PROMISES, EDITS = "docs/PROMISES.md", "docs/EDITS.md"
+# Where promises begin: every exported function, and these of the programs' crates.
+EXPORTS = "crates/houayletan/src/*.rt"
+FUNCTIONS = [
+    ("block_file", "read_file"), ("block_file", "write_file"), ("blocks", "read_block"), ("report", "report"),
+]
+NAME = re.compile(r"[^\s(){}\[\],;:⌜⌝λ.]+")
+amiss = []
+
+
+def text_of(path):
+    with open(path, encoding="utf-8", errors="replace") as file:
+        return file.read()
+
+
+def imports(text, crate):
+    """What a file brings in: name -> (crate, file, name there), for definitions of the repository's specs/ only."""
+    found = {}
+    for path, names in re.findall(r"^(?:ghost )?use (Rattle·\S+?)\.\{([^}]*)\}", text, re.M | re.S):
+        parts = path.split(".")
+        owner = parts[0].split("·")[1]
+        if "declared" in parts or "specs" not in parts:
+            continue
+        for name in names.split(","):
+            there, _, here = name.strip().partition(" as ")
+            if there:
+                found[here or there] = (owner, parts[-1], there)
+    return found
+
+
+def definitions(crate, path):
+    """The definitions of a file: name -> the text of each, its signature and clauses; constructors and fields lead to their type."""
+    text = text_of(path)
+    body = "\n".join(line.split("--")[0] for line in text.split("\n") if not line.startswith(("use ", "pub mod ")))
+    found, owner = {}, None
+    for line in body.split("\n"):
+        if not line.strip():
+            continue
+        head = re.match(r"(?:pub )?(?:record|data) (\S+)|(?:abbrev |unfoldable )?(?:pub )?(\S+) :", line)
+        if head and not line.startswith((" ", "\t")):
+            owner = head.group(1) or head.group(2)
+            found.setdefault(owner, "")
+        elif owner and re.match(r"  (?:pub )?(\S+) :", line) and re.search(rf"^(?:pub )?(?:record|data) {re.escape(owner)}\b", body, re.M):
+            found[re.match(r"  (?:pub )?(\S+) :", line).group(1)] = owner
+        if owner:
+            found[owner] += line + "\n"
+    return found, imports(text, crate)
+
+
+specs = {}
+for path in glob.glob("crates/*/specs/*.antt"):
+    crate, name = path.split("/")[1], os.path.basename(path)[:-5]
+    if name != "Lib":
+        specs[crate, name] = definitions(crate, path)
+
+
+def closure(start):
+    """All definitions that these lead to."""
+    seen, todo = set(), list(start)
+    while todo:
+        key = todo.pop()
+        crate, file, name = key
+        if key in seen or (crate, file) not in specs:
+            continue
+        own, brought = specs[crate, file]
+        if name not in own:
+            continue
+        seen.add(key)
+        for word in set(NAME.findall(own[name])):
+            if word in brought:
+                todo.append(brought[word])
+            elif word in own and word != name:
+                todo.append((crate, file, word))
+    return seen
+
+
+def contracts(path, function=None):
+    """What the contracts of the exported functions of a source file, or of one of its functions, name."""
+    text = text_of(path)
+    brought = imports(text, path.split("/")[1])
+    shape = rf"pub fn {function}\b" if function else r'pub extern "C" fn \w+'
+    return [brought[word]
+            for found in re.finditer(shape + r"(.*?)\n\{", text, re.S)
+            for clause in re.findall(r"(?:ensures|requires) \{.*", found.group(1))
+            for word in set(NAME.findall(clause)) if word in brought]
+
+
+promises = text_of(PROMISES)
+table = promises.split("## What must be believed")[1].split("\n## ")[0]
+believed = set()
+for cell in re.findall(r"^\| (crates/.*?) \|", table, re.M):
+    folder = ""
+    for item in re.split(r"[,;] ", cell):
+        item = item.strip()
+        folder = os.path.dirname(item) if "/" in item else folder
+        path = os.path.join(folder, os.path.basename(item))
+        if not os.path.isfile(path):
+            amiss.append(f"{PROMISES}: what must be believed names {path}, which is not there")
+        believed.add((path.split("/")[1], os.path.basename(path)[:-5]))
+
+roots = [root for path in glob.glob(EXPORTS) for root in contracts(path)]
+for crate, function in FUNCTIONS:
+    found = [root for path in glob.glob(f"crates/{crate}/src/*.rt") for root in contracts(path, function)]
+    if not found:
+        amiss.append(f"papers.py: no contract of {crate}::{function} was found")
+    roots += found
+# The records that PROMISES' page of the demands names are promises too.
+page = promises.split("## The three demands")[1].split("\n## ")[0]
+for word in re.findall(r"`(\w+)(?: [^`]*)?`", page):
+    roots += [(crate, file, word) for (crate, file), (own, _) in specs.items() if re.match(r"(pub )?record", own.get(word, ""))]
+led = closure(roots)
+for crate, file, name in sorted(led):
+    if (crate, file) not in believed and "\n" in specs[crate, file][0][name]:
+        amiss.append(f"{PROMISES}: what must be believed lacks crates/{crate}/specs/{file}.antt, which has {name}")
+
+# ---- edits
+edits = {f"{p.split('/')[1]}/{os.path.basename(p)[:-5]}" for p in glob.glob("crates/*/must-fail/*.edit")}
+rows = re.findall(r"^\| ([a-z_]+/[a-z0-9-]+) \|", text_of(EDITS), re.M)
+for edit in sorted(edits - set(rows)):
+    amiss.append(f"{EDITS}: no row for {edit}")
+for row in sorted(rows):
+    if row not in edits or rows.count(row) > 1:
+        amiss.append(f"{EDITS}: {row} is no edit, or has two rows")
+crates = {p.split("/")[1] for p in glob.glob("crates/*/src")}
+cited = {c for c in re.findall(r"\b([a-z_]+/[a-z0-9]+(?:-[a-z0-9]+)*)\b(?![./])", promises) if c.split("/")[0] in crates}
+for edit in sorted(edits - cited):
+    amiss.append(f"{PROMISES}: {edit} is not cited")
+for edit in sorted(cited - edits):
+    if not os.path.exists("crates/" + edit):
+        amiss.append(f"{PROMISES}: {edit} is cited and is no edit")
+
+# ---- names
+sources = {p: text_of(p) for p in glob.glob("crates/**/*", recursive=True) if p.endswith((".rt", ".antt"))}
+everything = "\n".join(sources.values()) + "\n".join(text_of(p) for p in glob.glob("crates/*/stdout") + glob.glob("include/*.h"))
+words = set(NAME.findall(everything)) | set(re.findall(r"\w+", everything))
+defined = set(re.findall(r"^\s*(?:abbrev |unfoldable )?(?:pub )?([^\s:]+) :", everything, re.M))
+defined |= set(re.findall(r"\b(?:record|data|fn|struct|enum|const|mod) (\w+)", everything))
+for quoted in set(re.findall(r"`([^`\n]+)`", promises)):
+    if re.search(r"\.(rt|antt|sh|py|md|txt|h)$", quoted) or "/" in quoted:
+        if not (os.path.exists(quoted) or glob.glob(f"crates/*/{quoted}") or "/" not in quoted or " " in quoted):
+            amiss.append(f"{PROMISES}: `{quoted}` is not there")
+    elif re.fullmatch(NAME, quoted):
+        if quoted not in defined and quoted not in words:
+            amiss.append(f"{PROMISES}: `{quoted}` is defined nowhere")
+    else:
+        for word in NAME.findall(quoted):
+            if re.search(r"[A-Za-z]", word) and word not in words:
+                amiss.append(f"{PROMISES}: {word} of `{quoted}` is nowhere in the crates")
+for path in set(re.findall(r"\bcrates/[\w/.-]+\.(?:rt|antt)", promises)):
+    if not os.path.isfile(path):
+        amiss.append(f"{PROMISES}: {path} is not there")
+
+if "--believed" in sys.argv:
+    total = plain = 0
+    for crate, file in sorted(believed):
+        lines = text_of(f"crates/{crate}/specs/{file}.antt").rstrip("\n").split("\n")
+        code = [line for line in lines if line.strip() and not line.startswith(("--", "use ")) and not line.strip().startswith("--")]
+        total, plain = total + len(lines), plain + len(code)
+        aside = [n for n, block in specs[crate, file][0].items() if (crate, file, n) not in led and "\n" in block]
+        print(f"crates/{crate}/specs/{file}.antt: {len(lines)} lines, {len(code)} without comments and imports" + (f"; led to by no promise: {', '.join(aside)}" if aside else ""))
+    print(f"{total} lines, {plain} without comments, imports and empty lines")
+for line in amiss:
+    print("papers:", line)
+print(f"papers: {len(led)} definitions are led to, {len(edits)} edits, {len(amiss)} amiss")
+sys.exit(1 if amiss else 0)
