@@ -9,6 +9,7 @@ use borrow.Author.Tests.{lt-ltb, le-ltb, le-leb, lt-leb, eq-eqb, ne-eqb}
 use lib.ListN.{length, getD, take, drop, length-take, length-drop}
 use lib.Seq.{getD-take, getD-drop}
 use lib.Dec.{ltb, eqb}
+use Rattle.naturals.specs.Natural.{wordCount}
 use Rattle.diagram.specs.Limits.{maxNodes, maxVariables, roomPerNode}
 use Rattle.diagram.specs.Diagram.{varOf, lowOf, highOf, size, vars}
 use Rattle.diagram.specs.Verdict.{accepted, refused, row, short, lengthsOf, isTerminal, terminalsOf, first, firstNode, rangesOf, reaches, isBroken, graphOf}
@@ -29,7 +30,7 @@ module _ (w : List ℕ) (o : Output) where
   unfolding short
   short-diagram lent m e em = rw (e, em)
 
-  pub short-weights : (lent : ℕ) → o ≡ Weights lent → ltb lent (8 * size w) ≡ short w o
+  pub short-weights : (lent : ℕ) → o ≡ Weights lent → ltb lent (wordCount * size w) ≡ short w o
   unfolding short
   short-weights lent e = rw e
 

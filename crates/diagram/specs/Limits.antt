@@ -1,4 +1,5 @@
--- Document 01, "Numbers": each limit once. The code has the same numbers in src/limits.rt.
+-- Document 01, "Numbers": each limit once; the words of a count are `wordCount` of crates/naturals. The code has the same
+-- numbers in src/limits.rt.
 use Prim.Native.Nat.{ℕ}
 
 -- the most nodes of a diagram
@@ -12,7 +13,3 @@ maxVariables = 255
 -- words of working room for each node
 abbrev pub roomPerNode : ℕ
 roomPerNode = 64
-
--- words of a count
-abbrev pub countWords : ℕ
-countWords = 8

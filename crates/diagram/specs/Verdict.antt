@@ -5,7 +5,8 @@ use mathlib.Core.Bool.{Bool, false, cond, not, _&&_, _||_}
 use mathlib.Core.List.{List, _++_}
 use lib.ListN.{length, drop, replicate}
 use lib.Dec.{leb, ltb, eqb}
-use Rattle.diagram.specs.Limits.{maxNodes, maxVariables, roomPerNode, countWords}
+use Rattle.naturals.specs.Natural.{wordCount}
+use Rattle.diagram.specs.Limits.{maxNodes, maxVariables, roomPerNode}
 use Rattle.diagram.specs.Diagram.{varOf, lowOf, highOf, size, vars, root}
 use Rattle.diagram.specs.declared.verdict.Verdict.{Verdict}
 use Rattle.diagram.specs.declared.verdict.Verdict.the-variants.{Accepted, Refused}
@@ -42,7 +43,7 @@ roomOf w = roomPerNode * most w
 unfoldable pub short : List ℕ → Output → Bool
 short w Nothing = false
 short w (Diagram lent) = ltb lent (3 * most w)
-short w (Weights lent) = ltb lent (countWords * size w)
+short w (Weights lent) = ltb lent (wordCount * size w)
 short w (PerVariable lent) = ltb lent maxVariables
 
 -- 1 to 5: lengths.

@@ -1,5 +1,4 @@
 // Refusals 1 to 5: what can be said of lengths alone.
-use crate::limits::COUNT_WORDS;
 use crate::limits::MAX_NODES;
 use crate::limits::MAX_VARIABLES;
 use crate::limits::ROOM_PER_NODE;
@@ -33,7 +32,7 @@ fn is_short(words: &[u32], output: Output) -> bool
     match output {
         Output::Nothing => false,
         Output::Diagram(lent) => lent < 3 * most(nodes),
-        Output::Weights(lent) => lent < COUNT_WORDS * nodes,
+        Output::Weights(lent) => lent < naturals::WORDS * nodes,
         Output::PerVariable(lent) => lent < MAX_VARIABLES,
     }
 }

@@ -1,4 +1,4 @@
-// The numbers of document 01, each once. The definitions have the same in specs/Limits.antt.
+// The numbers of document 01, each once; the words of a count are naturals::WORDS. The definitions have the same in specs/Limits.antt.
 
 // The most nodes of a diagram.
 pub const MAX_NODES: usize = 4096;
@@ -8,6 +8,3 @@ pub const MAX_VARIABLES: usize = 255;
 
 // Words of working room for each node.
 pub const ROOM_PER_NODE: usize = 64;
-
-// Words of a count.
-pub const COUNT_WORDS: usize = 8;

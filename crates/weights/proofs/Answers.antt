@@ -9,7 +9,7 @@ use lib.Seq.{length-take-le, length-front, drop-at}
 use borrow.Author.Tests.{ltb-false, eq-eqb, ne-eqb}
 use Rattle.naturals.specs.Natural.{wordCount, Holds}
 use Rattle.naturals.proofs.Answer.{holds-as}
-use Rattle.diagram.specs.Limits.{maxNodes, countWords}
+use Rattle.diagram.specs.Limits.{maxNodes}
 use Rattle.diagram.specs.Diagram.{size, vars}
 use Rattle.diagram.specs.Valuations.{weightOf}
 use Rattle.diagram.specs.Verdict.{Outcome, accepted, refused, said, row, roomOf, short, verdictOf, Checked}
@@ -89,7 +89,7 @@ module _ {w : List ℕ} (out : List ℕ) {room after : List ℕ} {r : Verdict} (
 
     pub weights-long : wordCount * n ≤ length out
     unfolding short
-    weights-long = omega (arith, admitted c e .nodes, ltb-false (length out) (countWords * size w) (admitted c e .lent))
+    weights-long = omega (arith, admitted c e .nodes, ltb-false (length out) (wordCount * size w) (admitted c e .lent))
 
     module _ (more : n ≢ 1) where
       pub weights-asks : Given w n × (u ≡ vars w) × (weightsTo n ≤ length after)

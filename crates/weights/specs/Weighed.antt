@@ -4,8 +4,7 @@ use mathlib.Core.Path.{_≡_}
 use mathlib.Core.List.{List}
 use lib.ListN.{length, take, drop}
 use lib.Dec.{eqb}
-use Rattle.naturals.specs.Natural.{Holds}
-use Rattle.diagram.specs.Limits.{countWords}
+use Rattle.naturals.specs.Natural.{wordCount, Holds}
 use Rattle.diagram.specs.Diagram.{size, vars}
 use Rattle.diagram.specs.Valuations.{weightOf}
 use Rattle.diagram.specs.Verdict.{Outcome, accepted, refused, said, row, andThen, verdictOf, roomAfter}
@@ -22,8 +21,8 @@ weightsVerdict w lent room =
 -- Eight words for each node hold its weight, and the output beyond them is as it was.
 pub record Weighed (w before after : List ℕ) : Type 0 where
   pub kept : length after ≡ length before
-  pub weight : (p : ℕ) → p < size w → Holds (weightOf w p) (take countWords (drop (countWords * p) after))
-  pub rest : drop (countWords * size w) after ≡ drop (countWords * size w) before
+  pub weight : (p : ℕ) → p < size w → Holds (weightOf w p) (take wordCount (drop (wordCount * p) after))
+  pub rest : drop (wordCount * size w) after ≡ drop (wordCount * size w) before
 
 -- The verdict; the weights where it accepts; the output as it was where it refuses; the room as the check leaves it.
 pub record Weighs (w before after room room-after : List ℕ) (r : Verdict) : Type 0 where
