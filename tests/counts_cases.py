@@ -10,6 +10,7 @@ from reading import ROOM, most, room_after, verdict
 HERE = os.path.dirname(os.path.abspath(__file__))
 FOLDER = os.path.join(HERE, '..', 'crates', 'counts_run')
 OUTPUT = 12300
+SHORT = 5
 
 
 def node(words, p):
@@ -100,7 +101,7 @@ def said(answer):
 
 def line(words, room, word):
     yes = {True: 'yes', False: 'no'}
-    plain, per, dia = (verdict(words, room, out) for out in (None, ('variables', OUTPUT), ('diagram', OUTPUT)))
+    plain, per, short, dia = (verdict(words, room, out) for out in (None, ('variables', OUTPUT), ('diagram', SHORT), ('diagram', OUTPUT)))
     ok = plain[0] == 'accepted'
     n, v = (plain[1], plain[2]) if ok else (0, 0)
     zeros = room_after(words, room)
@@ -117,6 +118,7 @@ def line(words, room, word):
         f', clause {yes[ok and walk(words, False)]}, valuation {yes[ok and walk(words, True)]}',
         f', room zero {zeros} kept {room - zeros}',
         f', per variable {said(per)} words', ''.join(f' {x}' for x in lists[:256]),
+        f', short {said(short)} kept {SHORT}',
         f', not {said(dia)} nodes {len(result) // 3} words', ''.join(f' {x}' for x in left[:len(words)]), '\n'])
 
 

@@ -136,6 +136,16 @@ fn run_per_variable(words: &[u32], room: &mut [u32], output: &mut [u32], word: u
     say_words(output, 256);
 }
 
+// Negation with an output that is too short for any answer, which has to stay as it was.
+fn run_short(words: &[u32], room: &mut [u32]) {
+    let mut output = [9u32; 5];
+    let negated = not(words, &mut output, room);
+    io::write_all(STDOUT_FILENO, b", short ");
+    let verdict = negated.verdict;
+    say_verdict(verdict);
+    say(b" kept ", run_of(&output, 0, 9) as u64);
+}
+
 fn run_not(words: &[u32], room: &mut [u32], output: &mut [u32], word: u32) {
     fill(output, word);
     let negated = not(words, output, room);
@@ -160,6 +170,7 @@ fn run_case(words: &[u32], room: &mut [u32], word: u32) {
     run_walks(words, room);
     say_room(room, word);
     run_per_variable(words, room, &mut output, word);
+    run_short(words, room);
     run_not(words, room, &mut output, word);
 }
 

@@ -1,16 +1,39 @@
 -- The walk of clauses and valuations.
 use Prim.Native.Nat.{ℕ, zero, suc, _+_, _-_, _≤_, _<_}
 use mathlib.Core.Path.{_≡_, refl, sym, ap, _∙_}
-use mathlib.Core.Bool.{Bool, true, false, not, _&&_}
+use mathlib.Core.Bool.{Bool, true, false, _&&_, and-false}
 use mathlib.Core.List.{List}
 use native.Mathlib.Omega.{arith}
 use native.Mathlib.Numerals.{add-one}
 use lib.Dec.{eqb}
-use borrow.Author.Tests.{lt-ltb, le-ltb, eq-eqb, ne-eqb, not-true, not-false}
+use borrow.Author.Tests.{lt-ltb, le-ltb, eq-eqb, ne-eqb}
 use Rattle.diagram.specs.Diagram.{varOf, lowOf, highOf, size, vars, root, Ordered}
-use Rattle.diagram.proofs.Tests.{by-eq}
-use Rattle.diagram.proofs.Reading.{Layered, layered, root-in, by-two, at-end, var-most}
-use Rattle.queries.specs.Queries.{onlyChild, due, soleFrom, isSole}
+use Rattle.diagram.proofs.Tests.{by-eq, and-both, both-and}
+use Rattle.diagram.proofs.Reading.{layered, root-in, by-two, var-most}
+use Rattle.queries.specs.Queries.{onlyChild, along, every, isClause, isValuation}
+
+-- ---- tests of every number
+
+pub every-at : (n : ℕ) (t : ℕ → Bool) → every n t ≡ true → (i : ℕ) → i < n → t i ≡ true
+unfolding every
+every-at zero t e i h = absurd (omega arith)
+every-at (suc n) t e i h =
+    let b = and-both (every n t) (t n) e in
+    by-eq i n (λ x. rw x (b .1)) (λ ne. every-at n t (b .0) i (omega arith))
+
+pub every-no : (n : ℕ) (t : ℕ → Bool) (i : ℕ) → i < n → t i ≡ false → every n t ≡ false
+unfolding every
+every-no zero t i h e = absurd (omega arith)
+every-no (suc n) t i h e = by-eq i n
+    (λ x. let last : t n ≡ false = rw x at e in rw last (and-false (every n t)))
+    (λ ne. rw (every-no n t i (omega arith) e) refl)
+
+pub every-all : (n : ℕ) (t : ℕ → Bool) → ((i : ℕ) → i < n → t i ≡ true) → every n t ≡ true
+unfolding every
+every-all zero t f = refl
+every-all (suc n) t f = both-and (every n t) (t n) (every-all n t (λ i h. f i (omega arith))) (f n (omega arith))
+
+-- ---- steps
 
 pub only-low : (w : List ℕ) (p : ℕ) → lowOf w p ≡ 0 → onlyChild w p ≡ highOf w p
 unfolding onlyChild
@@ -24,98 +47,121 @@ pub only-none : (w : List ℕ) (p : ℕ) → (lowOf w p ≡ 0 → ⊥) → (high
 unfolding onlyChild
 only-none w p n m = simp (ne-eqb (lowOf w p) 0 n, ne-eqb (highOf w p) 0 m)
 
-pub sole-end : (b : Bool) (w : List ℕ) (k i p : ℕ) → p < 2 → soleFrom b w k i p ≡ (eqb p 1 && due b (vars w) i)
-unfolding soleFrom
-sole-end b w zero i p h = refl
-sole-end b w (suc k) i p h = simp (lt-ltb p 2 h)
+-- one of the three
+pub by-only : (w : List ℕ) (P : ℕ → Type 0) (p : ℕ) → (lowOf w p ≡ 0 → P (highOf w p)) → ((lowOf w p ≡ 0 → ⊥) → highOf w p ≡ 0 → P (lowOf w p)) → P 0
+    → P (onlyChild w p)
+by-only w P p a b c = by-eq (lowOf w p) 0
+    (λ e. rw (only-low w p e) (a e))
+    (λ n. by-eq (highOf w p) 0 (λ e. rw (only-high w p n e) (b n e)) (λ m. rw (only-none w p n m) c))
 
-pub sole-node : (b : Bool) (w : List ℕ) (k i p : ℕ) → 2 ≤ p → soleFrom b w (suc k) i p ≡ (due b (varOf w p) i && soleFrom b w k (suc i) (onlyChild w p))
-unfolding soleFrom
-sole-node b w k i p h = simp (le-ltb p 2 h)
+pub along-start : (w : List ℕ) → along w 0 ≡ root w
+unfolding along
+along-start w = refl
 
-module _ (w : List ℕ) (o : Ordered w) where
-  abbrev g : Layered w (vars w) (size w)
-  g = layered w o
+pub along-ended : (w : List ℕ) (k : ℕ) → along w k < 2 → along w (suc k) ≡ along w k
+unfolding along
+along-ended w k h = simp (lt-ltb (along w k) 2 h)
 
-  -- one of the three, each at a larger variable
-  pub by-only : (P : ℕ → Type 0) (p : ℕ) → P (highOf w p) → P (lowOf w p) → P 0 → P (onlyChild w p)
-  by-only P p a b c = by-eq (lowOf w p) 0
-      (λ e. rw (only-low w p e) a)
-      (λ n. by-eq (highOf w p) 0 (λ e. rw (only-high w p n e) b) (λ m. rw (only-none w p n m) c))
+pub along-node : (w : List ℕ) (k : ℕ) → 2 ≤ along w k → along w (suc k) ≡ onlyChild w (along w k)
+unfolding along
+along-node w k h = simp (le-ltb (along w k) 2 h)
 
-  pub only-in : (p : ℕ) → 2 ≤ p → p < size w → (onlyChild w p < size w) × (varOf w p < varOf w (onlyChild w p))
-  only-in p two h =
-      let l = g .node p two h in
-      by-only (λ q. (q < size w) × (varOf w p < varOf w q)) p (l .high, l .above-high) (l .low, l .above-low) (o .formed .some, l .var)
+pub along-stays : (w : List ℕ) (j k : ℕ) → along w k < 2 → along w (k + j) ≡ along w k
+along-stays w zero k h = ap (along w) (omega arith)
+along-stays w (suc j) k h =
+    let e : k + suc j ≡ suc (k + j) = omega arith in
+    let r = along-stays w j k h in
+    ap (along w) e ∙ along-ended w (k + j) (rw r h) ∙ r
 
-  -- as many steps as variables are left are enough
-  pub sole-enough : (b : Bool) (k j i p : ℕ) → p < size w → vars w ≤ varOf w p + k → vars w ≤ varOf w p + j → soleFrom b w k i p ≡ soleFrom b w j i p
-  sole-enough b zero j i p h x y =
-      let t = at-end w (vars w) (size w) g p h (omega arith) in
-      sole-end b w zero i p t ∙ sym (sole-end b w j i p t)
-  sole-enough b (suc k) zero i p h x y =
-      let t = at-end w (vars w) (size w) g p h (omega arith) in
-      sole-end b w (suc k) i p t ∙ sym (sole-end b w zero i p t)
-  sole-enough b (suc k) (suc j) i p h x y = by-two p
-      (λ t. sole-end b w (suc k) i p t ∙ sym (sole-end b w (suc j) i p t))
-      (λ two.
-      let c = only-in p two h in
-      sole-node b w k i p two
-      ∙ ap (λ (z : Bool). due b (varOf w p) i && z) (sole-enough b k j (suc i) (onlyChild w p) (c .0) (omega arith) (omega arith))
-      ∙ sym (sole-node b w j i p two))
+-- ---- the loops: after i steps the walk stands at p
 
--- ---- the loop: after i steps the walk stands at p
-
-pub record Along (b : Bool) (w : List ℕ) (i p : ℕ) : Type 0 where
+pub record Along (w : List ℕ) (i p : ℕ) : Type 0 where
+  pub is : p ≡ along w i
   pub inside : p < size w
   pub passed : i ≤ varOf w p
-  pub rest : soleFrom b w (vars w - varOf w p) i p ≡ isSole b w
 
-module _ (b : Bool) (w : List ℕ) (o : Ordered w) where
-  pub along-starts : (n : ℕ) → n ≡ size w → Along b w 0 (n - 1)
-  along-starts n e =
-      let h = root-in w o in
-      rw e (record { inside = h; passed = omega arith; rest = sole-enough w o b (vars w - varOf w (root w)) (vars w) 0 (root w) h (omega arith) (omega arith) })
+-- the variables before i have been tested, one at each step
+pub record Testing (w : List ℕ) (i p : ℕ) : Type 0 where
+  pub at : Along w i p
+  pub tested : (j : ℕ) → j < i → eqb (varOf w (along w j)) j ≡ true
 
-  module _ (i p : ℕ) (a : Along b w i p) where
-    pub along-small : varOf w p ≤ 255
-    along-small = omega (arith, var-most w (vars w) (size w) (layered w o) p (a .inside), o .formed .variables)
+module _ (w : List ℕ) (o : Ordered w) where
+  -- the only child stands at a larger variable
+  pub only-in : (p : ℕ) → 2 ≤ p → p < size w → (onlyChild w p < size w) × (varOf w p < varOf w (onlyChild w p))
+  only-in p two h =
+      let l = layered w o .node p two h in
+      by-only w (λ q. (q < size w) × (varOf w p < varOf w q)) p (λ e. (l .high, l .above-high)) (λ n e. (l .low, l .above-low)) (o .formed .some, l .var)
 
-    module _ (two : 2 ≤ p) where
-      split : soleFrom b w (vars w - varOf w p) i p ≡ (due b (varOf w p) i && soleFrom b w (vars w - varOf w p - 1) (suc i) (onlyChild w p))
-      split =
-          let l = layered w o .node p two (a .inside) in
-          let e : vars w - varOf w p ≡ suc (vars w - varOf w p - 1) = omega (arith, l .var) in
-          ap (λ (k : ℕ). soleFrom b w k i p) e ∙ sole-node b w (vars w - varOf w p - 1) i p two
+  pub along-inside : (k : ℕ) → along w k < size w
+  along-inside zero = rw (along-start w) (root-in w o)
+  along-inside (suc k) = by-two (along w k)
+      (λ t. rw (along-ended w k t) (along-inside k))
+      (λ two. rw (along-node w k two) (only-in (along w k) two (along-inside k) .0))
 
-      module _ (var : ℕ) (ev : var ≡ varOf w p) (d : Bool) (ed : d ≡ due b var i) where
-        pub along-no : not d ≡ true → false ≡ isSole b w
-        along-no n =
-            let x : due b (varOf w p) i ≡ false = ap (λ (y : ℕ). due b y i) (sym ev) ∙ sym ed ∙ not-true d n in
-            sym (sym (a .rest) ∙ split ∙ rw x)
+  pub along-begins : (n : ℕ) → n ≡ size w → Along w 0 (n - 1)
+  along-begins n e = rw e (record { is = sym (along-start w); inside = root-in w o; passed = omega arith })
 
-        pub along-on : not d ≡ false → (child : ℕ) → child ≡ onlyChild w p
-            → Along b w (i + 1) child × (vars w - varOf w child < vars w - varOf w p)
-        along-on n child ec =
-            let l = layered w o .node p two (a .inside) in
-            let c = only-in w o p two (a .inside) in
-            let x : due b (varOf w p) i ≡ true = ap (λ (y : ℕ). due b y i) (sym ev) ∙ sym ed ∙ not-false d n in
-            let s : soleFrom b w (vars w - varOf w p - 1) (suc i) (onlyChild w p) ≡ isSole b w = sym (split ∙ rw x) ∙ a .rest in
-            rw (ec, add-one) (
-              record {
-                inside = c .0;
-                passed = omega (arith, c .1, a .passed);
-                rest = sole-enough w o b (vars w - varOf w (onlyChild w p)) (vars w - varOf w p - 1) (suc i) (onlyChild w p) (c .0) (omega arith) (omega (arith, c .1)) ∙ s;
-              },
-              omega (arith, c .1, l .var),
-            )
+  module _ {i p : ℕ} (a : Along w i p) where
+    pub along-var : varOf w p ≤ vars w
+    along-var = var-most w (vars w) (size w) (layered w o) p (a .inside)
 
-    module _ (end : p ≤ 1) where
-      ended : (eqb p 1 && due b (vars w) i) ≡ isSole b w
-      ended = sym (sole-end b w (vars w - varOf w p) i p (omega arith)) ∙ a .rest
+    pub along-on : 2 ≤ p → {c : ℕ} → c ≡ onlyChild w p → Along w (suc i) c × (vars w - varOf w c < vars w - varOf w p)
+    along-on two {c} e =
+        let l = layered w o .node p two (a .inside) in
+        let n = only-in p two (a .inside) in
+        let next : along w (suc i) ≡ onlyChild w p = along-node w i (rw (← a .is) two) ∙ ap (onlyChild w) (sym (a .is)) in
+        rw e (record { is = sym next; inside = n .0; passed = omega (arith, n .1, a .passed) }, omega (arith, n .1, l .var))
 
-      pub along-one : p ≡ 1 → (v : ℕ) → v ≡ vars w → (d : Bool) → d ≡ due b v i → d ≡ isSole b w
-      along-one e v ev d ed = ed ∙ ap (λ (y : ℕ). due b y i) ev ∙ sym (ap (λ (t : Bool). t && due b (vars w) i) (eq-eqb p 1 e)) ∙ ended
+    module _ (end : p < 2) where
+      -- as many steps as there are variables lead there too
+      pub along-ends : along w (vars w) ≡ p
+      along-ends =
+          let v = layered w o .terminal p end (a .inside) in
+          let split : i + (vars w - i) ≡ vars w = omega (arith, a .passed) in
+          ap (along w) (sym split) ∙ along-stays w (vars w - i) i (rw (← a .is) end) ∙ sym (a .is)
 
-      pub along-zero : (p ≡ 1 → ⊥) → false ≡ isSole b w
-      along-zero n = sym (ap (λ (t : Bool). t && due b (vars w) i) (ne-eqb p 1 n)) ∙ ended
+      pub clause-is : eqb p 1 ≡ isClause w
+      clause-is = ap (λ (q : ℕ). eqb q 1) (sym along-ends)
+
+  -- ---- every variable
+
+  pub testing-begins : (n : ℕ) → n ≡ size w → Testing w 0 (n - 1)
+  testing-begins n e = record { at = along-begins n e; tested = λ j h. absurd (omega arith) }
+
+  module _ {i p : ℕ} (t : Testing w i p) where
+    pub testing-small : i ≤ 255
+    testing-small = omega (arith, along-var (t .at), t .at .passed, o .formed .variables)
+
+    -- a variable that isn't the one that is due
+    not-due : i < vars w → (varOf w p ≡ i → ⊥) → false ≡ isValuation w
+    not-due h ne =
+        let fails : eqb (varOf w (along w i)) i ≡ false = rw (← t .at .is) (ne-eqb (varOf w p) i ne) in
+        sym (rw (every-no (vars w) (λ j. eqb (varOf w (along w j)) j) i h fails) (and-false (isClause w)))
+
+    module _ (two : 2 ≤ p) {var : ℕ} (ev : var ≡ varOf w p) where
+      pub testing-no : (var ≡ i → ⊥) → false ≡ isValuation w
+      testing-no ne =
+          let l = layered w o .node p two (t .at .inside) in
+          not-due (omega (arith, l .var, t .at .passed)) (λ e. ne (ev ∙ e))
+
+      pub testing-on : var ≡ i → {c : ℕ} → c ≡ onlyChild w p → Testing w (i + 1) c × (vars w - varOf w c < vars w - varOf w p)
+      testing-on e {c} ec =
+          let n = along-on (t .at) two ec in
+          let here : eqb (varOf w (along w i)) i ≡ true = rw (← t .at .is) (eq-eqb (varOf w p) i (sym ev ∙ e)) in
+          rw (add-one i) (record { at = n .0; tested = λ j h. by-eq j i (λ x. rw x here) (λ ne. t .tested j (omega arith)) }, n .1)
+
+    module _ (end : p < 2) where
+      pub testing-zero : (p ≡ 1 → ⊥) → false ≡ isValuation w
+      testing-zero ne =
+          let no : isClause w ≡ false = sym (clause-is (t .at) end) ∙ ne-eqb p 1 ne in
+          sym (rw no refl)
+
+      pub testing-one : p ≡ 1 → {v : ℕ} → v ≡ vars w → eqb i v ≡ isValuation w
+      testing-one one {v} ev = by-eq i v
+          (λ e.
+          let yes : isClause w ≡ true = sym (clause-is (t .at) end) ∙ eq-eqb p 1 one in
+          let all = every-all (vars w) (λ j. eqb (varOf w (along w j)) j) (λ j h. t .tested j (omega arith)) in
+          eq-eqb i v e ∙ sym (both-and (isClause w) (every (vars w) (λ j. eqb (varOf w (along w j)) j)) yes all))
+          (λ ne.
+          let at-v = layered w o .terminal p end (t .at .inside) in
+          ne-eqb i v ne ∙ not-due (omega (arith, t .at .passed)) (λ e. ne (omega arith)))

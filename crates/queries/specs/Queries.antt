@@ -1,7 +1,7 @@
 -- Small queries (document 01, port 4): what they answer on an accepted array.
 use Prim.Native.Nat.{ℕ, zero, suc}
 use mathlib.Core.Path.{_≡_}
-use mathlib.Core.Bool.{Bool, true, false, cond, _&&_}
+use mathlib.Core.Bool.{Bool, true, cond, _&&_}
 use mathlib.Core.List.{List, [], _∷_, _++_}
 use lib.ListN.{length, drop}
 use lib.Dec.{ltb, eqb}
@@ -12,31 +12,28 @@ use Rattle.diagram.specs.Verdict.{verdictOf, ifAccepted, Checked}
 use Rattle.diagram.specs.declared.verdict.Verdict.{Verdict}
 use Rattle.diagram.specs.declared.verdict.Output.the-variants.{Nothing, PerVariable}
 
--- The walk of `is_clause` and `is_valuation` in the Rust. At a node one link has to go to node 0, and the walk goes by the
--- other one; where neither does it ends with a no, as it would at node 0.
+-- Where one link of a node goes to node 0, the other; where neither does, node 0.
 unfoldable pub onlyChild : List ℕ → ℕ → ℕ
 onlyChild w p = cond (eqb (lowOf w p) 0) (highOf w p) (cond (eqb (highOf w p) 0) (lowOf w p) 0)
 
--- A valuation has every variable tested: the next one at the node that the walk comes to has to be i.
-unfoldable pub due : Bool → ℕ → ℕ → Bool
-due every variable i = cond every (eqb variable i) true
+-- The walk of `is_clause` and `is_valuation` in the Rust: where it stands after k steps. It starts at the root, goes on to
+-- the only child, and ends at a terminal.
+unfoldable pub along : List ℕ → ℕ → ℕ
+along w zero = root w
+along w (suc k) = let p = along w k in cond (ltb p 2) p (onlyChild w p)
 
--- The walk from p, after i steps: it has to end at node 1, whose variable is the count, so that none was skipped at the
--- end. Variables grow, so k steps are enough where k variables are left.
-unfoldable pub soleFrom : Bool → List ℕ → ℕ → ℕ → ℕ → Bool
-soleFrom every w zero i p = eqb p 1 && due every (vars w) i
-soleFrom every w (suc k) i p =
-    cond (ltb p 2) (eqb p 1 && due every (vars w) i)
-    (due every (varOf w p) i && soleFrom every w k (suc i) (onlyChild w p))
+-- Every number below n passes a test.
+unfoldable pub every : ℕ → (ℕ → Bool) → Bool
+every zero test = true
+every (suc n) test = every n test && test n
 
-abbrev pub isSole : Bool → List ℕ → Bool
-isSole every w = soleFrom every w (vars w) 0 (root w)
-
+-- A clause: the walk ends at node 1. Variables grow along it, so it has ended after as many steps as there are variables.
 abbrev pub isClause : List ℕ → Bool
-isClause w = isSole false w
+isClause w = eqb (along w (vars w)) 1
 
+-- A valuation: besides, no variable is skipped. After i steps the walk stands at variable i.
 abbrev pub isValuation : List ℕ → Bool
-isValuation w = isSole true w
+isValuation w = isClause w && every (vars w) (λ i. eqb (varOf w (along w i)) i)
 
 -- How many nodes test a variable; for each of the first k variables.
 abbrev pub nodesAt : List ℕ → ℕ → ℕ

@@ -2,14 +2,16 @@
 pub mod per_variable;
 mod sole;
 
+use diagram::node::BddVariable;
 use diagram::validate::admit;
 use diagram::verdict::Output;
 use diagram::verdict::Verdict;
-use sole::is_sole;
+use sole::ends_at_one;
+use sole::tests_every_variable;
 ghost use mathlib.Core.Bool.{true, false};
 ghost use lib.Dec.{eqb};
 ghost use Rattle.diagram.specs.Diagram.{size as sizeOf, vars as varsOf};
-ghost use Rattle.queries.specs.Queries.{isSole, isClause, isValuation, Tells};
+ghost use Rattle.queries.specs.Queries.{isClause, isValuation, Tells};
 
 // A verdict, and a number, which is zero where the words are refused.
 pub struct Amount {
@@ -85,8 +87,26 @@ pub fn is_false(words: &[u32], room: &mut [u32]) -> Answer
     }
 }
 
-fn walk_answers(words: &[u32], room: &mut [u32], every: bool) -> Answer
-    ensures { λ r. ⌜ Tells (now (words .entry)) (now (room .entry)) (now (room .exit)) (r .verdict) (isSole every (now (words .entry))) false (r .yes) ⌝ }
+// Whether the array is one conjunction of literals, as far as the walk sees: a yes is right, and on a reduced array so is a
+// no.
+pub fn is_clause(words: &[u32], room: &mut [u32]) -> Answer
+    ensures { λ r. ⌜ Tells (now (words .entry)) (now (room .entry)) (now (room .exit)) (r .verdict) (isClause (now (words .entry))) false (r .yes) ⌝ }
+{
+    let verdict = admit(words, room, Output::Nothing);
+    let Verdict::Accepted { nodes, vars: _ } = verdict else {
+        return Answer {
+            verdict,
+            yes: false,
+        };
+    };
+    let yes = ends_at_one(words, nodes);
+    Answer { verdict, yes }
+}
+
+// Whether the array holds for one valuation alone, as far as the walk sees: a yes is right, and on a reduced array so is
+// a no.
+pub fn is_valuation(words: &[u32], room: &mut [u32]) -> Answer
+    ensures { λ r. ⌜ Tells (now (words .entry)) (now (room .entry)) (now (room .exit)) (r .verdict) (isValuation (now (words .entry))) false (r .yes) ⌝ }
 {
     let verdict = admit(words, room, Output::Nothing);
     let Verdict::Accepted { nodes, vars } = verdict else {
@@ -95,21 +115,6 @@ fn walk_answers(words: &[u32], room: &mut [u32], every: bool) -> Answer
             yes: false,
         };
     };
-    let yes = is_sole(words, nodes, vars, every);
+    let yes = tests_every_variable(words, nodes, BddVariable(vars));
     Answer { verdict, yes }
-}
-
-// Whether the array is one conjunction of literals, as far as the walk sees: an array that isn't reduced may get a no.
-pub fn is_clause(words: &[u32], room: &mut [u32]) -> Answer
-    ensures { λ r. ⌜ Tells (now (words .entry)) (now (room .entry)) (now (room .exit)) (r .verdict) (isClause (now (words .entry))) false (r .yes) ⌝ }
-{
-    walk_answers(words, room, false)
-}
-
-// Whether the array holds for one valuation alone, as far as the walk sees: a yes is right, and on a reduced array so is
-// a no.
-pub fn is_valuation(words: &[u32], room: &mut [u32]) -> Answer
-    ensures { λ r. ⌜ Tells (now (words .entry)) (now (room .entry)) (now (room .exit)) (r .verdict) (isValuation (now (words .entry))) false (r .yes) ⌝ }
-{
-    walk_answers(words, room, true)
 }

@@ -1,11 +1,12 @@
 // The walk of clauses and valuations.
 use diagram::node::BddPointer;
+use diagram::node::BddVariable;
 use diagram::node::high_link_of;
 use diagram::node::low_link_of;
 use diagram::node::var_of;
 ghost use mathlib.Core.Path.{_≡_};
 ghost use Rattle.diagram.specs.Diagram.{size as sizeOf, vars as varsOf, Ordered};
-ghost use Rattle.queries.specs.Queries.{onlyChild, due as dueOf, isSole};
+ghost use Rattle.queries.specs.Queries.{onlyChild, isClause, isValuation};
 
 // Where one link goes to node 0, the other; where neither does, node 0, at which the walk ends with a no.
 fn only_child(words: &[u32], node: BddPointer) -> BddPointer
@@ -22,30 +23,35 @@ fn only_child(words: &[u32], node: BddPointer) -> BddPointer
     BddPointer(0)
 }
 
-// Where every variable has to be tested, the next one has to be `expected`.
-fn due(every: bool, var: u32, expected: u32) -> bool
-    ensures { λ r. ⌜ r ≡ dueOf every var expected ⌝ }
+// Whether the walk from the root ends at node 1.
+pub(crate) fn ends_at_one(words: &[u32], nodes: usize) -> bool
+    requires { ⌜ (nodes ≡ sizeOf (now words)) × Ordered (now words) ⌝ }
+    ensures { λ r. ⌜ r ≡ isClause (now (words .entry)) ⌝ }
 {
-    if every { var == expected } else { true }
+    let mut node = BddPointer((nodes - 1) as u32);
+    while !node.is_terminal() {
+        node = only_child(words, node);
+    }
+    node.0 == 1
 }
 
-pub(crate) fn is_sole(words: &[u32], nodes: usize, vars: u32, every: bool) -> bool
-    requires { ⌜ (nodes ≡ sizeOf (now words)) × (vars ≡ varsOf (now words)) × Ordered (now words) ⌝ }
-    ensures { λ r. ⌜ r ≡ isSole every (now (words .entry)) ⌝ }
+// Whether it does so by way of every variable.
+pub(crate) fn tests_every_variable(words: &[u32], nodes: usize, vars: BddVariable) -> bool
+    requires { ⌜ (nodes ≡ sizeOf (now words)) × (vars .0 ≡ varsOf (now words)) × Ordered (now words) ⌝ }
+    ensures { λ r. ⌜ r ≡ isValuation (now (words .entry)) ⌝ }
 {
-    let mut node = (nodes - 1) as u32;
-    let mut expected = 0;
-    while 1 < node {
-        let var = var_of(words, BddPointer(node));
-        if !due(every, var.0, expected) {
+    let mut node = BddPointer((nodes - 1) as u32);
+    let mut expected = BddVariable(0);
+    while !node.is_terminal() {
+        let var = var_of(words, node);
+        if var.0 != expected.0 {
             return false;
         }
-        let child = only_child(words, BddPointer(node));
-        node = child.0;
-        expected += 1;
+        node = only_child(words, node);
+        expected = BddVariable(expected.0 + 1);
     }
-    if node == 1 {
-        return due(every, vars, expected);
+    if node.0 != 1 {
+        return false;
     }
-    false
+    expected.0 == vars.0
 }

@@ -227,15 +227,14 @@ module _ {w r out : List ℕ} {n v : ℕ} (lent : Lent w r out n v) {m : ℕ} (i
   pub answer-few : c ≤ maxNodes
   answer-few = let fits = made .fits in let e = most (lent .asked) is-m in let few = lent-few (lent .asked) is-m in omega arith
 
-  module _ {out′ : List ℕ} (kept : length out′ ≡ length out) (copied : Copied t m out out′ (3 * c)) where
+  module _ {out′ : List ℕ} (kept : length out′ ≡ length out) (copied : Copied t (max (size w) 2) out out′ (3 * c)) where
     front : take (3 * c) out′ ≡ reduce w
     front =
         let fits = answer-fits in
         let few = made .fits in
-        let e = most (lent .asked) is-m in
         let long = lent .asked .long in
         let same = made .kept in
-        copied-front copied (omega arith) (omega arith) ∙ ap (λ (k : ℕ). take (3 * c) (drop k t)) e ∙ made .store
+        copied-front copied (omega arith) (omega arith) ∙ made .store
 
     pub answer-ends : {u : List ℕ} → u ≡ replicate (min (6 * m) (length t)) 0 ++ drop (6 * m) t → Answered w r out u out′ c
     answer-ends e =

@@ -13,12 +13,13 @@ use Rattle.diagram.specs.Diagram.{varOf, lowOf, highOf, size, vars, root, holds
 use Rattle.diagram.specs.Reading.{eval}
 use Rattle.diagram.proofs.Reading.{layered, by-two, eval-ends, holds-is-eval, accepted-ordered, root-in}
 use Rattle.reduction.specs.Reduce.{Node, node, words, find, Built, canon, terminals, reduced, reduce}
-use Rattle.reduction.specs.Demand3.{Agree, Demand3}
+use Rattle.reduction.specs.Demand3.{Agree, Always, Numbering, Demand3}
 use Rattle.reduction.specs.Build.{at, Sound, own}
 use Rattle.reduction.proofs.Store.{node-path, length-words, size-words, var-words, low-words, high-words, extends-refl}
 use Rattle.reduction.proofs.Canon.{Same, canon-cong, canon-constant}
 use Rattle.reduction.proofs.Sound.{sound-terminals, terminal-at, sound-layered, Means, canon-means}
 use Rattle.reduction.proofs.Reached.{canon-last, canon-reach}
+use Rattle.reduction.proofs.Numbering.{canon-numbers}
 use Rattle.reduction.proofs.Graph.{own-terminal, reduce-own}
 use Rattle.reduction.proofs.Count.{count}
 use Rattle.reduction.proofs.Fewest.{Closed, own-fits, store-fits}
@@ -178,6 +179,22 @@ module _ (v : ℕ) (f : List Bool → Bool) where
       sound-once v o (made-means .sound) p q (omega arith) (omega arith)
       (node-path (at o p) (at o q) (simp (var-words o) at i) (simp (low-words o) at l) (simp (high-words o) at h)))
 
+  pub reduced-after : (p : ℕ) → 2 ≤ p → p < size (reduced v f) → (lowOf (reduced v f) p < p) × (highOf (reduced v f) p < p)
+  reduced-after p two = by-reduced (λ r. p < size r → (lowOf r p < p) × (highOf r p < p))
+      (λ e h. let n = lone-size v in absurd (omega arith))
+      (λ e h.
+      let n = size-words (made .store) in
+      let each = made-means .sound .each p two (omega arith) in
+      rw (low-words (made .store) p, high-words (made .store) p) (each .low, each .high))
+
+  pub reduced-numbered : 2 ≤ size (reduced v f) → Numbering (reduced v f) 2 (root (reduced v f)) (size (reduced v f))
+  reduced-numbered = by-reduced (λ r. 2 ≤ size r → Numbering r 2 (root r) (size r))
+      (λ e h. let n = lone-size v in absurd (omega arith))
+      (λ e h.
+      let n = size-words (made .store) in
+      let last : made .pointer ≡ root (words (made .store)) = omega arith in
+      rw (← last, n) (canon-numbers v v 0 f (terminals v) (sound-terminals v) (omega arith) (made .store) (extends-refl (made .store))))
+
   pub reduced-accepted : v ≤ maxVariables → size (reduced v f) ≤ maxNodes → Accepted (reduced v f)
   reduced-accepted variables = by-reduced (λ r. size r ≤ maxNodes → Accepted r)
       (λ e few. lone-accepted v variables)
@@ -282,6 +299,22 @@ module _ (w : List ℕ) (o : Ordered w) where
   unfolding reduce
   reduce-distinct = reduced-distinct (vars w) (holds w)
 
+  pub reduce-after : (p : ℕ) → 2 ≤ p → p < size (reduce w) → (lowOf (reduce w) p < p) × (highOf (reduce w) p < p)
+  unfolding reduce
+  reduce-after = reduced-after (vars w) (holds w)
+
+  pub reduce-numbered : 2 ≤ size (reduce w) → Numbering (reduce w) 2 (root (reduce w)) (size (reduce w))
+  unfolding reduce
+  reduce-numbered = reduced-numbered (vars w) (holds w)
+
+reduce-never : (w : List ℕ) → Always false w → reduce w ≡ vars w ∷ 0 ∷ 0 ∷ []
+unfolding reduce words
+reduce-never w s = reduced-never (vars w) (holds w) s
+
+reduce-always : (w : List ℕ) → Always true w → reduce w ≡ vars w ∷ 0 ∷ 0 ∷ vars w ∷ 1 ∷ 1 ∷ []
+unfolding reduce words
+reduce-always w s = reduced-always (vars w) (holds w) s
+
 -- Equal words hold for the same valuations.
 reduce-tells : (a b : List ℕ) → Ordered a → Ordered b → vars a ≡ vars b → reduce a ≡ reduce b → Agree (vars a) a b
 reduce-tells a b oa ob e r bs l =
@@ -303,4 +336,8 @@ demand3 = record {
   lean = reduce-lean;
   distinct = reduce-distinct;
   fewest = reduce-fewest;
+  numbered = reduce-numbered;
+  after-children = reduce-after;
+  false-one = reduce-never;
+  true-two = reduce-always;
 }

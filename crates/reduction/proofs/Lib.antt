@@ -3,6 +3,7 @@
 --     Canon         building: it only adds, building again adds nothing, and only the function's values count
 --     Sound         stores that building keeps sound, in which the pointer stands for the function
 --     Reached       what is added is reached from the pointer, which is then the last node
+--     Numbering     what is built is numbered on the way back, low branch first
 --     Graph         building a node of a diagram: the recursion that code follows
 --     Count         counting marks
 --     Fewest        the store has no more nodes than the diagram
@@ -18,6 +19,7 @@ pub mod Store
 pub mod Canon
 pub mod Sound
 pub mod Reached
+pub mod Numbering
 pub mod Graph
 pub mod Count
 pub mod Fewest

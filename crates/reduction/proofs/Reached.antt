@@ -20,7 +20,7 @@ use Rattle.reduction.proofs.Sound.{not-terminal, Means, canon-means}
 abbrev pub Last : List Node → Built → Type 0
 Last o b = length o < length (b .store) → suc (b .pointer) ≡ length (b .store)
 
-two-at : (v : ℕ) (o : List Node) → Sound v o → (i l h p : ℕ) → i < v → at o p ≡ node i l h → 2 ≤ p
+pub two-at : (v : ℕ) (o : List Node) → Sound v o → (i l h p : ℕ) → i < v → at o p ≡ node i l h → 2 ≤ p
 two-at v o s i l h p i-in e = let var = ap (λ (n : Node). n .var) e in not-terminal v o s p (omega arith)
 
 -- A node that is there already stands after its children; so nothing was added for them.

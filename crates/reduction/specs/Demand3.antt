@@ -1,16 +1,27 @@
 -- What is promised of reduction, of any ordered array and so of any accepted one (`demand3` of proofs/Canonical.antt).
-use Prim.Native.Nat.{ℕ, _≤_, _<_}
+use Prim.Native.Nat.{ℕ, suc, _≤_, _<_}
 use mathlib.Core.Path.{_≡_}
 use mathlib.Core.Logic.{_↔_, _≢_}
-use mathlib.Core.Bool.{Bool}
-use mathlib.Core.List.{List}
+use mathlib.Core.Bool.{Bool, true, false}
+use mathlib.Core.List.{List, [], _∷_}
 use lib.ListN.{length}
-use Rattle.diagram.specs.Diagram.{varOf, lowOf, highOf, size, vars, holds, Ordered, Accepted}
+use Rattle.diagram.specs.Diagram.{varOf, lowOf, highOf, size, vars, root, holds, Ordered, Accepted}
 use Rattle.reduction.specs.Reduce.{reduce}
 
 -- Two arrays hold for the same valuations of v variables.
 abbrev pub Agree : ℕ → List ℕ → List ℕ → Type 0
 Agree v a b = (bs : List Bool) → length bs ≡ v → holds a bs ≡ holds b bs
+
+-- An array holds for every valuation, or for none.
+abbrev pub Always : Bool → List ℕ → Type 0
+Always b w = (bs : List Bool) → length bs ≡ vars w → holds w bs ≡ b
+
+-- Numbering on the way back, low branch first: where the nodes below a have their numbers, the walk to p gives out those
+-- from a to b. A node that has its number gets no other; any other node gets its number after its low branch has been
+-- numbered, and then its high branch.
+pub data Numbering (w : List ℕ) : ℕ → ℕ → ℕ → Type 0 where
+  there : {a p : ℕ} → p < a → Numbering w a p a
+  after : {a b p : ℕ} → Numbering w a (lowOf w p) b → Numbering w b (highOf w p) p → Numbering w a p (suc p)
 
 pub record Demand3 : Type 0 where
   -- the reduced diagram is over the same variables and holds for the same valuations
@@ -27,3 +38,9 @@ pub record Demand3 : Type 0 where
       → varOf (reduce w) p ≡ varOf (reduce w) q → lowOf (reduce w) p ≡ lowOf (reduce w) q → highOf (reduce w) p ≡ highOf (reduce w) q → p ≡ q
   -- no array over the same variables that holds for the same valuations has fewer nodes
   pub fewest : (w a : List ℕ) → Ordered w → Ordered a → vars a ≡ vars w → Agree (vars w) a w → size (reduce w) ≤ size a
+  -- nodes after the terminals are numbered on the way back, low branch first, root last: so a node stands after its children
+  pub numbered : (w : List ℕ) → Ordered w → 2 ≤ size (reduce w) → Numbering (reduce w) 2 (root (reduce w)) (size (reduce w))
+  pub after-children : (w : List ℕ) → Ordered w → (p : ℕ) → 2 ≤ p → p < size (reduce w) → (lowOf (reduce w) p < p) × (highOf (reduce w) p < p)
+  -- false has one node, true two
+  pub false-one : (w : List ℕ) → Always false w → reduce w ≡ vars w ∷ 0 ∷ 0 ∷ []
+  pub true-two : (w : List ℕ) → Always true w → reduce w ≡ vars w ∷ 0 ∷ 0 ∷ vars w ∷ 1 ∷ 1 ∷ []

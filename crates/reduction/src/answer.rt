@@ -6,9 +6,10 @@ use diagram::node::word;
 use diagram::room::clear;
 use diagram::room::put;
 ghost use mathlib.Core.Path.{_≡_};
-ghost use Prim.Native.Nat.{_+_, _*_, _≤_};
+ghost use Prim.Native.Nat.{_+_, _*_, _≤_, max};
 ghost use lib.ListN.{length};
 ghost use Rattle.diagram.specs.Limits.{maxNodes, roomPerNode};
+ghost use Rattle.diagram.specs.Diagram.{size};
 ghost use Rattle.reduction.specs.Room.{started, Copied, Asked, Shelved, Lent, Answered};
 
 // Writes the terminals' words to a room that is zero.
@@ -46,6 +47,16 @@ pub fn make(words: &[u32], room: &mut [u32], nodes: usize, vars: u32) -> usize
     made.pointer.to_index() + 1
 }
 
+// Copies the diagram's answer, of so many nodes, from the room to the output. It stands behind the memo, which has a word
+// for each of the diagram's nodes.
+fn hand_over(words: &[u32], room: &[u32], output: &mut [u32], count: usize)
+    requires { ⌜ (size (now words) ≤ maxNodes) × (3 * count ≤ length (now output)) ⌝ }
+    ensures { λ _. ⌜ Copied (now (room .entry)) (max (size (now (words .entry))) 2) (now (output .entry)) (now (output .exit)) (3 * count) ⌝ }
+{
+    let memo = most(words.len() / 3);
+    copy(room, memo, output, 3 * count);
+}
+
 // Reduces an ordered array in a room that is zero, and gives the number of nodes.
 pub(crate) fn answer(
     words: &[u32],
@@ -59,7 +70,7 @@ pub(crate) fn answer(
 {
     let most = most(nodes);
     let count = make(words, room, nodes, vars);
-    copy(room, most, output, 3 * count);
+    hand_over(words, room, output, count);
     clear(room, 6 * most);
     count
 }

@@ -34,8 +34,10 @@ pub(crate) fn build(
             count,
         };
     }
-    let low = build(words, room, most, count, low_link_of(words, node));
-    let high = build(words, room, most, low.count, high_link_of(words, node));
+    let low_link = low_link_of(words, node);
+    let high_link = high_link_of(words, node);
+    let low = build(words, room, most, count, low_link);
+    let high = build(words, room, most, low.count, high_link);
     let var = var_of(words, node);
     let made = join(room, most, high.count, var, low.pointer, high.pointer);
     put(room, at, made.pointer.0 + 1);

@@ -1,4 +1,4 @@
-use Rattle.reduction.proofs.Answering.{lent-few, answer-few, answer-fits, answer-ends}
+use Rattle.reduction.proofs.Answering.{lent-few, answer-fits, answer-ends}
 use native.Mathlib.Omega.{arith}
 use borrow.Author.Needs.{needs}
 use Rattle.reduction.proofs.answer.answer.Statement.{statement}
@@ -10,11 +10,8 @@ most-requires c κs = search needs
 make-requires : tie.Need-make-requires
 make-requires c κs = c .before .before .before .before .before .pre .asked
 
-mul-copy : tie.Need-mul-copy
-mul-copy c = omega (arith, answer-few (c .before .before .before .before .before .before .before .before .before .before .pre) (c .before .before .before .before .before .before .most .ensures) (c .before .before .before .before .make .ensures))
-
-copy-requires : tie.Need-copy-requires
-copy-requires c κs = (omega (arith, lent-few (c .before .before .before .before .before .before .before .before .before .before .pre .asked) (c .before .before .before .before .before .before .most .ensures)), answer-fits (c .before .before .before .before .before .before .before .before .before .before .pre) (c .before .before .before .before .before .before .most .ensures) (c .before .before .before .before .make .ensures))
+hand-over-requires : tie.Need-hand-over-requires
+hand-over-requires c κs = (c .before .before .before .before .before .before .before .before .before .before .pre .asked .ordered .formed .few, answer-fits (c .before .before .before .before .before .before .before .before .before .before .pre) (c .before .before .before .before .before .before .most .ensures) (c .before .before .before .before .make .ensures))
 
 mul-clear : tie.Need-mul-clear
 mul-clear c = omega (arith, lent-few (c .before .before .before .before .before .before .before .before .before .before .before .before .before .before .pre .asked) (c .before .before .before .before .before .before .before .before .before .before .most .ensures))
@@ -29,7 +26,7 @@ same-length-2 : tie.Need-same-length-2
 same-length-2 c = search needs
 
 returns : tie.Need-returns
-returns c = answer-ends (c .before .before .before .before .before .before .before .before .before .before .before .before .before .before .before .before .before .pre) (c .before .before .before .before .before .before .before .before .before .before .before .before .before .most .ensures) (c .before .before .before .before .before .before .before .before .before .before .before .make .ensures) (c .before .before .before .before .before .before .copy .kept .1 .1 .0) (c .before .before .before .before .before .before .copy .ensures) (c .before .before .clear .ensures)
+returns c = answer-ends (c .before .before .before .before .before .before .before .before .before .before .before .before .before .before .before .before .before .pre) (c .before .before .before .before .before .before .before .before .before .before .before .before .before .most .ensures) (c .before .before .before .before .before .before .before .before .before .before .before .make .ensures) (c .before .before .before .before .before .before .hand-over .kept .1 .1 .0) (c .before .before .before .before .before .before .hand-over .ensures) (c .before .before .clear .ensures)
 
 pub answer-spec : {M : Type 1} → statement M
 answer-spec =
@@ -37,8 +34,7 @@ answer-spec =
     (tie.spec
     most-requires
     make-requires
-    mul-copy
-    copy-requires
+    hand-over-requires
     mul-clear
     clear-requires
     same-length

@@ -34,7 +34,7 @@ abbrev build-below : ℕ → In 2 build-kinds.ps
 build-below t = and 2 build-kinds.ps (falls 2 build-kinds.ps _<_ μ-build t) build.Pre
 
 abbrev known : ℕ → build-lts.Claims
-known t = (is-terminal-reads.Asked, is-terminal-reads.Learnt, to-index-reads.Asked, to-index-reads.Learnt, word-reads.Asked, word-reads.Learnt, low-link-of-reads.Asked, low-link-of-reads.Learnt, build-below t, build.Post, high-link-of-reads.Asked, high-link-of-reads.Learnt, var-of-reads.Asked, var-of-reads.Learnt, join-reads.Asked, join-reads.Learnt, put-reads.Asked, put-reads.Learnt)
+known t = (is-terminal-reads.Asked, is-terminal-reads.Learnt, to-index-reads.Asked, to-index-reads.Learnt, word-reads.Asked, word-reads.Learnt, low-link-of-reads.Asked, low-link-of-reads.Learnt, high-link-of-reads.Asked, high-link-of-reads.Learnt, build-below t, build.Post, var-of-reads.Asked, var-of-reads.Learnt, join-reads.Asked, join-reads.Learnt, put-reads.Asked, put-reads.Learnt)
 
 build-is-terminal-requires : (t : ℕ) → build-lts.Need-is-terminal-requires (known t) (build-at t) build.Post
 build-is-terminal-requires t c κs = search needs
@@ -50,8 +50,8 @@ build-to-index-requires t c κs = search needs
 build-word-requires : (t : ℕ) → build-lts.Need-word-requires (known t) (build-at t) build.Post
 build-word-requires t c κs = search needs
 
-build-sub-t16 : (t : ℕ) → build-lts.Need-sub-t16 (known t) (build-at t) build.Post
-build-sub-t16 t c = search needs
+build-sub-t18 : (t : ℕ) → build-lts.Need-sub-t18 (known t) (build-at t) build.Post
+build-sub-t18 t c = search needs
 
 build-same-length : (t : ℕ) → build-lts.Need-same-length (known t) (build-at t) build.Post
 build-same-length t c = search needs
@@ -64,18 +64,18 @@ build-returns-2 t c =
 build-low-link-of-requires : (t : ℕ) → build-lts.Need-low-link-of-requires (known t) (build-at t) build.Post
 build-low-link-of-requires t c κs = search needs
 
-build-build-requires : (t : ℕ) → build-lts.Need-build-requires (known t) (build-at t) build.Post
-build-build-requires t c κs =
-    let two = ltb-false (c .before .before .before .before .before .before .before .before .before .before .args .node .0) 2 (sym (c .before .before .before .before .before .before .before .is-terminal .ensures) ∙ c .before .before .before .before .before .before .if1 .left) in
-    (rw (c .before .before .before .before .before .before .before .before .before .before .pre .0) at (walk-falls (c .before .before .before .before .before .before .before .before .before .before .pre .1) two (c .low-link-of .ensures)), walk-low (c .before .before .before .before .before .before .before .before .before .before .pre .1) two (c .low-link-of .ensures))
-
 build-high-link-of-requires : (t : ℕ) → build-lts.Need-high-link-of-requires (known t) (build-at t) build.Post
 build-high-link-of-requires t c κs = search needs
+
+build-build-requires : (t : ℕ) → build-lts.Need-build-requires (known t) (build-at t) build.Post
+build-build-requires t c κs =
+    let two = ltb-false (c .before .before .before .before .before .before .before .before .before .before .before .args .node .0) 2 (sym (c .before .before .before .before .before .before .before .before .is-terminal .ensures) ∙ c .before .before .before .before .before .before .before .if1 .left) in
+    (rw (c .before .before .before .before .before .before .before .before .before .before .before .pre .0) at (walk-falls (c .before .before .before .before .before .before .before .before .before .before .before .pre .1) two (c .before .before .low-link-of .ensures)), walk-low (c .before .before .before .before .before .before .before .before .before .before .before .pre .1) two (c .before .before .low-link-of .ensures))
 
 build-build-requires-2 : (t : ℕ) → build-lts.Need-build-requires-2 (known t) (build-at t) build.Post
 build-build-requires-2 t c κs =
     let two = ltb-false (c .before .before .before .before .before .before .before .before .before .before .before .before .before .before .before .args .node .0) 2 (sym (c .before .before .before .before .before .before .before .before .before .before .before .before .is-terminal .ensures) ∙ c .before .before .before .before .before .before .before .before .before .before .before .if1 .left) in
-    (rw (c .before .before .before .before .before .before .before .before .before .before .before .before .before .before .before .pre .0) at (walk-falls-high (c .before .before .before .before .before .before .before .before .before .before .before .before .before .before .before .pre .1) two (c .high-link-of .ensures)), walk-high (c .before .before .before .before .before .before .before .before .before .before .before .before .before .before .before .pre .1) two (c .before .before .before .before .before .low-link-of .ensures) (c .before .before .before .before .build .ensures) (c .high-link-of .ensures))
+    (rw (c .before .before .before .before .before .before .before .before .before .before .before .before .before .before .before .pre .0) at (walk-falls-high (c .before .before .before .before .before .before .before .before .before .before .before .before .before .before .before .pre .1) two (c .before .before .before .before .before .high-link-of .ensures)), walk-high (c .before .before .before .before .before .before .before .before .before .before .before .before .before .before .before .pre .1) two (c .before .before .before .before .before .before .low-link-of .ensures) (c .before .before .before .build .ensures) (c .before .before .before .before .before .high-link-of .ensures))
 
 build-var-of-requires : (t : ℕ) → build-lts.Need-var-of-requires (known t) (build-at t) build.Post
 build-var-of-requires t c κs = search needs
@@ -83,12 +83,12 @@ build-var-of-requires t c κs = search needs
 build-join-requires : (t : ℕ) → build-lts.Need-join-requires (known t) (build-at t) build.Post
 build-join-requires t c κs =
     let two = ltb-false (c .before .before .before .before .before .before .before .before .before .before .before .before .before .before .before .before .before .before .before .before .args .node .0) 2 (sym (c .before .before .before .before .before .before .before .before .before .before .before .before .before .before .before .before .before .is-terminal .ensures) ∙ c .before .before .before .before .before .before .before .before .before .before .before .before .before .before .before .before .if1 .left) in
-    walk-shelf (c .before .before .before .before .before .before .before .before .before .before .before .before .before .before .before .before .before .before .before .before .pre .1) two (c .before .before .before .before .before .before .before .before .before .before .low-link-of .ensures) (c .before .before .before .before .before .before .before .before .before .build .ensures) (c .before .before .before .before .before .high-link-of .ensures) (c .before .before .before .before .build2 .ensures)
+    walk-shelf (c .before .before .before .before .before .before .before .before .before .before .before .before .before .before .before .before .before .before .before .before .pre .1) two (c .before .before .before .before .before .before .before .before .before .before .before .low-link-of .ensures) (c .before .before .before .before .before .before .before .before .build .ensures) (c .before .before .before .before .before .before .before .before .before .before .high-link-of .ensures) (c .before .before .before .before .build2 .ensures)
 
 build-add-put : (t : ℕ) → build-lts.Need-add-put (known t) (build-at t) build.Post
 build-add-put t c =
     let two = ltb-false (c .before .before .before .before .before .before .before .before .before .before .before .before .before .before .before .before .before .before .before .before .before .before .before .before .before .args .node .0) 2 (sym (c .before .before .before .before .before .before .before .before .before .before .before .before .before .before .before .before .before .before .before .before .before .before .is-terminal .ensures) ∙ c .before .before .before .before .before .before .before .before .before .before .before .before .before .before .before .before .before .before .before .before .before .if1 .left) in
-    let small = walk-small (c .before .before .before .before .before .before .before .before .before .before .before .before .before .before .before .before .before .before .before .before .before .before .before .before .before .pre .1) two (c .before .before .before .before .before .before .before .before .before .before .before .before .before .before .before .low-link-of .ensures) (c .before .before .before .before .before .before .before .before .before .before .before .before .before .before .build .ensures) (c .before .before .before .before .before .before .before .before .before .before .high-link-of .ensures) (c .before .before .before .before .before .before .before .before .before .build2 .ensures) (c .before .before .before .before .before .before .var-of .ensures) (c .before .before .before .before .join .ensures) in
+    let small = walk-small (c .before .before .before .before .before .before .before .before .before .before .before .before .before .before .before .before .before .before .before .before .before .before .before .before .before .pre .1) two (c .before .before .before .before .before .before .before .before .before .before .before .before .before .before .before .before .low-link-of .ensures) (c .before .before .before .before .before .before .before .before .before .before .before .before .before .build .ensures) (c .before .before .before .before .before .before .before .before .before .before .before .before .before .before .before .high-link-of .ensures) (c .before .before .before .before .before .before .before .before .before .build2 .ensures) (c .before .before .before .before .before .before .var-of .ensures) (c .before .before .before .before .join .ensures) in
     omega (arith, small, walk-few (c .before .before .before .before .before .before .before .before .before .before .before .before .before .before .before .before .before .before .before .before .before .before .before .before .before .pre .1))
 
 build-put-requires : (t : ℕ) → build-lts.Need-put-requires (known t) (build-at t) build.Post
@@ -101,7 +101,7 @@ build-returns-3 : (t : ℕ) → build-lts.Need-returns-3 (known t) (build-at t) 
 build-returns-3 t c =
     let two = ltb-false (c .before .before .before .before .before .before .before .before .before .before .before .before .before .before .before .before .before .before .before .before .before .before .before .before .before .before .before .before .args .node .0) 2 (sym (c .before .before .before .before .before .before .before .before .before .before .before .before .before .before .before .before .before .before .before .before .before .before .before .before .before .is-terminal .ensures) ∙ c .before .before .before .before .before .before .before .before .before .before .before .before .before .before .before .before .before .before .before .before .before .before .before .before .if1 .left) in
     let here = ap (λ (p : ℕ). set (c .before .before .before .before .before .before .before .join .last .0) p (c .before .before .before .before .before .before .before .join .result .pointer .0 + 1)) (c .before .before .before .before .before .before .before .before .before .before .before .before .before .before .before .before .before .before .before .before .before .before .before .to-index .ensures) in
-    walk-node (c .before .before .before .before .before .before .before .before .before .before .before .before .before .before .before .before .before .before .before .before .before .before .before .before .before .before .before .before .pre .1) two (c .before .before .before .before .before .before .before .before .before .before .before .before .before .before .before .before .before .before .low-link-of .ensures) (c .before .before .before .before .before .before .before .before .before .before .before .before .before .before .before .before .before .build .ensures) (c .before .before .before .before .before .before .before .before .before .before .before .before .before .high-link-of .ensures) (c .before .before .before .before .before .before .before .before .before .before .before .before .build2 .ensures) (c .before .before .before .before .before .before .before .before .before .var-of .ensures) (c .before .before .before .before .before .before .before .join .ensures) (c .before .before .put .ensures ∙ here)
+    walk-node (c .before .before .before .before .before .before .before .before .before .before .before .before .before .before .before .before .before .before .before .before .before .before .before .before .before .before .before .before .pre .1) two (c .before .before .before .before .before .before .before .before .before .before .before .before .before .before .before .before .before .before .before .low-link-of .ensures) (c .before .before .before .before .before .before .before .before .before .before .before .before .before .before .before .before .build .ensures) (c .before .before .before .before .before .before .before .before .before .before .before .before .before .before .before .before .before .before .high-link-of .ensures) (c .before .before .before .before .before .before .before .before .before .before .before .before .build2 .ensures) (c .before .before .before .before .before .before .before .before .before .var-of .ensures) (c .before .before .before .before .before .before .before .join .ensures) (c .before .before .put .ensures ∙ here)
 
 pub +build-spec : {M : Type 1} → statement M
 +build-spec = close μ-build λ t. build-lts.spec (known t)
@@ -111,12 +111,12 @@ pub +build-spec : {M : Type 1} → statement M
     (build-returns t)
     (build-to-index-requires t)
     (build-word-requires t)
-    (build-sub-t16 t)
+    (build-sub-t18 t)
     (build-same-length t)
     (build-returns-2 t)
     (build-low-link-of-requires t)
-    (build-build-requires t)
     (build-high-link-of-requires t)
+    (build-build-requires t)
     (build-build-requires-2 t)
     (build-var-of-requires t)
     (build-join-requires t)
