@@ -1,7 +1,6 @@
 -- What is promised of cuts, proved.
-use Prim.Native.Nat.{ℕ, _+_, _-_, _^_, _≤_, _<_}
+use Prim.Native.Nat.{ℕ, _+_, _≤_, _<_}
 use mathlib.Core.Path.{_≡_, sym, _∙_}
-use mathlib.Core.Logic.{_↔_}
 use mathlib.Core.Bool.{Bool, true, false, cond}
 use mathlib.Core.List.{List, []}
 use native.Mathlib.Omega.{arith}
@@ -9,22 +8,20 @@ use lib.ListN.{length}
 use lib.Dec.{leb, eqb}
 use borrow.Author.Tests.{le-leb}
 use Rattle.diagram.specs.Diagram.{size, vars, root, holds, Ordered, Accepted}
-use Rattle.diagram.specs.Valuations.{meets, countOf}
+use Rattle.diagram.specs.Valuations.{meets}
 use Rattle.diagram.proofs.Tests.{by-test, both-and, cond-true, cond-false}
 use Rattle.diagram.proofs.Reading.{accepted-ordered}
 use Rattle.reduction.specs.Reduce.{reduce}
 use Rattle.reduction.proofs.Count.{count-mono}
 use Rattle.approximation.specs.Cut.{listed, cut}
-use Rattle.approximation.specs.Search.{Answer, underToSize, underToCount}
 use Rattle.approximation.specs.Sorted.{Distinct}
-use Rattle.approximation.specs.Rules.{SizeRules, CountRules}
 use Rattle.approximation.specs.Demand2.{ByList, Demand2}
 use Rattle.approximation.proofs.Send.{send-is-cut}
 use Rattle.approximation.proofs.Cut.{hits, cut-root-under, cut-root-over, cut-size, cut-holds, cut-reduced, cut-under, cut-over, cut-same, cut-none}
 use Rattle.approximation.proofs.Members.{count-listed, order-sorted, order-distinct, order-listed, order-unique}
 use Rattle.approximation.proofs.Listing.{under-accepted-open, over-accepted-open, over-accepted-most}
-use Rattle.approximation.proofs.Search.{size-by-rules, size-rules-only, count-by-rules, count-rules-only}
-use Rattle.approximation.proofs.Targets.{to-size-search, to-size-under, to-size-fits, over-to-size-over, over-to-size-fits, to-count-search, search-many, to-count-under, to-count-fits, over-to-count-over, over-to-count-fits}
+use Rattle.approximation.proofs.Rules.{under-size, over-size, under-count, over-count}
+use Rattle.approximation.proofs.Targets.{to-size-under, to-size-fits, over-to-size-over, over-to-size-fits, to-count-under, to-count-fits, over-to-count-over, over-to-count-fits}
 
 module _ (w list : List ℕ) (o : Ordered w) where
   list-holds : (t : ℕ) → t < 2 → (bs : List Bool) → length bs ≡ vars w
@@ -71,23 +68,6 @@ empty-list : (w : List ℕ) (t : ℕ) → cut w (listed []) t ≡ reduce w
 unfolding listed
 empty-list w t = cut-none w t
 
-size-rules : (w : List ℕ) (t : ℕ) → 2 < t → t < size w → (a : Answer) → SizeRules w t 0 (size w - t) 0 a ↔ (a ≡ underToSize w t)
-size-rules w t low high a =
-    let search = to-size-search w t low high in (
-      λ rules. size-rules-only w t rules (size w - t) (omega arith) ∙ sym search,
-      λ e. rw (e, search) (size-by-rules w t (size w - t) 0 (size w - t) 0 (omega arith)),
-    )
-
-count-rules : (w : List ℕ) (k : ℕ) → Accepted w → (size w ≡ 2 → 0 < k → k < 2 ^ vars w → ⊥) → 0 < k → k < countOf w
-    → (a : Answer) → CountRules w k 0 (countOf w - k) 0 a ↔ (a ≡ underToCount w k)
-count-rules w k accepted open-target low high a =
-    let o = accepted-ordered w accepted in
-    let many = search-many w k accepted open-target low high in
-    let search = to-count-search w k low high in (
-      λ rules. count-rules-only w k o many rules (size w - 2) (omega arith) ∙ sym search,
-      λ e. rw (e, search) (count-by-rules w k o many (size w - 2) 0 (countOf w - k) 0 (omega arith)),
-    )
-
 pub demand2 : Demand2
 demand2 = record {
   by-list = by-list;
@@ -97,12 +77,14 @@ demand2 = record {
   size-under = to-size-under;
   size-over = over-to-size-over;
   size-fits = λ w t a two. (to-size-fits w t a two, over-to-size-fits w t a two);
-  size-rules = size-rules;
+  under-size = under-size;
+  over-size = over-size;
   count-under = λ w k a e.
       (to-count-under w k a (under-accepted-open w k e), to-count-fits w k a (under-accepted-open w k e));
   count-over = λ w k a e. (
     over-to-count-over w k a (over-accepted-most w k e) (over-accepted-open w k e),
     over-to-count-fits w k a (over-accepted-most w k e) (over-accepted-open w k e),
   );
-  count-rules = λ w k a e. count-rules w k a (under-accepted-open w k e);
+  under-count = λ w k a e. under-count w k a (under-accepted-open w k e);
+  over-count = λ w k a e. over-count w k a (over-accepted-most w k e) (over-accepted-open w k e);
 }

@@ -8,6 +8,7 @@
 --     Listing    what refuses a list or a count target, and what an acceptance tells
 --     Search     the searches obey their rules
 --     Targets    answers to a target: inclusion, and the target met
+--     Rules      the answers are what document 01's sentences say, and nothing else is
 --     Demand2    what is promised of cuts
 --     Nights     the examples of document 01
 pub mod Constants
@@ -19,5 +20,6 @@ pub mod Members
 pub mod Listing
 pub mod Search
 pub mod Targets
+pub mod Rules
 pub mod Demand2
 pub mod Nights

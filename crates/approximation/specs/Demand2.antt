@@ -1,6 +1,6 @@
 -- What is promised of cuts, of any accepted array (`demand2` of proofs/Demand2.antt). Demand 2: cutting by a list changes the
 -- answer only for valuations whose path meets a listed node; under makes all of these fail, over makes all of them hold.
-use Prim.Native.Nat.{ℕ, _+_, _-_, _≤_, _<_}
+use Prim.Native.Nat.{ℕ, _+_, _≤_, _<_}
 use mathlib.Core.Path.{_≡_}
 use mathlib.Core.Logic.{_↔_}
 use mathlib.Core.Bool.{Bool, true, false, _&&_}
@@ -15,7 +15,7 @@ use Rattle.approximation.specs.Constants.{falseOf, trueOf}
 use Rattle.approximation.specs.Cut.{listed, underBy, overBy, underCountOf, overCountOf, Under, Over, send}
 use Rattle.approximation.specs.Search.{Answer, goesFirst, order, underToSize, overToSize, underToCount, overToCount}
 use Rattle.approximation.specs.Sorted.{Distinct, Sorted}
-use Rattle.approximation.specs.Rules.{SizeRules, CountRules}
+use Rattle.approximation.specs.Rules.{UnderSize, OverSize, UnderCount, OverCount}
 
 -- By a list.
 pub record ByList (w list : List ℕ) : Type 0 where
@@ -50,16 +50,18 @@ pub record Demand2 : Type 0 where
   pub empty : (w : List ℕ) → (underBy w [] ≡ reduce w) × (overBy w [] ≡ reduce w)
   pub priorities : (w : List ℕ) → Priorities w (order w)
   pub no-others : (w list : List ℕ) → Priorities w list → list ≡ order w
-  -- to a size: at most t nodes for t ≥ 2; where the search runs, its rules lead to this answer and its trials, and no other
+  -- to a size: on the right side; at most t nodes for t ≥ 2; the answer and its trials are what 01's sentences say, and no other
   pub size-under : (w : List ℕ) (t : ℕ) → Accepted w → Under w (underToSize w t .words)
   pub size-over : (w : List ℕ) (t : ℕ) → Accepted w → Over w (overToSize w t .words)
   pub size-fits : (w : List ℕ) (t : ℕ) → Accepted w → 2 ≤ t → (size (underToSize w t .words) ≤ t) × (size (overToSize w t .words) ≤ t)
-  pub size-rules : (w : List ℕ) (t : ℕ) → 2 < t → t < size w
-      → (a : Answer) → SizeRules w t 0 (size w - t) 0 a ↔ (a ≡ underToSize w t)
-  -- to a count that is not refused, likewise
+  pub under-size : (w : List ℕ) (t : ℕ) (a : Answer) → UnderSize w t a ↔ (a ≡ underToSize w t)
+  pub over-size : (w : List ℕ) (t : ℕ) → Accepted w → (a : Answer) → OverSize w t a ↔ (a ≡ overToSize w t)
+  -- to a count that is not refused, likewise: at most k valuations from below, at least k from above
   pub count-under : (w : List ℕ) (k : ℕ) → Accepted w → underCountOf w k ≡ accepted (size w) (vars w)
       → Under w (underToCount w k .words) × (countOf (underToCount w k .words) ≤ k)
   pub count-over : (w : List ℕ) (k : ℕ) → Accepted w → overCountOf w k ≡ accepted (size w) (vars w)
       → Over w (overToCount w k .words) × (k ≤ countOf (overToCount w k .words))
-  pub count-rules : (w : List ℕ) (k : ℕ) → Accepted w → underCountOf w k ≡ accepted (size w) (vars w) → 0 < k → k < countOf w
-      → (a : Answer) → CountRules w k 0 (countOf w - k) 0 a ↔ (a ≡ underToCount w k)
+  pub under-count : (w : List ℕ) (k : ℕ) → Accepted w → underCountOf w k ≡ accepted (size w) (vars w)
+      → (a : Answer) → UnderCount w k a ↔ (a ≡ underToCount w k)
+  pub over-count : (w : List ℕ) (k : ℕ) → Accepted w → overCountOf w k ≡ accepted (size w) (vars w)
+      → (a : Answer) → OverCount w k a ↔ (a ≡ overToCount w k)

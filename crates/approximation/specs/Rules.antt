@@ -1,11 +1,17 @@
--- The rules of the two searches (document 01, "The evening's cut"), with no fuel: which answer they lead to. Each rule makes
--- one cut by a list, and adds one to the trials.
-use Prim.Native.Nat.{ℕ, suc, _-_, _≤_, _<_}
+-- Document 01's "The evening's cut", sentence by sentence, with no fuel: which answer the rules lead to. That they lead to the
+-- answers of Search.antt and to no other is in Demand2.antt.
+use Prim.Native.Nat.{ℕ, suc, _-_, _^_, _≤_, _<_}
 use mathlib.Core.Path.{_≡_}
+use mathlib.Core.Bool.{cond}
 use mathlib.Core.List.{List}
-use Rattle.diagram.specs.Diagram.{size}
+use lib.Dec.{eqb}
+use Rattle.diagram.specs.Diagram.{size, vars}
 use Rattle.diagram.specs.Valuations.{countOf}
+use Rattle.negation.specs.Negation.{negated}
+use Rattle.approximation.specs.Constants.{falseOf, trueOf}
 use Rattle.approximation.specs.Search.{Answer, answer, cutFirst, middle, reached}
+
+-- ---- the searches: each rule makes one cut by a list, and adds one to the trials
 
 -- To size t, between start and stop, after some trials.
 pub data SizeRules (w : List ℕ) (t : ℕ) : ℕ → ℕ → ℕ → Answer → Type 0 where
@@ -30,3 +36,42 @@ pub data CountRules (w : List ℕ) (k : ℕ) : ℕ → ℕ → ℕ → Answer �
   on : {taken rest trials : ℕ} {a : Answer} → k < countOf (cutFirst w (reached w taken rest))
       → CountRules w k (reached w taken rest) (countOf (cutFirst w (reached w taken rest)) - k) (suc trials) a
       → CountRules w k taken rest trials a
+
+-- From above: the negation of an answer to which rules lead, with the same trials.
+pub record ByNegation (Rules : Answer → Type 0) (a : Answer) : Type 0 where
+  pub found : Answer
+  pub rules : Rules found
+  pub words : a .words ≡ negated (found .words)
+  pub trials : a .trials ≡ found .trials
+
+-- ---- the targets: what is answered for each; an early answer makes no cut
+
+-- From below to size t: t ≤ 1 gives false; t = 2 gives true if the array has two nodes, else false; t ≥ n gives the input
+-- words as they stand; otherwise the search.
+pub record UnderSize (w : List ℕ) (t : ℕ) (a : Answer) : Type 0 where
+  pub none : t ≤ 1 → a ≡ answer (falseOf (vars w)) 0
+  pub two : t ≡ 2 → a ≡ answer (cond (eqb (size w) 2) (trueOf (vars w)) (falseOf (vars w))) 0
+  pub same : 2 < t → size w ≤ t → a ≡ answer w 0
+  pub search : 2 < t → t < size w → SizeRules w t 0 (size w - t) 0 a
+
+-- From above: t ≤ 1 gives true, also from false; t = 2 gives false if the array has one node, else true; t ≥ n gives the
+-- input words as they stand; otherwise the search over the negation.
+pub record OverSize (w : List ℕ) (t : ℕ) (a : Answer) : Type 0 where
+  pub none : t ≤ 1 → a ≡ answer (trueOf (vars w)) 0
+  pub two : t ≡ 2 → a ≡ answer (cond (eqb (size w) 1) (falseOf (vars w)) (trueOf (vars w))) 0
+  pub same : 2 < t → size w ≤ t → a ≡ answer w 0
+  pub search : 2 < t → t < size w → ByNegation (SizeRules (negated w) t 0 (size w - t) 0) a
+
+-- From below to count k: k = 0 gives false; k at or above the count gives the input words; otherwise count − k is to remove.
+pub record UnderCount (w : List ℕ) (k : ℕ) (a : Answer) : Type 0 where
+  pub none : k ≡ 0 → a ≡ answer (falseOf (vars w)) 0
+  pub same : 0 < k → countOf w ≤ k → a ≡ answer w 0
+  pub search : 0 < k → k < countOf w → CountRules w k 0 (countOf w - k) 0 a
+
+-- From above: k at or below the count gives the input words; all valuations that are not held already give true; otherwise
+-- k − count is to remove from the negation, whose target is its count less that.
+pub record OverCount (w : List ℕ) (k : ℕ) (a : Answer) : Type 0 where
+  pub same : k ≤ countOf w → a ≡ answer w 0
+  pub all : countOf w < k → k ≡ 2 ^ vars w → a ≡ answer (trueOf (vars w)) 0
+  pub search : countOf w < k → k < 2 ^ vars w
+      → ByNegation (CountRules (negated w) (countOf (negated w) - (k - countOf w)) 0 (k - countOf w) 0) a

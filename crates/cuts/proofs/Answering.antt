@@ -22,8 +22,8 @@ use Rattle.reduction.proofs.Answering.{copied-front}
 use Rattle.approximation.specs.Cut.{cut, listed, listOf}
 use Rattle.approximation.proofs.Cut.{cut-same}
 use Rattle.approximation.proofs.Listing.{Listable, by-list, outside-refused, ending-refused}
-use Rattle.cuts.specs.Marks.{markedIn, Markable, Marked, Cutting, CutIn}
-use Rattle.cuts.specs.Approximates.{cutVerdict, Approximates, Listing, Listed}
+use Rattle.cuts.specs.Marks.{markedIn, Markable, Marked, Cutting, CutIn, Listing, Listed}
+use Rattle.cuts.specs.Approximates.{cutVerdict, Approximates}
 
 -- ---- a room that is given back
 

@@ -5,12 +5,12 @@
 use Prim.Native.Nat.{ℕ, _+_, _*_, _≤_, _<_, max}
 use mathlib.Core.Path.{_≡_}
 use mathlib.Core.Bool.{Bool, cond, not, _||_}
-use mathlib.Core.List.{List}
+use mathlib.Core.List.{List, _++_}
 use lib.ListN.{length, getD, set, take, drop}
 use lib.Dec.{ltb, eqb}
 use Rattle.diagram.specs.Limits.{maxNodes}
-use Rattle.diagram.specs.Diagram.{size, vars, Formed, Ordered}
-use Rattle.diagram.specs.Verdict.{most}
+use Rattle.diagram.specs.Diagram.{size, vars, Formed, Ordered, Accepted}
+use Rattle.diagram.specs.Verdict.{most, roomOf}
 use Rattle.reduction.specs.Reduce.{reduce}
 use Rattle.approximation.specs.Cut.{cut, send, listed}
 
@@ -89,3 +89,21 @@ pub record CutIn (w : List ℕ) (t : ℕ) (r after : List ℕ) (k : ℕ) : Type 
   pub made : take (3 * k) (drop (18 * most w) after) ≡ cut w (markedIn (most w) r) t
   pub before : take (17 * most w) after ≡ take (17 * most w) r
   pub beyond : drop (23 * most w) after ≡ drop (23 * most w) r
+
+-- ---- by a list
+
+-- An accepted diagram with a list whose pointers name nodes, in a room that is zero; and what is answered.
+pub record Listing (w list : List ℕ) (t : ℕ) (r out : List ℕ) (n v : ℕ) : Type 0 where
+  pub accepted : Accepted w
+  pub is-size : n ≡ size w
+  pub is-vars : v ≡ vars w
+  pub terminal : t < 2
+  pub inside : (j : ℕ) → j < length list → getD list j 0 < size w
+  pub long : roomOf w ≤ length r
+  pub zero : (j : ℕ) → j < roomOf w → getD r j 0 ≡ 0
+  pub output : 3 * most w ≤ length out
+
+pub record Listed (w list : List ℕ) (t : ℕ) (r after out out′ : List ℕ) (k : ℕ) : Type 0 where
+  pub count : k ≡ size (cut w (listed list) t)
+  pub room : after ≡ r
+  pub written : out′ ≡ cut w (listed list) t ++ drop (length (cut w (listed list) t)) out

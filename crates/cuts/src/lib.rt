@@ -2,7 +2,7 @@
 pub mod cut;
 mod listing;
 pub mod marks;
-pub mod send;
+mod send;
 
 use cut::SENT;
 use cut::cut;
@@ -16,7 +16,8 @@ use listing::listing;
 use marks::mark_all;
 use reduction::answer::copy;
 ghost use Prim.Native.Nat.{_<_};
-ghost use Rattle.cuts.specs.Approximates.{Approximates, Listing, Listed};
+ghost use Rattle.cuts.specs.Approximates.{Approximates};
+ghost use Rattle.cuts.specs.Marks.{Listing, Listed};
 
 // A verdict, and how many nodes stand in the output: none where the words or the list are refused.
 pub struct Approximation {

@@ -43,7 +43,7 @@ fn put_node(sent: &mut [u32], node: BddPointer, var: BddVariable, low: BddPointe
 }
 
 // Writes the copy.
-pub fn send(
+pub(crate) fn send(
     words: &[u32],
     room: &[u32],
     most: usize,

@@ -1,6 +1,5 @@
--- What a reader must believe of the code that orders nodes.
+-- For the code that orders nodes; no promise to a caller names these.
 --     Prioritised  what it asks for and gives
--- and, for the code inside, which no promise to a caller names:
 --     Halves       stretches of the room, and what becomes of them
 pub mod Prioritised
 pub mod Halves

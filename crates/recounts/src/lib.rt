@@ -25,11 +25,11 @@ ghost use Rattle.counts.specs.Worth.{Worths};
 ghost use Rattle.recounts.specs.Kept.{rootOf, Rooted, Beginning, Begun, Recounting, Recounted};
 
 // Where the chains' links and what is left at the nodes stand in the working room, in words for each node.
-pub const LINKS: usize = 17;
+pub(crate) const LINKS: usize = 17;
 
-pub const COUNTS: usize = 18;
+pub(crate) const COUNTS: usize = 18;
 
-pub const END: usize = COUNTS + naturals::WORDS;
+const END: usize = COUNTS + naturals::WORDS;
 
 // The chains, and the counts behind their links.
 fn count_whole(words: &[u32], heads: &mut [u32], part: &mut [u32], nodes: usize, vars: u32)

@@ -27,10 +27,11 @@ use Rattle.trials.specs.Answers.{Keeping, Kept, Returned}
 use Rattle.trials.proofs.Early.{searching-keeps, searching-kept}
 use Rattle.count_search.specs.Rounds.{Aiming, Countable}
 use Rattle.count_search.proofs.Aims.{aiming-countable}
-use Rattle.targets.specs.Targets.{Meets, Targeting, UnderCounting, OverCounting, Fewer, Hit}
+use Rattle.targets.specs.Targets.{Meets}
+use Rattle.targets.specs.Hits.{toldOf, Targeting, Counting, Fewer, Hit}
 use Rattle.targets.proofs.Hitting.{Flipped, targeting-searches, flipped-searches, back-hits}
 
-pub under-aims : {w r out : List ℕ} {k n v : ℕ} → UnderCounting w r out k n v → Aiming w r k n v
+pub under-aims : {w r out : List ℕ} {k n v : ℕ} → Counting false w r out k n v → Aiming w r k n v
 under-aims a = record { searching = targeting-searches (a .targeting); target = a .target }
 
 pub targeting-variables : {w r out : List ℕ} {n v : ℕ} → Targeting w r out n v → v ≤ maxVariables
@@ -38,7 +39,7 @@ targeting-variables t = let is = t .is-vars in let few = t .accepted .formed .va
 
 -- ---- a target that is met
 
-module _ {w r out : List ℕ} {k n v : ℕ} (a : OverCounting w r out k n v) {m : ℕ} (is-m : m ≡ max n 2) where
+module _ {w r out : List ℕ} {k n v : ℕ} (a : Counting true w r out k n v) {m : ℕ} (is-m : m ≡ max n 2) where
   m-is : m ≡ most w
   m-is = is-m ∙ ap (λ (i : ℕ). max i 2) (a .targeting .is-size)
 
@@ -135,7 +136,7 @@ module _ {w before after : List ℕ} (out : List ℕ) {verdict : Verdict} (check
       }
 
 -- An acceptance of a target has the diagram's own counts.
-pub under-own : (w : List ℕ) (k : ℕ) {n v : ℕ} → underCountOf w k ≡ accepted n v → underCountOf w k ≡ accepted (size w) (vars w)
+under-own : (w : List ℕ) (k : ℕ) {n v : ℕ} → underCountOf w k ≡ accepted n v → underCountOf w k ≡ accepted (size w) (vars w)
 unfolding underCountOf row
 under-own w k e = own (between w k && eqb (size w) 2) e
   where
@@ -143,7 +144,7 @@ under-own w k e = own (between w k && eqb (size w) 2) e
     own true e = let z : _≡_ {A = ℕ} 0 1 = cc in absurd (omega arith)
     own false e = refl
 
-pub over-own : (w : List ℕ) (k : ℕ) {n v : ℕ} → overCountOf w k ≡ accepted n v → overCountOf w k ≡ accepted (size w) (vars w)
+over-own : (w : List ℕ) (k : ℕ) {n v : ℕ} → overCountOf w k ≡ accepted n v → overCountOf w k ≡ accepted (size w) (vars w)
 unfolding overCountOf row
 over-own w k e = own (ltb (2 ^ vars w) k) (between w k && eqb (size w) 1) e
   where
@@ -152,3 +153,7 @@ over-own w k e = own (ltb (2 ^ vars w) k) (between w k && eqb (size w) 1) e
     own true b e = let z : _≡_ {A = ℕ} 0 1 = cc in absurd (omega arith)
     own false true e = let z : _≡_ {A = ℕ} 0 1 = cc in absurd (omega arith)
     own false false e = refl
+
+pub told-own : (above : Bool) (w : List ℕ) (k : ℕ) {n v : ℕ} → toldOf above w k ≡ accepted n v → toldOf above w k ≡ accepted (size w) (vars w)
+told-own true w k e = over-own w k e
+told-own false w k e = under-own w k e

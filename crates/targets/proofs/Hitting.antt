@@ -23,7 +23,8 @@ use Rattle.approximation.specs.Search.{Answer, back}
 use Rattle.cuts.proofs.Answering.{zeros-back}
 use Rattle.trials.specs.Trials.{Searching, Found}
 use Rattle.trials.specs.Answers.{answerIn, Giving, Given, Returning, Returned}
-use Rattle.targets.specs.Targets.{Meets, Targeting, Hit}
+use Rattle.targets.specs.Targets.{Meets}
+use Rattle.targets.specs.Hits.{Targeting, Hit}
 
 -- The negation stands at the front of a list.
 pub record Flipped (w : List ℕ) (made : ℕ) (flipped : List ℕ) : Type 0 where

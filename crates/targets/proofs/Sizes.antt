@@ -8,7 +8,7 @@ use Rattle.approximation.specs.Search.{Answer, back, underToSize, overToSize}
 use Rattle.approximation.proofs.Targets.{to-size-under}
 use Rattle.trials.specs.Trials.{Found}
 use Rattle.trials.specs.Answers.{Returned}
-use Rattle.targets.specs.Targets.{Targeting, Hit}
+use Rattle.targets.specs.Hits.{Targeting, Hit}
 use Rattle.targets.proofs.Hitting.{Flipped, flipped-searches, back-hits}
 
 module _ {w r out : List ℕ} {n v : ℕ} (a : Targeting w r out n v) {made : ℕ} {flipped : List ℕ}

@@ -1,7 +1,6 @@
 // To a count.
 use crate::Approximated;
-use crate::open::over_open;
-use crate::open::under_open;
+use crate::told::tell;
 use count_search::Answer;
 use count_search::amounts::at_most;
 use count_search::amounts::excess;
@@ -18,10 +17,14 @@ use negation::negate;
 use trials::answers::give;
 use trials::answers::give_back;
 use trials::answers::keep;
+ghost use mathlib.Core.Bool.{true, false};
 ghost use lib.ListN.{length};
+ghost use Rattle.diagram.specs.Verdict.{andThen, verdictOf};
+ghost use Rattle.diagram.specs.declared.verdict.Output.{Output};
 ghost use Rattle.naturals.specs.Natural.{value};
 ghost use Rattle.approximation.specs.Search.{underToCount, overToCount};
-ghost use Rattle.targets.specs.Targets.{underCountVerdict, overCountVerdict, Meets, UnderCounting, OverCounting, Fewer, Hit};
+ghost use Rattle.targets.specs.Targets.{underCountVerdict, overCountVerdict, Meets};
+ghost use Rattle.targets.specs.Hits.{toCount, toldOf, Counting, Fewer, Hit};
 
 fn under(
     words: &[u32],
@@ -31,7 +34,7 @@ fn under(
     nodes: usize,
     vars: u32,
 ) -> Answer
-    requires { ⌜ UnderCounting (now words) (now room) (now output) (value (target .words)) nodes vars ⌝ }
+    requires { ⌜ Counting false (now words) (now room) (now output) (value (target .words)) nodes vars ⌝ }
     ensures { λ r. ⌜ Hit (underToCount (now (words .entry)) (value (target .words))) (now (room .entry)) (now (room .exit)) (now (output .entry)) (now (output .exit)) (r .nodes) (r .trials) ⌝ }
 {
     let found = under_count(words, room, target, nodes, vars);
@@ -71,7 +74,7 @@ fn over(
     nodes: usize,
     vars: u32,
 ) -> Answer
-    requires { ⌜ OverCounting (now words) (now room) (now output) (value (target .words)) nodes vars ⌝ }
+    requires { ⌜ Counting true (now words) (now room) (now output) (value (target .words)) nodes vars ⌝ }
     ensures { λ r. ⌜ Hit (overToCount (now (words .entry)) (value (target .words))) (now (room .entry)) (now (room .exit)) (now (output .entry)) (now (output .exit)) (r .nodes) (r .trials) ⌝ }
 {
     let most = most(nodes);
@@ -84,14 +87,33 @@ fn over(
     negate_and_back(words, target, room, output, nodes, vars)
 }
 
-// The answer has at most so many valuations, and it holds only where the diagram does.
-pub fn underapproximate_to_cardinality(
+// From below, or from above.
+fn hit(
     words: &[u32],
     target: Natural,
+    above: bool,
+    room: &mut [u32],
+    output: &mut [u32],
+    nodes: usize,
+    vars: u32,
+) -> Answer
+    requires { ⌜ Counting above (now words) (now room) (now output) (value (target .words)) nodes vars ⌝ }
+    ensures { λ r. ⌜ Hit (toCount above (now (words .entry)) (value (target .words))) (now (room .entry)) (now (room .exit)) (now (output .entry)) (now (output .exit)) (r .nodes) (r .trials) ⌝ }
+{
+    if above {
+        return over(words, target, room, output, nodes, vars);
+    }
+    under(words, target, room, output, nodes, vars)
+}
+
+fn to_count(
+    words: &[u32],
+    target: Natural,
+    above: bool,
     room: &mut [u32],
     output: &mut [u32],
 ) -> Approximated
-    ensures { λ r. ⌜ Meets (underCountVerdict (now (words .entry)) (value (target .words)) (length (now (output .entry))) (length (now (room .entry)))) (underToCount (now (words .entry)) (value (target .words))) (now (words .entry)) (now (room .entry)) (now (room .exit)) (now (output .entry)) (now (output .exit)) (r .verdict) (r .nodes) (r .trials) ⌝ }
+    ensures { λ r. ⌜ Meets (andThen (verdictOf (now (words .entry)) (Output.Diagram (length (now (output .entry)))) (length (now (room .entry)))) (toldOf above (now (words .entry)) (value (target .words)))) (toCount above (now (words .entry)) (value (target .words))) (now (words .entry)) (now (room .entry)) (now (room .exit)) (now (output .entry)) (now (output .exit)) (r .verdict) (r .nodes) (r .trials) ⌝ }
 {
     let verdict = admit(words, room, Output::Diagram(output.len()));
     let Verdict::Accepted { nodes, vars } = verdict else {
@@ -101,20 +123,32 @@ pub fn underapproximate_to_cardinality(
             trials: 0,
         };
     };
-    let open = under_open(target, nodes, vars);
-    let Verdict::Accepted { nodes: _, vars: _ } = open else {
+    let told = tell(target, above, nodes, vars);
+    let Verdict::Accepted { nodes: _, vars: _ } = told else {
         return Approximated {
-            verdict: open,
+            verdict: told,
             nodes: 0,
             trials: 0,
         };
     };
-    let found = under(words, target, room, output, nodes, vars);
+    let found = hit(words, target, above, room, output, nodes, vars);
     Approximated {
-        verdict: open,
+        verdict: told,
         nodes: found.nodes,
         trials: found.trials,
     }
+}
+
+// The answer has at most so many valuations, and it holds only where the diagram does.
+pub fn underapproximate_to_cardinality(
+    words: &[u32],
+    target: Natural,
+    room: &mut [u32],
+    output: &mut [u32],
+) -> Approximated
+    ensures { λ r. ⌜ Meets (underCountVerdict (now (words .entry)) (value (target .words)) (length (now (output .entry))) (length (now (room .entry)))) (underToCount (now (words .entry)) (value (target .words))) (now (words .entry)) (now (room .entry)) (now (room .exit)) (now (output .entry)) (now (output .exit)) (r .verdict) (r .nodes) (r .trials) ⌝ }
+{
+    to_count(words, target, false, room, output)
 }
 
 // The answer has at least so many valuations, and it holds wherever the diagram does.
@@ -126,26 +160,5 @@ pub fn overapproximate_to_cardinality(
 ) -> Approximated
     ensures { λ r. ⌜ Meets (overCountVerdict (now (words .entry)) (value (target .words)) (length (now (output .entry))) (length (now (room .entry)))) (overToCount (now (words .entry)) (value (target .words))) (now (words .entry)) (now (room .entry)) (now (room .exit)) (now (output .entry)) (now (output .exit)) (r .verdict) (r .nodes) (r .trials) ⌝ }
 {
-    let verdict = admit(words, room, Output::Diagram(output.len()));
-    let Verdict::Accepted { nodes, vars } = verdict else {
-        return Approximated {
-            verdict,
-            nodes: 0,
-            trials: 0,
-        };
-    };
-    let open = over_open(target, nodes, vars);
-    let Verdict::Accepted { nodes: _, vars: _ } = open else {
-        return Approximated {
-            verdict: open,
-            nodes: 0,
-            trials: 0,
-        };
-    };
-    let found = over(words, target, room, output, nodes, vars);
-    Approximated {
-        verdict: open,
-        nodes: found.nodes,
-        trials: found.trials,
-    }
+    to_count(words, target, true, room, output)
 }

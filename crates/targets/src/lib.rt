@@ -1,7 +1,7 @@
 // Cutting to a target (document 01, "The evening's cut").
 pub mod count;
-mod open;
 pub mod size;
+mod told;
 
 use diagram::verdict::Verdict;
 

@@ -12,7 +12,8 @@ use trials::answers::give;
 use trials::answers::give_back;
 ghost use lib.ListN.{length};
 ghost use Rattle.approximation.specs.Search.{underToSize, overToSize};
-ghost use Rattle.targets.specs.Targets.{sizeVerdict, Meets, Targeting, Hit};
+ghost use Rattle.targets.specs.Targets.{sizeVerdict, Meets};
+ghost use Rattle.targets.specs.Hits.{toSize, Targeting, Hit};
 
 fn under(
     words: &[u32],
@@ -52,14 +53,33 @@ fn over(
     }
 }
 
-// For a target of two nodes or more the answer has at most so many, and it holds only where the diagram does.
-pub fn underapproximate_to_size(
+// From below, or from above.
+fn hit(
     words: &[u32],
     target: u32,
+    above: bool,
+    room: &mut [u32],
+    output: &mut [u32],
+    nodes: usize,
+    vars: u32,
+) -> Sized
+    requires { ⌜ Targeting (now words) (now room) (now output) nodes vars ⌝ }
+    ensures { λ r. ⌜ Hit (toSize above (now (words .entry)) target) (now (room .entry)) (now (room .exit)) (now (output .entry)) (now (output .exit)) (r .nodes) (r .trials) ⌝ }
+{
+    if above {
+        return over(words, target, room, output, nodes, vars);
+    }
+    under(words, target, room, output, nodes, vars)
+}
+
+fn to_size(
+    words: &[u32],
+    target: u32,
+    above: bool,
     room: &mut [u32],
     output: &mut [u32],
 ) -> Approximated
-    ensures { λ r. ⌜ Meets (sizeVerdict (now (words .entry)) (length (now (output .entry))) (length (now (room .entry)))) (underToSize (now (words .entry)) target) (now (words .entry)) (now (room .entry)) (now (room .exit)) (now (output .entry)) (now (output .exit)) (r .verdict) (r .nodes) (r .trials) ⌝ }
+    ensures { λ r. ⌜ Meets (sizeVerdict (now (words .entry)) (length (now (output .entry))) (length (now (room .entry)))) (toSize above (now (words .entry)) target) (now (words .entry)) (now (room .entry)) (now (room .exit)) (now (output .entry)) (now (output .exit)) (r .verdict) (r .nodes) (r .trials) ⌝ }
 {
     let verdict = admit(words, room, Output::Diagram(output.len()));
     let Verdict::Accepted { nodes, vars } = verdict else {
@@ -69,12 +89,24 @@ pub fn underapproximate_to_size(
             trials: 0,
         };
     };
-    let found = under(words, target, room, output, nodes, vars);
+    let found = hit(words, target, above, room, output, nodes, vars);
     Approximated {
         verdict: Verdict::Accepted { nodes, vars },
         nodes: found.nodes,
         trials: found.trials,
     }
+}
+
+// For a target of two nodes or more the answer has at most so many, and it holds only where the diagram does.
+pub fn underapproximate_to_size(
+    words: &[u32],
+    target: u32,
+    room: &mut [u32],
+    output: &mut [u32],
+) -> Approximated
+    ensures { λ r. ⌜ Meets (sizeVerdict (now (words .entry)) (length (now (output .entry))) (length (now (room .entry)))) (underToSize (now (words .entry)) target) (now (words .entry)) (now (room .entry)) (now (room .exit)) (now (output .entry)) (now (output .exit)) (r .verdict) (r .nodes) (r .trials) ⌝ }
+{
+    to_size(words, target, false, room, output)
 }
 
 // For a target of two nodes or more the answer has at most so many, and it holds wherever the diagram does.
@@ -86,18 +118,5 @@ pub fn overapproximate_to_size(
 ) -> Approximated
     ensures { λ r. ⌜ Meets (sizeVerdict (now (words .entry)) (length (now (output .entry))) (length (now (room .entry)))) (overToSize (now (words .entry)) target) (now (words .entry)) (now (room .entry)) (now (room .exit)) (now (output .entry)) (now (output .exit)) (r .verdict) (r .nodes) (r .trials) ⌝ }
 {
-    let verdict = admit(words, room, Output::Diagram(output.len()));
-    let Verdict::Accepted { nodes, vars } = verdict else {
-        return Approximated {
-            verdict,
-            nodes: 0,
-            trials: 0,
-        };
-    };
-    let found = over(words, target, room, output, nodes, vars);
-    Approximated {
-        verdict: Verdict::Accepted { nodes, vars },
-        nodes: found.nodes,
-        trials: found.trials,
-    }
+    to_size(words, target, true, room, output)
 }

@@ -19,7 +19,7 @@ pub fn unmark(room: &mut [u32], nodes: usize)
 }
 
 // The first `count` nodes by priority are marked.
-pub fn mark_first(room: &mut [u32], nodes: usize, count: usize)
+fn mark_first(room: &mut [u32], nodes: usize, count: usize)
     requires { ⌜ FirstMarkable (now room) nodes count ⌝ }
     ensures { λ _. ⌜ Marked (take count (now (room .entry))) nodes (now (room .entry)) (now (room .exit)) ⌝ }
 {

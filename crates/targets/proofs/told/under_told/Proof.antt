@@ -1,7 +1,7 @@
 use Rattle.naturals.specs.Natural.{value}
 use Rattle.targets.proofs.Opening.{under-19, under-two, under-other}
-use Rattle.targets.proofs.open.under_open.Statement.{statement}
-use Rattle.targets.proofs.open.under_open.Tie as tie
+use Rattle.targets.proofs.told.under_told.Statement.{statement}
+use Rattle.targets.proofs.told.under_told.Tie as tie
 
 is-between-requires : tie.Need-is-between-requires
 is-between-requires c κs = c .before .pre
@@ -15,5 +15,5 @@ returns-2 c = (λ w is-n is-v. under-two w (value (c .before .before .before .ar
 returns-3 : tie.Need-returns-3
 returns-3 c = (λ w is-n is-v. under-other w (value (c .before .args .target .words)) is-n is-v (c .if1 .left))
 
-pub under-open-spec : {M : Type 1} → statement M
-under-open-spec = tie.close (tie.spec is-between-requires returns returns-2 returns-3)
+pub under-told-spec : {M : Type 1} → statement M
+under-told-spec = tie.close (tie.spec is-between-requires returns returns-2 returns-3)

@@ -2,8 +2,8 @@ use borrow.Author.Tests.{not-true, not-false}
 use Rattle.naturals.specs.Natural.{value}
 use Rattle.targets.proofs.Opening.{power-value, over-16, over-19, over-one, over-other}
 use borrow.Author.Needs.{needs}
-use Rattle.targets.proofs.open.over_open.Statement.{statement}
-use Rattle.targets.proofs.open.over_open.Tie as tie
+use Rattle.targets.proofs.told.over_told.Statement.{statement}
+use Rattle.targets.proofs.told.over_told.Tie as tie
 
 power-of-two-requires : tie.Need-power-of-two-requires
 power-of-two-requires c κs = search needs
@@ -26,8 +26,8 @@ returns-3 c = (λ w is-n is-v. over-one w (value (c .before .before .before .bef
 returns-4 : tie.Need-returns-4
 returns-4 c = (λ w is-n is-v. over-other w (value (c .before .before .before .before .args .target .words)) is-n is-v (power-value (c .before .before .before .before .args .vars) (c .before .before .before .before .pre) (c .before .before .before .power-of-two .ensures)) (c .before .before .at-most .ensures) (not-false _ (c .before .if1 .left)) (c .if2 .left))
 
-pub over-open-spec : {M : Type 1} → statement M
-over-open-spec =
+pub over-told-spec : {M : Type 1} → statement M
+over-told-spec =
     tie.close
     (tie.spec
     power-of-two-requires

@@ -16,6 +16,7 @@ ghost use Rattle.diagram.specs.Limits.{maxVariables};
 ghost use Rattle.diagram.specs.Diagram.{size, vars as varsOf};
 ghost use Rattle.diagram.specs.Verdict.{said};
 ghost use Rattle.approximation.specs.Cut.{underCountOf, overCountOf};
+ghost use Rattle.targets.specs.Hits.{toldOf};
 
 // Whether a count lies strictly between none and all valuations.
 fn is_between(target: Natural, vars: u32) -> bool
@@ -30,7 +31,7 @@ fn is_between(target: Natural, vars: u32) -> bool
 }
 
 // An array of two nodes is true, and nothing of it can be cut.
-pub(crate) fn under_open(target: Natural, nodes: usize, vars: u32) -> Verdict
+fn under_told(target: Natural, nodes: usize, vars: u32) -> Verdict
     requires { ⌜ vars ≤ maxVariables ⌝ }
     ensures { λ r. ⌜ ((w : List ℕ) → nodes ≡ size w → vars ≡ varsOf w → said r ≡ underCountOf w (value (target .words))) ⌝ }
 {
@@ -47,7 +48,7 @@ pub(crate) fn under_open(target: Natural, nodes: usize, vars: u32) -> Verdict
 }
 
 // No diagram has more than all valuations; an array of one node is false, and nothing of its negation can be cut.
-pub(crate) fn over_open(target: Natural, nodes: usize, vars: u32) -> Verdict
+fn over_told(target: Natural, nodes: usize, vars: u32) -> Verdict
     requires { ⌜ vars ≤ maxVariables ⌝ }
     ensures { λ r. ⌜ ((w : List ℕ) → nodes ≡ size w → vars ≡ varsOf w → said r ≡ overCountOf w (value (target .words))) ⌝ }
 {
@@ -68,4 +69,14 @@ pub(crate) fn over_open(target: Natural, nodes: usize, vars: u32) -> Verdict
         return Verdict::Accepted { nodes, vars };
     }
     Verdict::Accepted { nodes, vars }
+}
+
+pub(crate) fn tell(target: Natural, above: bool, nodes: usize, vars: u32) -> Verdict
+    requires { ⌜ vars ≤ maxVariables ⌝ }
+    ensures { λ r. ⌜ ((w : List ℕ) → nodes ≡ size w → vars ≡ varsOf w → said r ≡ toldOf above w (value (target .words))) ⌝ }
+{
+    if above {
+        return over_told(target, nodes, vars);
+    }
+    under_told(target, nodes, vars)
 }
