@@ -4,7 +4,7 @@ use Prim.Native.Nat.{ℕ, _*_}
 use mathlib.Core.Bool.{Bool, true, false, _&&_}
 use mathlib.Core.List.{List, [], _∷_, _++_}
 use lib.Dec.{eqb}
-use Rattle.diagram.specs.Limits.{countWords}
+use Rattle.naturals.specs.Natural.{wordCount}
 use Rattle.diagram.specs.Diagram.{size, vars}
 use Rattle.diagram.specs.Valuations.{countOf, weightOf}
 use Rattle.diagram.specs.Verdict.{Outcome, accepted, refused, andThen, most, roomOf, verdictOf}
@@ -71,7 +71,7 @@ unfoldable pub answerRight : Outcome → Answer → List ℕ → ℕ → Bool
 answerRight outcome a words trials = accepts outcome && (alike (a .words) words && eqb (a .trials) trials)
 
 unfoldable pub right : Case → Bool
-right (weights w list) = accepts (weightsVerdict w (countWords * size w) (roomOf w)) && alike (table (weightOf w) 0 (size w)) list
+right (weights w list) = accepts (weightsVerdict w (wordCount * size w) (roomOf w)) && alike (table (weightOf w) 0 (size w)) list
 right (priorities w list) = alike (order w) list
 right (path-count w n) = accepts (verdictOf w Nothing (roomOf w)) && eqb (pathCountOf w) n
 right (under-by w list words n) = cutRight (asked w (listOf w list)) (underBy w list) words n
