@@ -23,7 +23,8 @@ use text::parse::parse_natural;
 use text::print::write_decimal;
 use text::print::write_hexadecimal;
 use text::print::write_natural;
-ghost use Prim.Native.Nat.{_≤_, _<_};
+ghost use mathlib.Core.Path.{_≡_};
+ghost use Prim.Native.Nat.{_^_, _≤_, _<_};
 ghost use lib.ListN.{length};
 
 const TEXT: usize = 524288;
@@ -160,9 +161,15 @@ fn hexadecimal_case(bytes: &[u8]) {
     say_text(parsed.fits, &text, end);
 }
 
+// A word where its sums and products have room.
+fn wide(x: u32) -> u64
+    ensures { λ r. ⌜ (r ≡ x) × (r < 2 ^ 32) ⌝ }
+{
+    x as u64
+}
+
 fn lowest(a: Natural) -> u64 {
-    let high = a.words[1] as u64;
-    high * 4294967296 + a.words[0] as u64
+    wide(a.words[1]) * 4294967296 + wide(a.words[0])
 }
 
 fn natural_case(bytes: &[u8]) {
