@@ -1,4 +1,6 @@
 // Negation of a decision diagram, word by word: every node keeps its place.
+use diagram::node::BddPointer;
+use diagram::node::BddVariable;
 use diagram::node::word;
 use diagram::validate::admit;
 use diagram::verdict::Output;
@@ -16,10 +18,13 @@ pub struct Negated {
 }
 
 // A link to 0 goes to 1 and a link to 1 goes to 0.
-fn exchanged(link: u32) -> u32
-    ensures { λ r. ⌜ r ≡ exchangedOf link ⌝ }
+fn exchanged(link: BddPointer) -> BddPointer
+    ensures { λ r. ⌜ r .0 ≡ exchangedOf (link .0) ⌝ }
 {
-    if link < 2 { 1 - link } else { link }
+    if link.is_terminal() {
+        return BddPointer(1 - link.0);
+    }
+    link
 }
 
 // The constants exchange.
@@ -36,14 +41,14 @@ fn nodes_of(nodes: usize) -> usize
 }
 
 // A word of the result.
-fn word_of(words: &[u32], vars: u32, at: usize) -> u32
-    requires { ⌜ Ready (now words) vars × (at < length (negated (now words))) ⌝ }
+fn word_of(words: &[u32], vars: BddVariable, at: usize) -> u32
+    requires { ⌜ Ready (now words) (vars .0) × (at < length (negated (now words))) ⌝ }
     ensures { λ r. ⌜ r ≡ getD (negated (now (words .entry))) at 0 ⌝ }
 {
     // The terminals: the variable count, and both links to themselves.
     if at < 6 {
         if at % 3 == 0 {
-            return vars;
+            return vars.0;
         }
         return (at / 3) as u32;
     }
@@ -52,7 +57,8 @@ fn word_of(words: &[u32], vars: u32, at: usize) -> u32
     if part == 0 {
         return same;
     }
-    exchanged(same)
+    let link = exchanged(BddPointer(same));
+    link.0
 }
 
 pub fn negate(words: &[u32], output: &mut [u32], nodes: usize, vars: u32) -> usize
@@ -63,7 +69,7 @@ pub fn negate(words: &[u32], output: &mut [u32], nodes: usize, vars: u32) -> usi
     let end = 3 * made;
     let mut i = 0;
     while i < end {
-        output[i] = word_of(words, vars, i);
+        output[i] = word_of(words, BddVariable(vars), i);
         i += 1;
     }
     made

@@ -1,5 +1,6 @@
 // The nodes of each variable.
 use diagram::node::BddPointer;
+use diagram::node::BddVariable;
 use diagram::node::var_of;
 use diagram::node::word;
 use diagram::room::clear;
@@ -14,18 +15,18 @@ ghost use lib.ListN.{length, drop};
 ghost use Rattle.diagram.specs.Diagram.{size as sizeOf, vars as varsOf, Formed};
 ghost use Rattle.queries.specs.Queries.{table, nodesAt, Lists};
 
-fn list(words: &[u32], output: &mut [u32], nodes: usize, vars: u32)
-    requires { ⌜ (nodes ≡ sizeOf (now words)) × (vars ≡ varsOf (now words)) × Formed (now words) × (vars ≤ length (now output)) ⌝ }
+fn list(words: &[u32], output: &mut [u32], nodes: usize, vars: BddVariable)
+    requires { ⌜ (nodes ≡ sizeOf (now words)) × (vars .0 ≡ varsOf (now words)) × Formed (now words) × (vars .0 ≤ length (now output)) ⌝ }
     ensures { λ _. ⌜ now (output .exit) ≡ table (varsOf (now (words .entry))) (nodesAt (now (words .entry))) ++ drop (varsOf (now (words .entry))) (now (output .entry)) ⌝ }
 {
-    clear(output, vars as usize);
-    let mut p = 2;
-    while p < nodes {
-        let var = var_of(words, BddPointer(p as u32));
+    clear(output, vars.0 as usize);
+    let mut node = BddPointer(2);
+    while node.to_index() < nodes {
+        let var = var_of(words, node);
         let at = var.0 as usize;
         let so_far = word(output, at);
         put(output, at, so_far + 1);
-        p += 1;
+        node = BddPointer(node.0 + 1);
     }
 }
 
@@ -37,6 +38,6 @@ pub fn size_per_variable(words: &[u32], output: &mut [u32], room: &mut [u32]) ->
     let Verdict::Accepted { nodes, vars } = verdict else {
         return verdict;
     };
-    list(words, output, nodes, vars);
+    list(words, output, nodes, BddVariable(vars));
     verdict
 }

@@ -25,7 +25,7 @@ exchanged-requires c κs = search needs
 
 returns-4 : tie.Need-returns-4
 returns-4 c =
-    later-link (c .before .before .before .before .before .pre .0) (c .before .before .before .before .before .args .at) (c .before .before .before .before .before .pre .1) (c .before .before .before .if1 .left) (c .before .before .word .result) (c .before .before .word .ensures) (c .before .if3 .left) (c .exchanged .result) (c .exchanged .ensures)
+    later-link (c .before .before .before .before .before .pre .0) (c .before .before .before .before .before .args .at) (c .before .before .before .before .before .pre .1) (c .before .before .before .if1 .left) (c .before .before .word .result) (c .before .before .word .ensures) (c .before .if3 .left) (c .exchanged .result .0) (c .exchanged .ensures)
 
 pub word-of-spec : {M : Type 1} → statement M
 word-of-spec =

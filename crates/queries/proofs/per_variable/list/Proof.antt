@@ -9,20 +9,22 @@ use Rattle.queries.proofs.per_variable.list.Statement.{statement}
 use Rattle.queries.proofs.per_variable.list.Tie as tie
 
 abbrev Inv-loop : tie.InvT-loop
-Inv-loop words output₀ nodes vars p₀ output p = Listing words output₀ p output
+Inv-loop words output₀ nodes node₀ output node = Listing words output₀ (node .0) output
 
 abbrev μ-loop : tie.MeasureT-loop
-μ-loop words output₀ nodes vars p₀ output p = nodes - p
+μ-loop words output₀ nodes node₀ output node = nodes - node .0
+
+cast-clear : tie.Need-cast-clear Inv-loop μ-loop
+cast-clear c = search needs
 
 clear-requires : tie.Need-clear-requires Inv-loop μ-loop
 clear-requires c κs = search needs
 
 loop-holds : tie.Need-loop-holds Inv-loop μ-loop
-loop-holds c =
-    listing-starts (now (c .before .before .before .before .before .before .args .words)) (now (c .before .before .before .before .before .before .args .output)) (c .before .before .clear .last .0) (c .before .before .before .before .before .before .args .vars) (c .before .before .before .before .before .before .pre .1) (c .before .before .before .before .before .before .pre .3) (c .before .before .clear .ensures)
+loop-holds c = listing-starts (now (c .before .before .before .before .before .before .before .args .words)) (now (c .before .before .before .before .before .before .before .args .output)) (c .before .before .clear .last .0) (c .before .before .before .before .before .before .before .args .vars .0) (c .before .before .before .before .before .before .before .pre .1) (c .before .before .before .before .before .before .before .pre .3) (c .before .before .clear .ensures)
 
-cast-put : tie.Need-cast-put Inv-loop μ-loop
-cast-put c = omega (arith, c .before .before .before .before .before .before .before .before .pre .0, c .before .before .before .before .before .before .before .before .pre .2 .few)
+to-index-requires : tie.Need-to-index-requires Inv-loop μ-loop
+to-index-requires c κs = search needs
 
 var-of-requires : tie.Need-var-of-requires Inv-loop μ-loop
 var-of-requires c κs = search needs
@@ -34,28 +36,25 @@ word-requires : tie.Need-word-requires Inv-loop μ-loop
 word-requires c κs = search needs
 
 add-put : tie.Need-add-put Inv-loop μ-loop
-add-put c =
-    omega (arith, listing-small (now (c .before .before .before .before .before .before .before .before .before .before .before .before .before .args .words)) (now (c .before .before .before .before .before .before .before .before .before .before .before .before .before .args .output)) (c .before .before .before .before .before .before .before .before .before .clear .last .0) (c .before .before .before .before .before .before .before .before .before .before .before .before .before .args .vars) (c .before .before .before .before .before .before .before .before .before .before .before .before .before .pre .1) (c .before .before .before .before .before .before .before .before .before .before .before .before .before .pre .3) (c .before .before .before .before .before .before .before .before .before .clear .ensures) (c .before .before .before .before .before .before .before .before .before .before .before .before .before .pre .2) (c .before .before .before .before .before .before .loop .p) (c .before .before .before .before .before .before .loop .output) (c .before .before .before .before .before .before .loop .inv) (omega (arith, c .before .before .before .before .before .before .before .before .before .before .before .before .before .pre .0)) (c .before .before .before .before .var-of .result .0) (c .before .before .before .before .var-of .ensures) (c .before .word .result) (c .before .word .ensures))
+add-put c = omega (arith, listing-small (now (c .before .before .before .before .before .before .before .before .before .before .before .before .before .before .before .args .words)) (now (c .before .before .before .before .before .before .before .before .before .before .before .before .before .before .before .args .output)) (c .before .before .before .before .before .before .before .before .before .before .clear .last .0) (c .before .before .before .before .before .before .before .before .before .before .before .before .before .before .before .args .vars .0) (c .before .before .before .before .before .before .before .before .before .before .before .before .before .before .before .pre .1) (c .before .before .before .before .before .before .before .before .before .before .before .before .before .before .before .pre .3) (c .before .before .before .before .before .before .before .before .before .before .clear .ensures) (c .before .before .before .before .before .before .before .before .before .before .before .before .before .before .before .pre .2) (c .before .before .before .before .before .before .before .loop .node .0) (c .before .before .before .before .before .before .before .loop .output) (c .before .before .before .before .before .before .before .loop .inv) (omega (arith, c .before .before .before .before .before .before .before .before .before .before .before .before .before .before .before .pre .0, c .before .before .before .before .before .before .to-index .ensures, c .before .before .before .before .before .if1 .taken)) (c .before .before .before .before .var-of .result .0) (c .before .before .before .before .var-of .ensures) (c .before .word .result) (c .before .word .ensures))
 
 put-requires : tie.Need-put-requires Inv-loop μ-loop
 put-requires c κs = search needs
 
-add-p : tie.Need-add-p Inv-loop μ-loop
-add-p c = search needs
+add-t20 : tie.Need-add-t20 Inv-loop μ-loop
+add-t20 c = omega (arith, c .before .before .before .before .before .before .before .before .before .before .before .before .before .before .before .before .before .before .before .pre .0, c .before .before .before .before .before .before .before .before .before .before .before .before .before .before .before .before .before .before .before .pre .2 .few, c .before .before .before .before .before .before .before .before .before .before .to-index .ensures, c .before .before .before .before .before .before .before .before .before .if1 .taken)
 
 loop-less : tie.Need-loop-less Inv-loop μ-loop
-loop-less c = search needs
+loop-less c = omega (arith, c .before .before .before .before .before .before .before .before .before .before .to-index .ensures, c .before .before .before .before .before .before .before .before .before .if1 .taken)
 
 loop-again : tie.Need-loop-again Inv-loop μ-loop
-loop-again c =
-    listing-on (now (c .before .before .before .before .before .before .before .before .before .before .before .before .before .before .before .before .args .words)) (now (c .before .before .before .before .before .before .before .before .before .before .before .before .before .before .before .before .args .output)) (c .before .before .before .before .before .before .before .before .before .before .before .before .clear .last .0) (c .before .before .before .before .before .before .before .before .before .before .before .before .before .before .before .before .args .vars) (c .before .before .before .before .before .before .before .before .before .before .before .before .before .before .before .before .pre .1) (c .before .before .before .before .before .before .before .before .before .before .before .before .before .before .before .before .pre .3) (c .before .before .before .before .before .before .before .before .before .before .before .before .clear .ensures) (c .before .before .before .before .before .before .before .before .before .before .before .before .before .before .before .before .pre .2) (c .before .before .before .before .before .before .before .before .before .loop .p) (c .before .before .before .before .before .before .before .before .before .loop .output) (c .before .before .before .before .before .before .before .before .before .loop .inv) (omega (arith, c .before .before .before .before .before .before .before .before .before .before .before .before .before .before .before .before .pre .0)) (c .before .before .before .before .before .before .before .var-of .result .0) (c .before .before .before .before .before .before .before .var-of .ensures) (c .before .before .before .before .word .result) (c .before .before .before .before .word .ensures) _ (c .before .before .put .ensures)
+loop-again c = listing-on (now (c .before .before .before .before .before .before .before .before .before .before .before .before .before .before .before .before .before .before .before .args .words)) (now (c .before .before .before .before .before .before .before .before .before .before .before .before .before .before .before .before .before .before .before .args .output)) (c .before .before .before .before .before .before .before .before .before .before .before .before .before .before .clear .last .0) (c .before .before .before .before .before .before .before .before .before .before .before .before .before .before .before .before .before .before .before .args .vars .0) (c .before .before .before .before .before .before .before .before .before .before .before .before .before .before .before .before .before .before .before .pre .1) (c .before .before .before .before .before .before .before .before .before .before .before .before .before .before .before .before .before .before .before .pre .3) (c .before .before .before .before .before .before .before .before .before .before .before .before .before .before .clear .ensures) (c .before .before .before .before .before .before .before .before .before .before .before .before .before .before .before .before .before .before .before .pre .2) (c .before .before .before .before .before .before .before .before .before .before .before .loop .node .0) (c .before .before .before .before .before .before .before .before .before .before .before .loop .output) (c .before .before .before .before .before .before .before .before .before .before .before .loop .inv) (omega (arith, c .before .before .before .before .before .before .before .before .before .before .before .before .before .before .before .before .before .before .before .pre .0, c .before .before .before .before .before .before .before .before .before .before .to-index .ensures, c .before .before .before .before .before .before .before .before .before .if1 .taken)) (c .before .before .before .before .before .before .before .before .var-of .result .0) (c .before .before .before .before .before .before .before .before .var-of .ensures) (c .before .before .before .before .before .word .result) (c .before .before .before .before .before .word .ensures) _ (c .before .before .before .put .ensures)
 
 same-length : tie.Need-same-length Inv-loop μ-loop
-same-length c = c .before .loop .inv .long ∙ c .before .before .before .before .clear .kept .0
+same-length c = c .before .before .loop .inv .long ∙ c .before .before .before .before .before .clear .kept .0
 
 returns : tie.Need-returns Inv-loop μ-loop
-returns c =
-    listing-done (now (c .before .before .before .before .before .before .before .before .args .words)) (now (c .before .before .before .before .before .before .before .before .args .output)) (c .before .before .before .before .clear .last .0) (c .before .before .before .before .before .before .before .before .args .vars) (c .before .before .before .before .before .before .before .before .pre .1) (c .before .before .before .before .before .before .before .before .pre .3) (c .before .before .before .before .clear .ensures) (c .before .before .before .before .before .before .before .before .pre .2) (c .before .loop .p) (c .before .loop .output) (c .before .loop .inv) (omega (arith, c .before .before .before .before .before .before .before .before .pre .0))
+returns c = listing-done (now (c .before .before .before .before .before .before .before .before .before .before .args .words)) (now (c .before .before .before .before .before .before .before .before .before .before .args .output)) (c .before .before .before .before .before .clear .last .0) (c .before .before .before .before .before .before .before .before .before .before .args .vars .0) (c .before .before .before .before .before .before .before .before .before .before .pre .1) (c .before .before .before .before .before .before .before .before .before .before .pre .3) (c .before .before .before .before .before .clear .ensures) (c .before .before .before .before .before .before .before .before .before .before .pre .2) (c .before .before .loop .node .0) (c .before .before .loop .output) (c .before .before .loop .inv) (omega (arith, c .before .before .before .before .before .before .before .before .before .before .pre .0, c .before .to-index .ensures, c .if1 .left))
 
 pub list-spec : {M : Type 1} → statement M
 list-spec =
@@ -63,15 +62,16 @@ list-spec =
     (tie.spec
     Inv-loop
     μ-loop
+    cast-clear
     clear-requires
     loop-holds
-    cast-put
+    to-index-requires
     var-of-requires
     cast-at
     word-requires
     add-put
     put-requires
-    add-p
+    add-t20
     loop-less
     loop-again
     same-length
