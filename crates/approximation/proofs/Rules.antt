@@ -67,16 +67,10 @@ back-of words trials = refl
 -- What rules lead to, negated back.
 module _ (Rules : Answer → Type 0) (found : Answer) where
   back-by : Rules found → ByNegation Rules (back found)
-  unfolding back
-  back-by r = record { found = found; rules = r; words = refl; trials = refl }
+  back-by r = record { found = found; rules = r; same = refl }
 
   back-only : ((b : Answer) → Rules b → b ≡ found) → (a : Answer) → ByNegation Rules a → a ≡ back found
-  unfolding back
-  back-only only a n =
-      let e = only (n .found) (n .rules) in
-      let words : a .words ≡ negated (found .words) = n .words ∙ ap (λ (b : Answer). negated (b .words)) e in
-      let trials : a .trials ≡ found .trials = n .trials ∙ ap (λ (b : Answer). b .trials) e in
-      ap (λ (x : List ℕ). answer x (a .trials)) words ∙ ap (λ (k : ℕ). answer (negated (found .words)) k) trials
+  back-only only a n = n .same ∙ ap back (only (n .found) (n .rules))
 
 module _ (w : List ℕ) (a : Accepted w) where
   false-back : back (answer (falseOf (vars (negated w))) 0) ≡ answer (trueOf (vars w)) 0

@@ -4,7 +4,7 @@
 --     Cut        cutting by a list, and what refuses a list or a target
 --     Search     priorities, and cutting to a size or to a count
 --     Sorted     what a sorted list without repeats is
---     Rules      the rules of these searches, with no fuel
+--     Rules      what document 01 says of these answers, sentence by sentence, with no fuel
 --     Demand2    what is promised of cuts
 --     Nights     the examples of document 01
 -- and, for the code inside, which no promise to a caller names:

@@ -1,9 +1,7 @@
--- "Nights worked out by hand" of document 01, as one list of cases; `nights` of proofs/Nights.antt says that all are right. A case
--- is right if its request is accepted, with the output and the working room that document 01 asks for, and has this answer.
+-- "Nights worked out by hand" of document 01, as one list of cases, each with its reply (`nights` of proofs/Nights.antt).
 use Prim.Native.Nat.{ℕ, _*_}
-use mathlib.Core.Bool.{Bool, true, false, _&&_}
-use mathlib.Core.List.{List, [], _∷_, _++_}
-use lib.Dec.{eqb}
+use mathlib.Core.Path.{_≡_}
+use mathlib.Core.List.{List, [], _∷_, _++_, map}
 use Rattle.naturals.specs.Natural.{wordCount}
 use Rattle.diagram.specs.Diagram.{size, vars}
 use Rattle.diagram.specs.Valuations.{countOf, weightOf}
@@ -23,90 +21,81 @@ D = 3 ∷ 0 ∷ 0 ∷ 3 ∷ 1 ∷ 1 ∷ 2 ∷ 0 ∷ 1 ∷ 1 ∷ 2 ∷ 1 ∷ 0 �
 abbrev pub all-three : List ℕ
 all-three = 3 ∷ 0 ∷ 0 ∷ 3 ∷ 1 ∷ 1 ∷ 2 ∷ 0 ∷ 1 ∷ 1 ∷ 0 ∷ 2 ∷ 0 ∷ 0 ∷ 3 ∷ []
 
--- A diagram by the nodes after its terminals.
-abbrev pub after : List ℕ → List ℕ
-after nodes = trueOf 3 ++ nodes
-
+-- What is asked of a diagram: its weights, its non-terminals by priority, the number of its paths; cuts by a list, to a size
+-- and to a count.
 pub data Case : Type 0 where
-  -- a diagram's weights
-  weights : List ℕ → List ℕ → Case
-  -- its non-terminals by priority
-  priorities : List ℕ → List ℕ → Case
-  -- the paths from its root to node 1
-  path-count : List ℕ → ℕ → Case
-  -- cut by a list, under and over: the words and their count
-  under-by : List ℕ → List ℕ → List ℕ → ℕ → Case
-  over-by : List ℕ → List ℕ → List ℕ → ℕ → Case
-  -- to a size: the words and the trials
-  under-to-size : List ℕ → ℕ → List ℕ → ℕ → Case
-  over-to-size : List ℕ → ℕ → List ℕ → ℕ → Case
-  -- to a count: the words and the trials; a refusal
-  under-to-count : List ℕ → ℕ → List ℕ → ℕ → Case
-  over-to-count : List ℕ → ℕ → List ℕ → ℕ → Case
-  over-count-refused : List ℕ → ℕ → ℕ → ℕ → Case
+  weights : List ℕ → Case
+  priorities : List ℕ → Case
+  path-count : List ℕ → Case
+  under-by : List ℕ → List ℕ → Case
+  over-by : List ℕ → List ℕ → Case
+  under-to-size : List ℕ → ℕ → Case
+  over-to-size : List ℕ → ℕ → Case
+  under-to-count : List ℕ → ℕ → Case
+  over-to-count : List ℕ → ℕ → Case
 
-unfoldable pub alike : List ℕ → List ℕ → Bool
-alike [] [] = true
-alike [] (b ∷ bs) = false
-alike (a ∷ rest) [] = false
-alike (a ∷ rest) (b ∷ bs) = eqb a b && alike rest bs
+-- What is answered: a refusal's number and place; numbers; the words of a cut by a list with their count, or of a cut to a
+-- target with its trials.
+pub data Reply : Type 0 where
+  refusal : ℕ → ℕ → Reply
+  numbers : List ℕ → Reply
+  words : List ℕ → ℕ → Reply
 
-unfoldable pub accepts : Outcome → Bool
-accepts (accepted n v) = true
-accepts (refused number place) = false
+unfoldable pub after : Outcome → Reply → Reply
+after (accepted n v) reply = reply
+after (refused number place) reply = refusal number place
 
-unfoldable pub refuses : Outcome → ℕ → ℕ → Bool
-refuses (accepted n v) number place = false
-refuses (refused n p) number place = eqb n number && eqb p place
+-- The check of a diagram for a cut, with the output and the working room that document 01 asks for, then that of the list or
+-- of the target.
+abbrev pub checks : List ℕ → Outcome → Outcome
+checks w next = andThen (verdictOf w (Diagram (3 * most w)) (roomOf w)) next
 
--- The check of a diagram for a cut, then what the list or the target is told.
-abbrev pub asked : List ℕ → Outcome → Outcome
-asked w next = andThen (verdictOf w (Diagram (3 * most w)) (roomOf w)) next
+abbrev pub counted : List ℕ → Reply
+counted made = words made (countOf made)
 
--- A cut by a list, of some count; an answer to a target, after some trials.
-unfoldable pub cutRight : Outcome → List ℕ → List ℕ → ℕ → Bool
-cutRight outcome made words n = accepts outcome && (alike made words && eqb (countOf made) n)
+abbrev pub tried : Answer → Reply
+tried a = words (a .words) (a .trials)
 
-unfoldable pub answerRight : Outcome → Answer → List ℕ → ℕ → Bool
-answerRight outcome a words trials = accepts outcome && (alike (a .words) words && eqb (a .trials) trials)
+unfoldable pub reply : Case → Reply
+reply (weights w) = after (weightsVerdict w (wordCount * size w) (roomOf w)) (numbers (table (weightOf w) 0 (size w)))
+reply (priorities w) = numbers (order w)
+reply (path-count w) = after (verdictOf w Nothing (roomOf w)) (numbers (pathCountOf w ∷ []))
+reply (under-by w list) = after (checks w (listOf w list)) (counted (underBy w list))
+reply (over-by w list) = after (checks w (listOf w list)) (counted (overBy w list))
+reply (under-to-size w t) = after (checks w (accepted (size w) (vars w))) (tried (underToSize w t))
+reply (over-to-size w t) = after (checks w (accepted (size w) (vars w))) (tried (overToSize w t))
+reply (under-to-count w k) = after (checks w (underCountOf w k)) (tried (underToCount w k))
+reply (over-to-count w k) = after (checks w (overCountOf w k)) (tried (overToCount w k))
 
-unfoldable pub right : Case → Bool
-right (weights w list) = accepts (weightsVerdict w (wordCount * size w) (roomOf w)) && alike (table (weightOf w) 0 (size w)) list
-right (priorities w list) = alike (order w) list
-right (path-count w n) = accepts (verdictOf w Nothing (roomOf w)) && eqb (pathCountOf w) n
-right (under-by w list words n) = cutRight (asked w (listOf w list)) (underBy w list) words n
-right (over-by w list words n) = cutRight (asked w (listOf w list)) (overBy w list) words n
-right (under-to-size w t words trials) = answerRight (asked w (accepted (size w) (vars w))) (underToSize w t) words trials
-right (over-to-size w t words trials) = answerRight (asked w (accepted (size w) (vars w))) (overToSize w t) words trials
-right (under-to-count w k words trials) = answerRight (asked w (underCountOf w k)) (underToCount w k) words trials
-right (over-to-count w k words trials) = answerRight (asked w (overCountOf w k)) (overToCount w k) words trials
-right (over-count-refused w k number place) = refuses (asked w (overCountOf w k)) number place
+-- A diagram of three variables by the nodes after its terminals.
+abbrev pub nodes : List ℕ → List ℕ
+nodes list = trueOf 3 ++ list
 
-unfoldable pub every : List Case → Bool
-every [] = true
-every (c ∷ cases) = right c && every cases
-
-abbrev pub cases : List Case
+abbrev pub cases : List (Case × Reply)
 cases =
     -- C1, C2
-    weights D (0 ∷ 5 ∷ 3 ∷ 3 ∷ 5 ∷ [])
-    ∷ path-count D 3
+    (weights D, numbers (0 ∷ 5 ∷ 3 ∷ 3 ∷ 5 ∷ []))
+    ∷ (path-count D, numbers (3 ∷ []))
     -- C3, C4, C5
-    ∷ under-by D (2 ∷ []) (after (1 ∷ 0 ∷ 1 ∷ 0 ∷ 0 ∷ 2 ∷ [])) 2
-    ∷ under-by D (3 ∷ []) (after (2 ∷ 0 ∷ 1 ∷ 0 ∷ 2 ∷ 0 ∷ [])) 2
-    ∷ over-by D (3 ∷ []) (after (2 ∷ 0 ∷ 1 ∷ 0 ∷ 2 ∷ 1 ∷ [])) 6
+    ∷ (under-by D (2 ∷ []), words (nodes (1 ∷ 0 ∷ 1 ∷ 0 ∷ 0 ∷ 2 ∷ [])) 2)
+    ∷ (under-by D (3 ∷ []), words (nodes (2 ∷ 0 ∷ 1 ∷ 0 ∷ 2 ∷ 0 ∷ [])) 2)
+    ∷ (over-by D (3 ∷ []), words (nodes (2 ∷ 0 ∷ 1 ∷ 0 ∷ 2 ∷ 1 ∷ [])) 6)
     -- C6, C7, C8
-    ∷ under-to-size D 4 (after (2 ∷ 0 ∷ 1 ∷ 0 ∷ 2 ∷ 0 ∷ [])) 2
-    ∷ under-to-size D 3 (falseOf 3) 2
-    ∷ over-to-size D 4 (after (2 ∷ 0 ∷ 1 ∷ 0 ∷ 2 ∷ 1 ∷ [])) 2
+    ∷ (under-to-size D 4, words (nodes (2 ∷ 0 ∷ 1 ∷ 0 ∷ 2 ∷ 0 ∷ [])) 2)
+    ∷ (under-to-size D 3, words (falseOf 3) 2)
+    ∷ (over-to-size D 4, words (nodes (2 ∷ 0 ∷ 1 ∷ 0 ∷ 2 ∷ 1 ∷ [])) 2)
     -- C9, C10
-    ∷ under-to-count D 4 (after (2 ∷ 0 ∷ 1 ∷ 0 ∷ 2 ∷ 0 ∷ [])) 1
-    ∷ under-to-count D 1 (falseOf 3) 1
+    ∷ (under-to-count D 4, words (nodes (2 ∷ 0 ∷ 1 ∷ 0 ∷ 2 ∷ 0 ∷ [])) 1)
+    ∷ (under-to-count D 1, words (falseOf 3) 1)
     -- C11
-    ∷ weights all-three (0 ∷ 1 ∷ 1 ∷ 1 ∷ 1 ∷ [])
-    ∷ priorities all-three (4 ∷ 3 ∷ 2 ∷ [])
-    ∷ under-to-size all-three 4 (falseOf 3) 2
+    ∷ (weights all-three, numbers (0 ∷ 1 ∷ 1 ∷ 1 ∷ 1 ∷ []))
+    ∷ (priorities all-three, numbers (4 ∷ 3 ∷ 2 ∷ []))
+    ∷ (under-to-size all-three 4, words (falseOf 3) 2)
     -- C12
-    ∷ over-to-count D 8 (trueOf 3) 0
-    ∷ over-count-refused D 9 16 0
+    ∷ (over-to-count D 8, words (trueOf 3) 0)
+    ∷ (over-to-count D 9, refusal 16 0)
     ∷ []
+
+-- Each case has the reply beside it.
+abbrev pub Nights : Type 0
+Nights = map (λ (c : Case × Reply). reply (c .0)) cases ≡ map (λ (c : Case × Reply). c .1) cases

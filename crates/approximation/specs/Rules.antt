@@ -9,7 +9,7 @@ use Rattle.diagram.specs.Diagram.{size, vars}
 use Rattle.diagram.specs.Valuations.{countOf}
 use Rattle.negation.specs.Negation.{negated}
 use Rattle.approximation.specs.Constants.{falseOf, trueOf}
-use Rattle.approximation.specs.Search.{Answer, answer, cutFirst, middle, reached}
+use Rattle.approximation.specs.Search.{Answer, answer, back, cutFirst, middle, reached}
 
 -- ---- the searches: each rule makes one cut by a list, and adds one to the trials
 
@@ -41,8 +41,7 @@ pub data CountRules (w : List ℕ) (k : ℕ) : ℕ → ℕ → ℕ → Answer �
 pub record ByNegation (Rules : Answer → Type 0) (a : Answer) : Type 0 where
   pub found : Answer
   pub rules : Rules found
-  pub words : a .words ≡ negated (found .words)
-  pub trials : a .trials ≡ found .trials
+  pub same : a ≡ back found
 
 -- ---- the targets: what is answered for each; an early answer makes no cut
 
