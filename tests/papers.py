@@ -3,18 +3,19 @@
 
 1. Whatever the contract of an operation leads to, definition by definition, stands in a file that docs/PROMISES.md lists under
    "What must be believed"; so does whatever a promised record (Demand1, ..) leads to. Every listed file is there.
-2. Every must-fail edit has its row in docs/EDITS.md, every row its edit, and every edit is cited in docs/PROMISES.md as CRATE/EDIT.
+2. Every must-fail edit says what it breaks and where it answers wrongly (`breaks:`, `wrong on:`), and is cited in docs/PROMISES.md
+   as CRATE/EDIT; every edit cited there exists.
 3. Every name in backquotes in docs/PROMISES.md exists: as a definition, field, function or file of the crates, or, word by
    word, in their text.
 
-It reads the crates as text. `--believed` prints the files that must be believed, with their lines and those without comments and
+It reads the crates as text. `--edits` prints the edits with what each one breaks; `--believed` prints the files that must be believed, with their lines and those without comments and
 imports, and the definitions in them that no promise leads to."""
 import glob
 import os
 import re
 import sys
 
-PROMISES, EDITS = "docs/PROMISES.md", "docs/EDITS.md"
+PROMISES = "docs/PROMISES.md"
 # Where promises begin: every exported function, and these of the programs' crates.
 EXPORTS = "crates/houayletan/src/*.rt"
 FUNCTIONS = [
@@ -130,18 +131,17 @@ for crate, file, name in sorted(led):
         amiss.append(f"{PROMISES}: what must be believed lacks crates/{crate}/specs/{file}.antt, which has {name}")
 
 # ---- edits
-edits = {f"{p.split('/')[1]}/{os.path.basename(p)[:-5]}" for p in glob.glob("crates/*/must-fail/*.edit")}
-rows = re.findall(r"^\| ([a-z_]+/[a-z0-9-]+) \|", text_of(EDITS), re.M)
-for edit in sorted(edits - set(rows)):
-    amiss.append(f"{EDITS}: no row for {edit}")
-for row in sorted(rows):
-    if row not in edits or rows.count(row) > 1:
-        amiss.append(f"{EDITS}: {row} is no edit, or has two rows")
+edits = {}
+for path in glob.glob("crates/*/must-fail/*.edit"):
+    edit = f"{path.split('/')[1]}/{os.path.basename(path)[:-5]}"
+    edits[edit] = [re.findall(rf"^{key}: (.+)$", text_of(path), re.M) for key in ("breaks", "wrong on")]
+    if not all(len(lines) == 1 for lines in edits[edit]):
+        amiss.append(f"{path}: it doesn't say once what it breaks and once where it answers wrongly")
 crates = {p.split("/")[1] for p in glob.glob("crates/*/src")}
 cited = {c for c in re.findall(r"\b([a-z_]+/[a-z0-9]+(?:-[a-z0-9]+)*)\b(?![./])", promises) if c.split("/")[0] in crates}
-for edit in sorted(edits - cited):
+for edit in sorted(set(edits) - cited):
     amiss.append(f"{PROMISES}: {edit} is not cited")
-for edit in sorted(cited - edits):
+for edit in sorted(cited - set(edits)):
     if not os.path.exists("crates/" + edit):
         amiss.append(f"{PROMISES}: {edit} is cited and is no edit")
 
@@ -175,6 +175,9 @@ if "--believed" in sys.argv:
         aside = [n for n, block in specs[crate, file][0].items() if (crate, file, n) not in led and "\n" in block]
         print(f"crates/{crate}/specs/{file}.antt: {len(lines)} lines, {len(code)} without comments and imports" + (f"; led to by no promise: {', '.join(aside)}" if aside else ""))
     print(f"{total} lines, {plain} without comments, imports and empty lines")
+if "--edits" in sys.argv:
+    for edit, (breaks, wrong) in sorted(edits.items()):
+        print(f"{edit}\n    breaks {' '.join(breaks)}\n    wrong on {' '.join(wrong)}")
 for line in amiss:
     print("papers:", line)
 print(f"papers: {len(led)} definitions are led to, {len(edits)} edits, {len(amiss)} amiss")
