@@ -34,11 +34,11 @@ pub struct HouayletanVerdict {
     pub vars: u32,
 }
 
-// A verdict with a number of eight words, least first, which is zero where the words are refused.
+// A verdict with a number of naturals::WORDS words, least first, which is zero where the words are refused.
 #[repr(C)]
 pub struct HouayletanCount {
     pub verdict: HouayletanVerdict,
-    pub count: [u32; 8],
+    pub count: [u32; naturals::WORDS],
 }
 
 // A verdict with a count as an f64, which is 0.0 where the words are refused.
@@ -70,10 +70,10 @@ pub struct HouayletanApproximation {
     pub trials: usize,
 }
 
-// A number of eight words, least first.
+// A number of naturals::WORDS words, least first.
 #[repr(C)]
 pub struct HouayletanNatural {
-    pub words: [u32; 8],
+    pub words: [u32; naturals::WORDS],
 }
 
 pub(crate) fn flat(verdict: Verdict) -> HouayletanVerdict
