@@ -18,9 +18,9 @@ use Rattle.diagram.proofs.Reading.{layered, root-in, var-most, accepted-ordered
 use Rattle.diagram.proofs.Entering.{when-refused, when-accepted, admitted, ordered, still-checked, lent-fits, lent-zero, lent-back, checked-as}
 use Rattle.counts.specs.Worth.{worthOf, doublings}
 use Rattle.counts.proofs.Nodes.{worth-end, total-valuations}
-use Rattle.cardinality.specs.Cardinality.{nought, powerOfTwo, cardinalityOf, CountsFloat}
+use Rattle.cardinality.specs.Cardinality.{nought, powerOfTwo, cardinalityOf, CountsFloat, FloatCount}
 use Rattle.cardinality.specs.Table.{bitsAt, In, floatOf, Floated}
-use Rattle.cardinality.proofs.Counts.{float-root, count-stands, false-is-nought}
+use Rattle.cardinality.proofs.Counts.{float-root, count-stands, false-is-nought, count-exact}
 use Rattle.cardinality.proofs.Wholes.{no-nan}
 use Rattle.cardinality.proofs.Steps.{read-asks, read-back}
 
@@ -101,3 +101,6 @@ never-nan {w} {before} {x = x} r =
     by-verdict : (o : Outcome) → ((k u : ℕ) → o ≡ accepted k u → T (not (isNan (cardinalityOf w)))) → T (not (isNan (ifAccepted o (cardinalityOf w) nought)))
     by-verdict (accepted k u) f = f k u refl
     by-verdict (refused k p) f = zero-no-nan
+
+pub float-count : FloatCount
+float-count = record { exact = count-exact; none = false-is-nought; never-nan = ordered-no-nan }

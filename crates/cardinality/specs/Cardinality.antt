@@ -1,15 +1,17 @@
 -- The count as an f64, by the Rust's rule: along a link a count is multiplied by two to the number of variables that the link
 -- skips, and a node adds its two parts, low first, rounded once. `add` and `mul` are IEEE 754's of the library `lib.Ieee`.
--- Proved of it (proofs/Counts.antt): every scaling is exact, and a count of at most 2 ^ 53 comes out exactly.
-use Prim.Native.Nat.{ℕ, zero, suc, _-_}
+-- Every scaling is exact (proofs/Counts.antt).
+use Prim.Native.Nat.{ℕ, zero, suc, _-_, _^_, _≤_}
 use mathlib.Core.Path.{_≡_}
-use mathlib.Core.Bool.{false, cond}
+use mathlib.Core.Bool.{false, not, cond}
 use mathlib.Core.List.{List}
 use lib.IntN.{pos}
 use lib.ListN.{length}
-use lib.Dec.{ltb, eqb}
-use lib.Ieee.{Float, fin, binary64, add, mul}
-use Rattle.diagram.specs.Diagram.{varOf, lowOf, highOf, vars, root}
+use lib.Dec.{T, ltb, eqb}
+use lib.Ieee.{Float, fin, binary64, add, mul, isNan}
+use lib.Ieee.Exact.{HasValue}
+use Rattle.diagram.specs.Diagram.{varOf, lowOf, highOf, vars, root, Ordered}
+use Rattle.diagram.specs.Valuations.{countOf}
 use Rattle.diagram.specs.Verdict.{verdictOf, ifAccepted, Checked}
 use Rattle.diagram.specs.declared.verdict.Verdict.{Verdict}
 use Rattle.diagram.specs.declared.verdict.Output.the-variants.{Nothing}
@@ -47,3 +49,10 @@ cardinalityOf w = mul binary64 (floatAt w (vars w) (root w)) (powerOfTwo (varOf 
 pub record CountsFloat (w before after : List ℕ) (verdict : Verdict) (count : Float) : Type 0 where
   pub checked : Checked w Nothing before after verdict
   pub counted : count ≡ ifAccepted (verdictOf w Nothing (length before)) (cardinalityOf w) nought
+
+-- What is promised of the count of any ordered array, and so of any accepted one (`float-count` of proofs/Answers.antt): a count
+-- of at most 2 ^ 53 comes out exactly, false gives 0.0, and no count is a NaN.
+pub record FloatCount : Type 0 where
+  pub exact : (w : List ℕ) → Ordered w → countOf w ≤ 2 ^ 53 → HasValue (cardinalityOf w) false (countOf w) 1
+  pub none : (w : List ℕ) → Ordered w → countOf w ≡ 0 → cardinalityOf w ≡ nought
+  pub never-nan : (w : List ℕ) → Ordered w → T (not (isNan (cardinalityOf w)))

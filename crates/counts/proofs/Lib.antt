@@ -1,6 +1,6 @@
 -- Laws that belong to no one function.
 --     Nodes       a node's worth from its children's, for valuations and for paths
---     Turns       the number of paths is the number of the paths
+--     Turns       the counts are numbers of valuations and of paths
 --     Entries     tables of numbers in lent words
 --     Descent     what each step of the walk over the nodes gives
 --     Answers     the whole, and what the public functions answer

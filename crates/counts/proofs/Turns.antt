@@ -1,27 +1,21 @@
--- The number of paths is the number of the paths: there is a list of all of them, each once, of that length.
+-- The counts are numbers of valuations and of paths: there is a list of all of them, each once, of that length.
 use Prim.Native.Nat.{ℕ, zero, suc, _+_, _≤_, _<_}
-use mathlib.Core.Path.{_≡_, refl, sym, _∙_, subst}
+use mathlib.Core.Path.{_≡_, refl, sym, ap, _∙_, subst}
 use mathlib.Core.Logic.{_⊎_, inl, inr, ⊎-elim}
 use mathlib.Core.Bool.{Bool, true, false, cond}
 use mathlib.Core.List.{List, [], _∷_, _++_, map}
 use native.Mathlib.Omega.{arith}
 use lib.ListN.{length, length-append, length-map}
-use lib.Dec.{ltb, eqb}
-use borrow.Author.Tests.{lt-ltb, le-ltb}
-use Rattle.diagram.specs.Diagram.{varOf, lowOf, highOf, size, vars, root, Ordered}
-use Rattle.diagram.proofs.Tests.{not-both}
+use lib.Dec.{eqb}
+use Rattle.diagram.specs.Diagram.{varOf, lowOf, highOf, size, vars, root, holds, Ordered}
+use Rattle.diagram.specs.Valuations.{tally}
+use Rattle.diagram.proofs.Tests.{by-test, not-both, cond-true, cond-false}
 use Rattle.diagram.proofs.Reading.{layered, root-in, by-two, at-end}
-use Rattle.counts.specs.Paths.{paths, pathCountOf, Path, arrived, turn}
+use Rattle.counts.specs.Paths.{paths, Path, arrived, turn}
+use Rattle.counts.specs.Counting.{In, here, there, Once, none, more, Number, Counting}
 use Rattle.counts.proofs.Nodes.{paths-ends, paths-node}
 
--- membership, and a list in which no entry stands twice
-pub data In (x : List Bool) : List (List Bool) → Type 0 where
-  here : {l : List (List Bool)} → In x (x ∷ l)
-  there : {y : List Bool} {l : List (List Bool)} → In x l → In x (y ∷ l)
-
-pub data Once : List (List Bool) → Type 0 where
-  none : Once []
-  more : {x : List Bool} {l : List (List Bool)} → (In x l → ⊥) → Once l → Once (x ∷ l)
+-- ---- entries
 
 -- nothing is in the empty list
 not-in : {x : List Bool} → In x [] → ⊥
@@ -53,7 +47,7 @@ once-append [] m a b apart = b
 once-append (y ∷ l) m (more n a) b apart =
     more (λ i. ⊎-elim n (apart y here) (in-append l m i)) (once-append l m a b (λ x i j. apart x (there i) j))
 
--- the same first turn before each
+-- the same first bit before each
 abbrev after : Bool → List (List Bool) → List (List Bool)
 after b l = map (λ bs. b ∷ bs) l
 
@@ -72,87 +66,112 @@ once-after : (b : Bool) (l : List (List Bool)) → Once l → Once (after b l)
 once-after b [] o = none
 once-after b (y ∷ l) (more n o) = more (λ i. let r = in-after b l i in n (same-tail b l (r .1) (r .2))) (once-after b l o)
 
--- all paths from p to node 1 of at most k turns
-turns : List ℕ → ℕ → ℕ → List (List Bool)
-turns w zero p = cond (eqb p 1) ([] ∷ []) []
-turns w (suc k) p = cond (ltb p 2) (cond (eqb p 1) ([] ∷ []) []) (after false (turns w k (lowOf w p)) ++ after true (turns w k (highOf w p)))
+-- ---- numbers: none, one, and by the first bit
 
-end-turns : ℕ → List (List Bool)
-end-turns p = cond (eqb p 1) ([] ∷ []) []
+number-as : {P Q : List Bool → Type 0} {m n : ℕ} → ((bs : List Bool) → P bs → Q bs) → ((bs : List Bool) → Q bs → P bs) → m ≡ n → Number P m → Number Q n
+number-as f g e x = record {
+  list = x .list;
+  count = x .count ∙ e;
+  once = x .once;
+  right = λ bs i. f bs (x .right bs i);
+  all = λ bs q. x .all bs (g bs q);
+}
 
-turns-ends : (w : List ℕ) (k p : ℕ) → p < 2 → turns w k p ≡ end-turns p
-unfolding turns end-turns
-turns-ends w zero p h = refl
-turns-ends w (suc k) p h = simp (lt-ltb p 2 h)
+number-none : {P : List Bool → Type 0} → ((bs : List Bool) → P bs → ⊥) → Number P 0
+number-none never = record { list = []; count = refl; once = none; right = λ bs i. absurd (not-in i); all = λ bs p. absurd (never bs p) }
 
-turns-node : (w : List ℕ) (k p : ℕ) → 2 ≤ p → turns w (suc k) p ≡ after false (turns w k (lowOf w p)) ++ after true (turns w k (highOf w p))
-unfolding turns
-turns-node w k p h = simp (le-ltb p 2 h)
+number-one : {P : List Bool → Type 0} → P [] → ((b : Bool) (bs : List Bool) → P (b ∷ bs) → ⊥) → Number P 1
+number-one {P} empty never = record {
+  list = [] ∷ [];
+  count = refl;
+  once = more not-in none;
+  right = λ bs i. subst P (sym (in-one i)) empty;
+  all = only;
+}
+  where
+    only : (bs : List Bool) → P bs → In bs ([] ∷ [])
+    only [] p = here
+    only (b ∷ bs) p = absurd (never b bs p)
 
--- what is to be shown of the list for p
-pub record Every (w : List ℕ) (p n : ℕ) (l : List (List Bool)) : Type 0 where
-  pub count : length l ≡ n
-  pub once : Once l
-  pub right : (bs : List Bool) → In bs l → Path w p bs
-  pub all : (bs : List Bool) → Path w p bs → In bs l
+number-first : {P : List Bool → Type 0} {a b : ℕ} → (P [] → ⊥) → Number (λ bs. P (false ∷ bs)) a → Number (λ bs. P (true ∷ bs)) b → Number P (a + b)
+number-first {P} {a} {b} never x y = record {
+  list = low ++ high;
+  count = length-append low high ∙ omega (arith, length-map (x .list) (λ bs. false ∷ bs), length-map (y .list) (λ bs. true ∷ bs), x .count, y .count);
+  once = once-append low high (once-after false (x .list) (x .once)) (once-after true (y .list) (y .once)) apart;
+  right = λ bs i. ⊎-elim
+      (λ j. let r = in-after false (x .list) j in subst P (sym (r .1)) (x .right (r .0) (r .2)))
+      (λ j. let r = in-after true (y .list) j in subst P (sym (r .1)) (y .right (r .0) (r .2)))
+      (in-append low high i);
+  all = found;
+}
+  where
+    low : List (List Bool)
+    low = after false (x .list)
+
+    high : List (List Bool)
+    high = after true (y .list)
+
+    apart : (z : List Bool) → In z (after false (x .list)) → In z (after true (y .list)) → ⊥
+    apart z i j =
+        let r = in-after false (x .list) i in
+        let s = in-after true (y .list) j in
+        let e : false ≡ true = cc in
+        not-both false e refl
+
+    found : (bs : List Bool) → P bs → In bs (after false (x .list) ++ after true (y .list))
+    found [] p = absurd (never p)
+    found (false ∷ bs) p = in-left (after false (x .list)) (after true (y .list)) (after-in false (x .list) (x .all bs p))
+    found (true ∷ bs) p = in-right (after false (x .list)) (after true (y .list)) (after-in true (y .list) (y .all bs p))
+
+-- ---- valuations
+
+tally-number : (k : ℕ) (test : List Bool → Bool) → Number (λ bs. (length bs ≡ k) × (test bs ≡ true)) (tally k test)
+unfolding tally
+tally-number zero test = by-test (test [])
+    (λ e. number-as (λ bs p. p) (λ bs p. p) (sym (cond-true (test []) 1 0 e)) (number-one (refl, e) (λ b bs p. omega (arith, p .0))))
+    (λ e. number-as (λ bs p. p) (λ bs p. p) (sym (cond-false (test []) 1 0 e)) (number-none (fails e)))
+  where
+    fails : test [] ≡ false → (bs : List Bool) → (length bs ≡ 0) × (test bs ≡ true) → ⊥
+    fails e [] p = not-both (test []) (p .1) e
+    fails e (b ∷ bs) p = omega (arith, p .0)
+tally-number (suc k) test = number-first (λ p. omega (arith, p .0))
+    (number-as (λ bs p. (ap suc (p .0), p .1)) (λ bs p. (omega (arith, p .0), p .1)) refl (tally-number k (λ bs. test (false ∷ bs))))
+    (number-as (λ bs p. (ap suc (p .0), p .1)) (λ bs p. (omega (arith, p .0), p .1)) refl (tally-number k (λ bs. test (true ∷ bs))))
+
+-- ---- paths
 
 no-path : (w : List ℕ) (bs : List Bool) → Path w 0 bs → ⊥
 no-path w bs (turn two b r) = omega arith
 
-one-path : (w : List ℕ) (bs : List Bool) → Path w 1 bs → In bs ([] ∷ [])
-one-path w bs arrived = here
-one-path w bs (turn two b r) = absurd (omega arith)
+no-turn : (w : List ℕ) (p : ℕ) → p < 2 → (b : Bool) (bs : List Bool) → Path w p (b ∷ bs) → ⊥
+no-turn w p t b bs (turn two c r) = omega arith
 
-every-end : (w : List ℕ) (p : ℕ) → p < 2 → Every w p (cond (eqb p 1) 1 0) (end-turns p)
-unfolding end-turns
-every-end w zero h = record { count = refl; once = none; right = λ bs i. absurd (not-in i); all = λ bs r. absurd (no-path w bs r) }
-every-end w (suc zero) h = record { count = refl; once = more not-in none; right = λ bs i. subst (λ (x : List Bool). Path w 1 x) (sym (in-one i)) arrived; all = one-path w }
-every-end w (suc (suc p)) h = absurd (omega arith)
+no-end : (w : List ℕ) (p : ℕ) → 2 ≤ p → Path w p [] → ⊥
+no-end w p two arrived = omega arith
 
--- by the first turn
-first-turn : (P : List Bool → Type 0) (w : List ℕ) (p : ℕ) → 2 ≤ p → (bs : List Bool) → Path w p bs
-    → ((cs : List Bool) → Path w (lowOf w p) cs → P (false ∷ cs)) → ((cs : List Bool) → Path w (highOf w p) cs → P (true ∷ cs)) → P bs
-first-turn P w p two bs (turn x false r) f g = f _ r
-first-turn P w p two bs (turn x true r) f g = g _ r
-first-turn P w p two bs arrived f g = absurd (omega arith)
+after-turn : (w : List ℕ) (p : ℕ) (b : Bool) (bs : List Bool) → Path w p (b ∷ bs) → Path w (cond b (highOf w p) (lowOf w p)) bs
+after-turn w p b bs (turn two c r) = r
 
-every-node : (w : List ℕ) (p : ℕ) → 2 ≤ p → (a b : ℕ) (l m : List (List Bool)) → Every w (lowOf w p) a l → Every w (highOf w p) b m
-    → Every w p (a + b) (after false l ++ after true m)
-every-node w p two a b l m el em = record {
-  count = length-append (after false l) (after true m) ∙ omega (arith, length-map l (λ bs. false ∷ bs), length-map m (λ bs. true ∷ bs), el .count, em .count);
-  once = once-append (after false l) (after true m) (once-after false l (el .once)) (once-after true m (em .once)) apart;
-  right = λ bs i. ⊎-elim
-      (λ j. let r = in-after false l j in subst (λ (x : List Bool). Path w p x) (sym (r .1)) (turn two false (el .right (r .0) (r .2))))
-      (λ j. let r = in-after true m j in subst (λ (x : List Bool). Path w p x) (sym (r .1)) (turn two true (em .right (r .0) (r .2))))
-      (in-append (after false l) (after true m) i);
-  all = λ bs r. found bs r;
-}
-  where
-    apart : (x : List Bool) → In x (after false l) → In x (after true m) → ⊥
-    apart x i j =
-        let r = in-after false l i in
-        let s = in-after true m j in
-        let z : false ≡ true = cc in
-        not-both false z refl
+end-number : (w : List ℕ) (p : ℕ) → p < 2 → Number (Path w p) (cond (eqb p 1) 1 0)
+end-number w zero t = number-none (no-path w)
+end-number w (suc zero) t = number-one arrived (no-turn w 1 t)
+end-number w (suc (suc p)) t = absurd (omega arith)
 
-    found : (bs : List Bool) → Path w p bs → In bs (after false l ++ after true m)
-    found bs r = first-turn (λ x. In x (after false l ++ after true m)) w p two bs r
-        (λ cs q. in-left (after false l) (after true m) (after-in false l (el .all cs q)))
-        (λ cs q. in-right (after false l) (after true m) (after-in true m (em .all cs q)))
-
-every-from : (w : List ℕ) → Ordered w → (k p : ℕ) → p < size w → vars w ≤ varOf w p + k → Every w p (paths w k p) (turns w k p)
-every-from w o zero p h f =
+path-number : (w : List ℕ) → Ordered w → (k p : ℕ) → p < size w → vars w ≤ varOf w p + k → Number (Path w p) (paths w k p)
+path-number w o zero p h f =
     let t = at-end w (vars w) (size w) (layered w o) p h (omega arith) in
-    rw (paths-ends w zero p t, turns-ends w zero p t) (every-end w p t)
-every-from w o (suc k) p h f = by-two p
-    (λ t. rw (paths-ends w (suc k) p t, turns-ends w (suc k) p t) (every-end w p t))
+    rw (paths-ends w zero p t) (end-number w p t)
+path-number w o (suc k) p h f = by-two p
+    (λ t. rw (paths-ends w (suc k) p t) (end-number w p t))
     (λ two.
     let g = layered w o .node p two h in
-    rw (paths-node w k p two, turns-node w k p two)
-    (every-node w p two (paths w k (lowOf w p)) (paths w k (highOf w p)) (turns w k (lowOf w p)) (turns w k (highOf w p))
-    (every-from w o k (lowOf w p) (g .low) (omega (arith, g .above-low)))
-    (every-from w o k (highOf w p) (g .high) (omega (arith, g .above-high)))))
+    rw (paths-node w k p two) (number-first (no-end w p two)
+    (number-as (λ bs r. turn two false r) (after-turn w p false) refl (path-number w o k (lowOf w p) (g .low) (omega (arith, g .above-low))))
+    (number-as (λ bs r. turn two true r) (after-turn w p true) refl (path-number w o k (highOf w p) (g .high) (omega (arith, g .above-high))))))
 
--- a list of all paths from the root to node 1, each once, is as long as `pathCountOf` says
-pub every-path : (w : List ℕ) → Ordered w → (l : List (List Bool)) × Every w (root w) (pathCountOf w) l
-every-path w o = (turns w (vars w) (root w), every-from w o (vars w) (root w) (root-in w o) (omega arith))
+pub counting : Counting
+counting = record {
+  tallies = tally-number;
+  valuations = λ w. tally-number (vars w) (holds w);
+  paths = λ w o. path-number w o (vars w) (root w) (root-in w o) (omega arith);
+}

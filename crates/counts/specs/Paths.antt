@@ -14,8 +14,8 @@ paths w (suc k) p = cond (ltb p 2) (cond (eqb p 1) 1 0) (paths w k (lowOf w p) +
 abbrev pub pathCountOf : List ℕ → ℕ
 pathCountOf w = paths w (vars w) (root w)
 
--- A path from p to node 1, by its turns: at each node on the way low for 0, high for 1. That `pathCountOf` is the number
--- of these is `every-path` of proofs/Turns.antt.
+-- A path from p to node 1, by its turns: at each node on the way low for 0, high for 1. `pathCountOf` is the number of these
+-- (Counting.antt).
 pub data Path (w : List ℕ) : ℕ → List Bool → Type 0 where
   arrived : Path w 1 []
   turn : {p : ℕ} {bs : List Bool} → 2 ≤ p → (b : Bool) → Path w (cond b (highOf w p) (lowOf w p)) bs → Path w p (b ∷ bs)

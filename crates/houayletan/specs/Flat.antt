@@ -1,9 +1,9 @@
 -- The answers as C and Rust see them: document 01's number and values for each case of an answer.
-use Prim.Native.Nat.{ℕ}
+use Prim.Native.Nat.{ℕ, _*_}
 use mathlib.Core.Path.{_≡_}
 use mathlib.Core.List.{List, _++_}
 use lib.ListN.{length, drop}
-use Rattle.naturals.specs.Natural.{Holds}
+use Rattle.naturals.specs.Natural.{wordCount, Holds}
 use mathlib.Core.Bool.{Bool, cond}
 use Rattle.diagram.specs.Diagram.{size, vars}
 use Rattle.diagram.specs.Verdict.{Outcome, accepted, refused, verdictOf, roomAfter, ifAccepted}
@@ -11,7 +11,7 @@ use Rattle.diagram.specs.declared.verdict.Output.the-variants.{Nothing, Diagram
 use Rattle.cardinality.specs.Cardinality.{nought, cardinalityOf}
 use Rattle.queries.specs.Queries.{table, nodesAt}
 use Rattle.approximation.specs.Search.{Answer}
-use Rattle.weights.specs.Weighed.{weightsVerdict, Weighed}
+use Rattle.weights.specs.Weighed.{weightsVerdict, weightWords}
 use Rattle.houayletan.specs.declared.HouayletanCount.{HouayletanCount}
 use Rattle.houayletan.specs.declared.HouayletanFloat.{HouayletanFloat}
 use Rattle.houayletan.specs.declared.HouayletanDiagram.{HouayletanDiagram}
@@ -71,6 +71,5 @@ pub record FlatLists (w before after out out′ : List ℕ) (r : HouayletanVerdi
 -- room afterwards.
 pub record FlatWeights (w before after out out′ : List ℕ) (r : HouayletanVerdict) : Type 0 where
   pub verdict : r ≡ flatOf (weightsVerdict w (length out) (length before))
-  pub weighed : (n v : ℕ) → weightsVerdict w (length out) (length before) ≡ accepted n v → Weighed w out out′
-  pub untouched : (k p : ℕ) → weightsVerdict w (length out) (length before) ≡ refused k p → out′ ≡ out
+  pub output : out′ ≡ ifAccepted (weightsVerdict w (length out) (length before)) (weightWords w (size w) ++ drop (wordCount * size w) out) out
   pub left : after ≡ roomAfter w (Weights (length out)) before

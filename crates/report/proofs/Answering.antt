@@ -9,13 +9,13 @@ use mathlib.Core.Bool.{Bool, true, false}
 use mathlib.Core.Logic.{_≢_}
 use Rattle.diagram.specs.declared.verdict.Output.the-variants.{Weights}
 use Rattle.diagram.proofs.Meaning.{verdict-accepted}
-use Rattle.naturals.specs.Natural.{value, Holds}
 use Rattle.diagram.specs.Diagram.{size, vars}
 use Rattle.diagram.specs.Valuations.{countOf, weightOf}
 use Rattle.diagram.specs.Verdict.{Outcome, accepted, refused, said, row, andThen, short, verdictOf}
 use Rattle.diagram.specs.declared.verdict.Verdict.{Verdict}
 use Rattle.diagram.specs.declared.verdict.Verdict.the-variants.{Accepted, Refused}
-use Rattle.weights.specs.Weighed.{weightsVerdict, Weighed, Weighs}
+use Rattle.weights.specs.Weighed.{weightsVerdict, Weighs}
+use Rattle.weights.proofs.Answers.{weighed-long, weighed-at}
 use Rattle.weights.proofs.Visits.{weight-of-one}
 use Rattle.blocks.specs.Block.{nodes, refused as unread, said as told}
 use Rattle.blocks.specs.declared.stored.Stored.{Stored}
@@ -59,9 +59,8 @@ module _ (w table left room room-left : List ℕ) {r : Verdict} (a : Weighs w ta
 
     weight-is : (q : ℕ) → q < size w → weightIn left q ≡ weightOf w q
     weight-is q h =
-        let b = a .weighed n v accepted-is in
-        let f : 8 * q + 8 ≤ length left = omega (arith, b .kept, two-nodes .1) in
-        rw (le-leb (8 * q + 8) (length left) f) (b .weight q h .worth)
+        let f : 8 * q + 8 ≤ length left = omega (arith, weighed-long a accepted-is, two-nodes .1) in
+        rw (le-leb (8 * q + 8) (length left) f) (weighed-at a accepted-is q h)
 
     pub diagram-weighed : {before after : List ℕ} {end : ℕ} → Wrote (head w (weightIn left 1) ++ lines w (weightIn left) 0 (size w)) before 0 after end
         → Wrote (diagramReport w) before 0 after end

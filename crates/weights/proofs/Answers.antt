@@ -1,23 +1,31 @@
 -- What the public function answers.
-use Prim.Native.Nat.{ℕ, _+_, _*_, _≤_, _<_, min}
+use Prim.Native.Nat.{ℕ, zero, suc, _+_, _*_, _^_, _≤_, _<_, min}
 use mathlib.Core.Path.{_≡_, refl, sym, ap, _∙_}
 use mathlib.Core.Logic.{_≢_}
-use mathlib.Core.List.{List, _++_}
+use mathlib.Core.Bool.{Bool, _&&_}
+use mathlib.Core.List.{List, [], _++_, append-assoc}
 use native.Mathlib.Omega.{arith}
-use lib.ListN.{length, drop, take, replicate}
-use lib.Seq.{length-take-le, length-front, drop-at}
+use lib.ListN.{length, drop, take, replicate, length-append, length-drop, take-append-drop}
+use lib.Seq.{length-take-le, length-front, take-at, drop-at, take-add}
+use lib.Pow.{pow-lt}
+use lib.Dec.{eqb}
 use borrow.Author.Tests.{ltb-false, eq-eqb, ne-eqb}
-use Rattle.naturals.specs.Natural.{wordCount, Holds}
+use Rattle.naturals.specs.Natural.{value, wordCount, Holds}
+use Rattle.naturals.specs.Spelling.{wordsOf}
 use Rattle.naturals.proofs.Answer.{holds-as}
+use Rattle.naturals.proofs.Spelling.{words-length, words-of, words-value}
 use Rattle.diagram.specs.Limits.{maxNodes}
-use Rattle.diagram.specs.Diagram.{size, vars}
-use Rattle.diagram.specs.Valuations.{weightOf}
-use Rattle.diagram.specs.Verdict.{Outcome, accepted, refused, said, row, roomOf, short, verdictOf, Checked}
+use Rattle.diagram.specs.Diagram.{size, vars, holds}
+use Rattle.diagram.specs.Valuations.{meets, weightOf}
+use Rattle.diagram.specs.Verdict.{Outcome, accepted, refused, said, row, andThen, roomOf, short, verdictOf, Checked}
 use Rattle.diagram.specs.declared.verdict.Verdict.{Verdict}
 use Rattle.diagram.specs.declared.verdict.Verdict.the-variants.{Accepted as Yes, Refused as No}
 use Rattle.diagram.specs.declared.verdict.Output.the-variants.{Weights}
+use Rattle.diagram.proofs.Tests.{by-eq}
+use Rattle.diagram.proofs.Tally.{tally-most}
+use Rattle.diagram.proofs.Meaning.{verdict-accepted}
 use Rattle.diagram.proofs.Entering.{admitted, ordered, lent-fits, lent-back}
-use Rattle.weights.specs.Weighed.{weightsVerdict, Weighed, Weighs}
+use Rattle.weights.specs.Weighed.{weightsVerdict, weightWords, Weighs}
 use Rattle.levels.specs.Chains.{Given}
 use Rattle.counts.specs.Table.{entry}
 use Rattle.weights.specs.Passes.{weightsFrom, weightsTo, Standing, Handed}
@@ -38,8 +46,40 @@ module _ (w : List ℕ) (lent room : ℕ) where
   unfolding weightsVerdict row
   of-others e more = rw (e, ne-eqb (size w) 1 more)
 
-not-both : {x : Outcome} {k p n v : ℕ} → x ≡ refused k p → x ≡ accepted n v → ⊥
-not-both r a = let z : _≡_ {A = ℕ} 0 1 = cc in omega arith
+-- ---- the words of the weights
+
+words-long : (w : List ℕ) (n : ℕ) → length (weightWords w n) ≡ wordCount * n
+unfolding weightWords
+words-long w zero = refl
+words-long w (suc n) =
+    length-append (weightWords w n) (wordsOf wordCount (weightOf w n)) ∙ omega (arith, words-long w n, words-length wordCount (weightOf w n))
+
+-- as they stand in the output
+words-stand : (w s : List ℕ) (n : ℕ) → ((p : ℕ) → p < n → Holds (weightOf w p) (take wordCount (drop (wordCount * p) s))) → take (wordCount * n) s ≡ weightWords w n
+unfolding weightWords
+words-stand w s zero h = refl
+words-stand w s (suc n) h =
+    let last = h n (omega arith) in
+    let here : take wordCount (drop (wordCount * n) s) ≡ wordsOf wordCount (weightOf w n) =
+    sym (words-of wordCount (take wordCount (drop (wordCount * n) s)) (last .count) (last .small)) ∙ ap (wordsOf wordCount) (last .worth) in
+    let next : wordCount * suc n ≡ wordCount * n + wordCount = omega arith in
+    rw (next, take-add (wordCount * n) wordCount s, here, words-stand w s n (λ p l. h p (omega arith))) refl
+
+-- and as they are read from it
+words-at : (w : List ℕ) (n q : ℕ) (rest : List ℕ) → q < n → take wordCount (drop (wordCount * q) (weightWords w n ++ rest)) ≡ wordsOf wordCount (weightOf w q)
+unfolding weightWords
+words-at w zero q rest h = absurd (omega arith)
+words-at w (suc n) q rest h =
+    let here : List ℕ = wordsOf wordCount (weightOf w n) in
+    ap (λ (l : List ℕ). take wordCount (drop (wordCount * q) l)) (append-assoc (weightWords w n) here rest)
+    ∙ by-eq q n
+    (λ e.
+    rw (e, drop-at (weightWords w n) (here ++ rest) (wordCount * n) (words-long w n))
+    (take-at here rest wordCount (words-length wordCount (weightOf w n))))
+    (λ ne. words-at w n q (here ++ rest) (omega arith))
+
+below : (a b c : ℕ) → a ≤ b → b < c → a < c
+below a b c h k = omega arith
 
 -- ---- the answers
 
@@ -62,12 +102,7 @@ module _ {w : List ℕ} (out : List ℕ) {room after : List ℕ} {r : Verdict} (
   pub weights-refused : {k p : ℕ} → r ≡ No k p → Weighs w out out room after r
   weights-refused {k} {p} e =
       let v = as-checked w (length out) (length room) (sym (c .verdict) ∙ ap said e) in
-      record {
-        verdict = ap said e ∙ sym v;
-        weighed = λ n u x. absurd (not-both v x);
-        untouched = λ k′ p′ x. refl;
-        left = c .left;
-      }
+      record { verdict = ap said e ∙ sym v; output = rw v refl; left = c .left }
 
   module _ {n u : ℕ} (e : r ≡ Yes n u) where
     is-accepted : verdictOf w (Weights (length out)) (length room) ≡ accepted n u
@@ -76,7 +111,7 @@ module _ {w : List ℕ} (out : List ℕ) {room after : List ℕ} {r : Verdict} (
     pub weights-of-false : n ≡ 1 → Weighs w out out room after (No 15 0)
     weights-of-false one =
         let v = of-false w (length out) (length room) is-accepted (omega (arith, admitted c e .nodes)) in
-        record { verdict = sym v; weighed = λ n′ u′ x. absurd (not-both v x); untouched = λ k p x. refl; left = c .left }
+        record { verdict = sym v; output = rw v refl; left = c .left }
 
     pub weights-few : n ≤ maxNodes
     weights-few = omega (arith, admitted c e .nodes, admitted c e .accepted .formed .few)
@@ -104,16 +139,10 @@ module _ {w : List ℕ} (out : List ℕ) {room after : List ℕ} {r : Verdict} (
         pub weights-hand : (n ≤ maxNodes) × (weightsTo n ≤ length stand) × (wordCount * n ≤ length out)
         weights-hand = (weights-few, omega (arith, s .kept, weights-fits), weights-long)
 
-        weights-out : {out′ : List ℕ} → Handed (weightsFrom n) stand out n out′ → Weighed w out out′
+        weights-out : {out′ : List ℕ} → Handed (weightsFrom n) stand out n out′ → out′ ≡ weightWords w (size w) ++ drop (wordCount * size w) out
         weights-out {out′} h =
-            let size-is = admitted c e .nodes in
-            record {
-              kept = h .kept;
-              weight = λ p l.
-                  let below : p < n = omega arith in
-                  plain out′ p (holds-as (s .weight p below .worth) (h .number p below));
-              rest = rw (← size-is) (h .rest);
-            }
+            let front = words-stand w out′ n (λ p l. plain out′ p (holds-as (s .weight p l .worth) (h .number p l))) in
+            rw (← admitted c e .nodes) (sym (take-append-drop (wordCount * n) out′) ∙ rw (front, h .rest) refl)
 
         room-back : {room′ : List ℕ} → room′ ≡ replicate (min (weightsTo n) (length stand)) 0 ++ drop (weightsTo n) stand → room′ ≡ after
         room-back z =
@@ -130,7 +159,40 @@ module _ {w : List ℕ} (out : List ℕ) {room after : List ℕ} {r : Verdict} (
             let same : accepted n u ≡ accepted (size w) (vars w) = rw (a .nodes, a .variables) in
             record {
               verdict = same ∙ sym v;
-              weighed = λ n′ u′ y. weights-out h;
-              untouched = λ k p y. absurd (not-both y v);
+              output = rw v (weights-out h);
               left = room-back z ∙ c .left;
             }
+
+-- ---- what a caller reads: where the words are accepted, each node's weight stands in its place
+
+checked-first : (x y : Outcome) {n v : ℕ} → andThen x y ≡ accepted n v → (m : ℕ) × (u : ℕ) × (x ≡ accepted m u)
+checked-first (accepted m u) y e = (m, u, refl)
+checked-first (refused k p) y e = let z : _≡_ {A = ℕ} 0 1 = cc in absurd (omega arith)
+
+module _ {w before after room room′ : List ℕ} {r : Verdict} (a : Weighs w before after room room′ r) {n v : ℕ}
+    (yes-case : weightsVerdict w (length before) (length room) ≡ accepted n v) where
+  words-are : after ≡ weightWords w (size w) ++ drop (wordCount * size w) before
+  words-are = rw yes-case at (a .output)
+
+  checked-as : (m : ℕ) × (u : ℕ) × (verdictOf w (Weights (length before)) (length room) ≡ accepted m u)
+  unfolding weightsVerdict
+  checked-as = checked-first (verdictOf w (Weights (length before)) (length room)) _ yes-case
+
+  pub weighed-long : length after ≡ length before
+  unfolding short
+  weighed-long =
+      let f = checked-as in
+      let d = verdict-accepted w (Weights (length before)) (length room) (f .0) (f .1) (f .2) in
+      let fits : wordCount * size w ≤ length before = ltb-false (length before) (wordCount * size w) (d .lent) in
+      ap length words-are ∙ length-append (weightWords w (size w)) (drop (wordCount * size w) before)
+      ∙ omega (arith, words-long w (size w), length-drop (wordCount * size w) before)
+
+  pub weighed-at : (q : ℕ) → q < size w → value (take wordCount (drop (wordCount * q) after)) ≡ weightOf w q
+  weighed-at q h =
+      let f = checked-as in
+      let d = verdict-accepted w (Weights (length before)) (length room) (f .0) (f .1) (f .2) in
+      let few : vars w < 32 * wordCount = omega (arith, d .accepted .formed .variables) in
+      let small = below (weightOf w q) (2 ^ vars w) (2 ^ (32 * wordCount)) (tally-most (vars w) (λ bs. holds w bs && meets w bs (eqb q))) (pow-lt few) in
+      ap (λ (l : List ℕ). value (take wordCount (drop (wordCount * q) l))) words-are
+      ∙ ap value (words-at w (size w) q (drop (wordCount * size w) before) h)
+      ∙ words-value wordCount (weightOf w q) small

@@ -13,7 +13,9 @@ use Rattle.diagram.proofs.Tests.{by-test, not-both}
 use Rattle.diagram.proofs.Count.{any-intro, any-elim}
 use Rattle.diagram.proofs.Tally.{tally-same, tally-none, tally-or}
 use Rattle.diagram.proofs.Meeting.{any-or, walk-zero, walk-ends, walk-on}
+use Rattle.counts.proofs.Turns.{counting}
 use Rattle.weights.specs.Listed.{among, sumOf, visitedBy}
+use Rattle.weights.specs.Weighed.{Weighing}
 
 module _ (w : List ℕ) where
   -- no path that visits node 0 ends at node 1
@@ -87,3 +89,11 @@ D = 3 ∷ 0 ∷ 0 ∷ 3 ∷ 1 ∷ 1 ∷ 2 ∷ 0 ∷ 1 ∷ 1 ∷ 2 ∷ 1 ∷ 0 �
 pub shared : (visitedBy D (2 ∷ 3 ∷ []) ≡ 5) × (sumOf D (2 ∷ 3 ∷ []) ≡ 6)
 unfolding D tally holds meets any walk step among sumOf
 shared = (refl, refl)
+
+pub weighing : Weighing
+weighing = record {
+  visits = λ w p. counting .tallies (vars w) (λ bs. holds w bs && meets w bs (eqb p));
+  zero-node = weight-of-zero;
+  one-node = weight-of-one;
+  root-node = weight-of-root;
+}

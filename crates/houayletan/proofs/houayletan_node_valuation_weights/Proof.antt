@@ -22,8 +22,7 @@ returns c =
     let answer = c .before .before .before .before .before .node-valuation-weights .ensures in
     record {
       verdict = c .flat .ensures ∙ ap flatOf (answer .verdict);
-      weighed = answer .weighed;
-      untouched = answer .untouched;
+      output = answer .output;
       left = answer .left;
     }
 

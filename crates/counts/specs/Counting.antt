@@ -1,0 +1,34 @@
+-- What the counts are numbers of (`counting` of proofs/Turns.antt).
+use Prim.Native.Nat.{ℕ}
+use mathlib.Core.Path.{_≡_}
+use mathlib.Core.Bool.{Bool, true}
+use mathlib.Core.List.{List, [], _∷_}
+use lib.ListN.{length}
+use Rattle.diagram.specs.Diagram.{vars, root, holds, Ordered}
+use Rattle.diagram.specs.Valuations.{tally, countOf}
+use Rattle.counts.specs.Paths.{pathCountOf, Path}
+
+-- A list of bits stands in a list of such lists; and no entry stands there twice.
+pub data In (x : List Bool) : List (List Bool) → Type 0 where
+  here : {l : List (List Bool)} → In x (x ∷ l)
+  there : {y : List Bool} {l : List (List Bool)} → In x l → In x (y ∷ l)
+
+pub data Once : List (List Bool) → Type 0 where
+  none : Once []
+  more : {x : List Bool} {l : List (List Bool)} → (In x l → ⊥) → Once l → Once (x ∷ l)
+
+-- How many lists of bits have a property: a list that has each of them once, and nothing else, is so long.
+pub record Number (P : List Bool → Type 0) (n : ℕ) : Type 0 where
+  pub list : List (List Bool)
+  pub count : length list ≡ n
+  pub once : Once list
+  pub right : (bs : List Bool) → In bs list → P bs
+  pub all : (bs : List Bool) → P bs → In bs list
+
+pub record Counting : Type 0 where
+  -- a tally is the number of the lists of k bits that pass its test; so the count is the number of the valuations, one bit for
+  -- each variable, for which the array holds
+  pub tallies : (k : ℕ) (test : List Bool → Bool) → Number (λ bs. (length bs ≡ k) × (test bs ≡ true)) (tally k test)
+  pub valuations : (w : List ℕ) → Number (λ bs. (length bs ≡ vars w) × (holds w bs ≡ true)) (countOf w)
+  -- the path count is the number of the paths from the root to node 1
+  pub paths : (w : List ℕ) → Ordered w → Number (Path w (root w)) (pathCountOf w)
