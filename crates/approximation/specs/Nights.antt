@@ -21,81 +21,65 @@ D = 3 ∷ 0 ∷ 0 ∷ 3 ∷ 1 ∷ 1 ∷ 2 ∷ 0 ∷ 1 ∷ 1 ∷ 2 ∷ 1 ∷ 0 �
 abbrev pub all-three : List ℕ
 all-three = 3 ∷ 0 ∷ 0 ∷ 3 ∷ 1 ∷ 1 ∷ 2 ∷ 0 ∷ 1 ∷ 1 ∷ 0 ∷ 2 ∷ 0 ∷ 0 ∷ 3 ∷ []
 
--- What is asked of a diagram: its weights, its non-terminals by priority, the number of its paths; cuts by a list, to a size
--- and to a count.
-pub data Case : Type 0 where
-  weights : List ℕ → Case
-  priorities : List ℕ → Case
-  path-count : List ℕ → Case
-  under-by : List ℕ → List ℕ → Case
-  over-by : List ℕ → List ℕ → Case
-  under-to-size : List ℕ → ℕ → Case
-  over-to-size : List ℕ → ℕ → Case
-  under-to-count : List ℕ → ℕ → Case
-  over-to-count : List ℕ → ℕ → Case
-
--- What is answered: a refusal's number and place; numbers; the words of a cut by a list with their count, or of a cut to a
--- target with its trials.
+-- A reply: a refusal's number and place; numbers; or words, with their count or with the trials made.
 pub data Reply : Type 0 where
   refusal : ℕ → ℕ → Reply
   numbers : List ℕ → Reply
   words : List ℕ → ℕ → Reply
 
-unfoldable pub after : Outcome → Reply → Reply
-after (accepted n v) reply = reply
-after (refused number place) reply = refusal number place
+abbrev pub unless : Outcome → Reply → Reply
+unless (accepted n v) reply = reply
+unless (refused number place) reply = refusal number place
 
--- The check of a diagram for a cut, with the output and the working room that document 01 asks for, then that of the list or
--- of the target.
-abbrev pub checks : List ℕ → Outcome → Outcome
-checks w next = andThen (verdictOf w (Diagram (3 * most w)) (roomOf w)) next
+-- What each request is answered with, where the output and the working room are what document 01 asks for: weights; the number
+-- of paths; a cut by a list, with its count; a cut to a size or to a count, with its trials.
+abbrev pub weights : List ℕ → Reply
+weights w = unless (weightsVerdict w (wordCount * size w) (roomOf w)) (numbers (table (weightOf w) 0 (size w)))
 
-abbrev pub counted : List ℕ → Reply
-counted made = words made (countOf made)
+abbrev pub pathCount : List ℕ → Reply
+pathCount w = unless (verdictOf w Nothing (roomOf w)) (numbers (pathCountOf w ∷ []))
 
-abbrev pub tried : Answer → Reply
-tried a = words (a .words) (a .trials)
+abbrev pub checked : List ℕ → Outcome → Reply → Reply
+checked w next reply = unless (andThen (verdictOf w (Diagram (3 * most w)) (roomOf w)) next) reply
 
-unfoldable pub reply : Case → Reply
-reply (weights w) = after (weightsVerdict w (wordCount * size w) (roomOf w)) (numbers (table (weightOf w) 0 (size w)))
-reply (priorities w) = numbers (order w)
-reply (path-count w) = after (verdictOf w Nothing (roomOf w)) (numbers (pathCountOf w ∷ []))
-reply (under-by w list) = after (checks w (listOf w list)) (counted (underBy w list))
-reply (over-by w list) = after (checks w (listOf w list)) (counted (overBy w list))
-reply (under-to-size w t) = after (checks w (accepted (size w) (vars w))) (tried (underToSize w t))
-reply (over-to-size w t) = after (checks w (accepted (size w) (vars w))) (tried (overToSize w t))
-reply (under-to-count w k) = after (checks w (underCountOf w k)) (tried (underToCount w k))
-reply (over-to-count w k) = after (checks w (overCountOf w k)) (tried (overToCount w k))
+abbrev pub by : (List ℕ → List ℕ → List ℕ) → List ℕ → List ℕ → Reply
+by cut w list = checked w (listOf w list) (words (cut w list) (countOf (cut w list)))
+
+abbrev pub toSize : (List ℕ → ℕ → Answer) → List ℕ → ℕ → Reply
+toSize search w t = checked w (accepted (size w) (vars w)) (words (search w t .words) (search w t .trials))
+
+abbrev pub toCount : (List ℕ → ℕ → Outcome) → (List ℕ → ℕ → Answer) → List ℕ → ℕ → Reply
+toCount told search w k = checked w (told w k) (words (search w k .words) (search w k .trials))
 
 -- A diagram of three variables by the nodes after its terminals.
-abbrev pub nodes : List ℕ → List ℕ
-nodes list = trueOf 3 ++ list
+abbrev pub after : List ℕ → List ℕ
+after nodes = trueOf 3 ++ nodes
 
-abbrev pub cases : List (Case × Reply)
+abbrev pub cases : List (Reply × Reply)
 cases =
     -- C1, C2
     (weights D, numbers (0 ∷ 5 ∷ 3 ∷ 3 ∷ 5 ∷ []))
-    ∷ (path-count D, numbers (3 ∷ []))
+    ∷ (pathCount D, numbers (3 ∷ []))
     -- C3, C4, C5
-    ∷ (under-by D (2 ∷ []), words (nodes (1 ∷ 0 ∷ 1 ∷ 0 ∷ 0 ∷ 2 ∷ [])) 2)
-    ∷ (under-by D (3 ∷ []), words (nodes (2 ∷ 0 ∷ 1 ∷ 0 ∷ 2 ∷ 0 ∷ [])) 2)
-    ∷ (over-by D (3 ∷ []), words (nodes (2 ∷ 0 ∷ 1 ∷ 0 ∷ 2 ∷ 1 ∷ [])) 6)
+    ∷ (by underBy D (2 ∷ []), words (after (1 ∷ 0 ∷ 1 ∷ 0 ∷ 0 ∷ 2 ∷ [])) 2)
+    ∷ (by underBy D (3 ∷ []), words (after (2 ∷ 0 ∷ 1 ∷ 0 ∷ 2 ∷ 0 ∷ [])) 2)
+    ∷ (by overBy D (3 ∷ []), words (after (2 ∷ 0 ∷ 1 ∷ 0 ∷ 2 ∷ 1 ∷ [])) 6)
     -- C6, C7, C8
-    ∷ (under-to-size D 4, words (nodes (2 ∷ 0 ∷ 1 ∷ 0 ∷ 2 ∷ 0 ∷ [])) 2)
-    ∷ (under-to-size D 3, words (falseOf 3) 2)
-    ∷ (over-to-size D 4, words (nodes (2 ∷ 0 ∷ 1 ∷ 0 ∷ 2 ∷ 1 ∷ [])) 2)
+    ∷ (toSize underToSize D 4, words (after (2 ∷ 0 ∷ 1 ∷ 0 ∷ 2 ∷ 0 ∷ [])) 2)
+    ∷ (toSize underToSize D 3, words (falseOf 3) 2)
+    ∷ (toSize overToSize D 4, words (after (2 ∷ 0 ∷ 1 ∷ 0 ∷ 2 ∷ 1 ∷ [])) 2)
     -- C9, C10
-    ∷ (under-to-count D 4, words (nodes (2 ∷ 0 ∷ 1 ∷ 0 ∷ 2 ∷ 0 ∷ [])) 1)
-    ∷ (under-to-count D 1, words (falseOf 3) 1)
+    ∷ (toCount underCountOf underToCount D 4, words (after (2 ∷ 0 ∷ 1 ∷ 0 ∷ 2 ∷ 0 ∷ [])) 1)
+    ∷ (toCount underCountOf underToCount D 1, words (falseOf 3) 1)
     -- C11
     ∷ (weights all-three, numbers (0 ∷ 1 ∷ 1 ∷ 1 ∷ 1 ∷ []))
-    ∷ (priorities all-three, numbers (4 ∷ 3 ∷ 2 ∷ []))
-    ∷ (under-to-size all-three 4, words (falseOf 3) 2)
+    ∷ (numbers (order all-three), numbers (4 ∷ 3 ∷ 2 ∷ []))
+    ∷ (toSize underToSize all-three 4, words (falseOf 3) 2)
     -- C12
-    ∷ (over-to-count D 8, words (trueOf 3) 0)
-    ∷ (over-to-count D 9, refusal 16 0)
+    ∷ (toCount overCountOf overToCount D 8, words (trueOf 3) 0)
+    ∷ (toCount overCountOf overToCount D 9, refusal 16 0)
     ∷ []
 
--- Each case has the reply beside it.
+-- In each case what is replied is what stands beside it.
 abbrev pub Nights : Type 0
-Nights = map (λ (c : Case × Reply). reply (c .0)) cases ≡ map (λ (c : Case × Reply). c .1) cases
+Nights = map (λ (c : Reply × Reply). c .0) cases ≡ map (λ (c : Reply × Reply). c .1) cases

@@ -1,0 +1,81 @@
+// Asks exported functions, one for each struct that they answer with, of the diagram D of document 01: number, place, nodes and vars
+// of the verdict, then the value. Then a refusal: two nodes of which the second is no terminal.
+use diagram::node::word;
+use houayletan::HouayletanVerdict;
+use houayletan::asking::houayletan_is_false;
+use houayletan::cutting::houayletan_overapproximate;
+use houayletan::cutting::houayletan_underapproximate_to_size;
+use houayletan::houayletan_exact_cardinality;
+use houayletan::houayletan_validate;
+use libc::STDOUT_FILENO;
+
+fn say(text: &[u8], value: u64) {
+    io::write_all(STDOUT_FILENO, text);
+    io::print_decimal(STDOUT_FILENO, value);
+}
+
+fn say_verdict(verdict: HouayletanVerdict) {
+    say(b"number ", verdict.number as u64);
+    say(b" place ", verdict.place as u64);
+    say(b" nodes ", verdict.nodes as u64);
+    say(b" vars ", verdict.vars as u64);
+}
+
+fn end_line() {
+    io::write_all(STDOUT_FILENO, b"\n");
+}
+
+fn check(words: &[u32], room: &mut [u32]) {
+    say_verdict(houayletan_validate(words, room));
+    end_line();
+}
+
+fn count(words: &[u32], room: &mut [u32]) {
+    let answer = houayletan_exact_cardinality(words, room);
+    let verdict = answer.verdict;
+    let count = answer.count;
+    say_verdict(verdict);
+    say(b", count ", word(&count, 0) as u64);
+    end_line();
+}
+
+fn ask(words: &[u32], room: &mut [u32]) {
+    let answer = houayletan_is_false(words, room);
+    let verdict = answer.verdict;
+    say_verdict(verdict);
+    say(b", amount ", answer.amount as u64);
+    end_line();
+}
+
+fn cut(words: &[u32], room: &mut [u32], output: &mut [u32]) {
+    let list = [3u32; 1];
+    let answer = houayletan_overapproximate(words, &list, room, output);
+    let verdict = answer.verdict;
+    say_verdict(verdict);
+    say(b", nodes ", answer.nodes as u64);
+    say(b", last link ", word(output, 11) as u64);
+    end_line();
+}
+
+fn cut_to_size(words: &[u32], room: &mut [u32], output: &mut [u32]) {
+    let answer = houayletan_underapproximate_to_size(words, 4, room, output);
+    let verdict = answer.verdict;
+    say_verdict(verdict);
+    say(b", nodes ", answer.nodes as u64);
+    say(b", trials ", answer.trials as u64);
+    say(b", last link ", word(output, 11) as u64);
+    end_line();
+}
+
+fn main() {
+    let words = [3u32, 0, 0, 3, 1, 1, 2, 0, 1, 1, 2, 1, 0, 2, 3];
+    let mut room = [7u32; 320];
+    let mut output = [9u32; 15];
+    check(&words, &mut room);
+    count(&words, &mut room);
+    ask(&words, &mut room);
+    cut(&words, &mut room, &mut output);
+    cut_to_size(&words, &mut room, &mut output);
+    let other = [0u32; 6];
+    check(&other, &mut room);
+}
