@@ -15,11 +15,11 @@ use Rattle.block_file.proofs.Steps.{read-few}
 use Rattle.text.proofs.Numerals.{decimal-length, hexadecimal-length}
 use Rattle.writing.specs.Writing.{Wrote}
 use Rattle.writing.proofs.Laws.{wrote-length, wrote-fits, wrote-place}
-use Rattle.report.specs.Report.{refusal, line, lines, head, weighedReport, diagramReport, storedReport, reportOf}
+use Rattle.report.specs.Report.{refusedAt, refusal, line, lines, head, weighedReport, diagramReport, storedReport, reportOf}
 
 -- The lengths of the lines: twenty decimal digits or sixty-four hexadecimal ones at most for each number.
 refusal-length : (number place : ℕ) → length (refusal number place) ≤ 53
-unfolding refusal
+unfolding refusedAt
 refusal-length number place = simp length-append (omega (arith, decimal-length number, decimal-length place))
 
 head-length : (w : List ℕ) (count : ℕ) → length (head w count) ≤ 124
