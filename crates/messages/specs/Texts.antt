@@ -4,7 +4,7 @@ use mathlib.Core.Bool.{Bool, true, false, cond, _&&_, _||_}
 use mathlib.Core.List.{List, [], _∷_, _++_}
 use lib.Dec.{leb, ltb, eqb}
 use Rattle.writing.specs.Writing.{bytes}
-use Rattle.text.specs.Digits.{decimal, decimal2, hexadecimal}
+use Rattle.text.specs.Digits.{decimal, hexadecimal}
 use Rattle.report.specs.Report.{refusedAt, feed}
 use Rattle.request.specs.Request.{Aim, nodes, cases}
 
@@ -54,7 +54,7 @@ refusalText number place = refusedAt number place ++ bytes ": " ++ subject numbe
 
 -- A number in decimal and beside it in hexadecimal: `added 26 (hex 1a)`.
 unfoldable pub twice : List ℕ → ℕ → List ℕ → List ℕ
-twice label n middle = label ++ decimal2 n ++ middle ++ hexadecimal n ++ bytes ")"
+twice label n middle = label ++ decimal n ++ middle ++ hexadecimal n ++ bytes ")"
 
 unfoldable pub targetText : Bool → Aim → List ℕ
 targetText keep (nodes t) = bytes "target at most " ++ decimal t ++ bytes " nodes\n"

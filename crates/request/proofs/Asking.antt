@@ -9,11 +9,11 @@ use Rattle.naturals.specs.Natural.{value, limit, Answers, Holds}
 use Rattle.naturals.specs.declared.Fit.{Fit}
 use Rattle.writing.specs.Writing.{bytes}
 use Rattle.text.specs.Digits.{Reading, number, none, parsed, isNumber, numberOf, Parses}
-use Rattle.request.specs.Request.{alike, Aim, nodes, cases, Meaning, help, unknown, which, cut, ifNumber, aimed, requestOf, meant}
-use Rattle.request.specs.declared.Asked.the-variants.{Help, Unknown, Which}
+use Rattle.request.specs.Request.{alike, Aim, nodes, cases, Meaning, help, unknown, which, cut, ifNumber, aimed, requestOf, aimOf, meant}
+use Rattle.request.specs.declared.Asked.the-variants.{Help, Unknown, Which, Cut}
 use Rattle.request.specs.declared.Request.{Request}
 
--- ---- no cut
+-- ---- what is asked
 
 pub is-help : (r : Request) → r .asked ≡ Help → meant r ≡ help
 is-help r e = rw e
@@ -23,6 +23,9 @@ is-unknown r e = rw e
 
 pub is-which : (r : Request) → r .asked ≡ Which → meant r ≡ which
 is-which r e = rw e
+
+pub is-cut : (r : Request) → r .asked ≡ Cut → meant r ≡ cut (r .target .keep) (aimOf (r .target))
+is-cut r e = rw e
 
 -- ---- a number that was read, or none
 
@@ -50,7 +53,7 @@ module _ (keep : Bool) (k n : List ℕ) {a : Bool} (ea : a ≡ alike k (bytes "s
   aims-size f e = rw (sym ea, f) e
 
   module _ (fa : a ≡ false) {b : Bool} (eb : b ≡ alike k (bytes "cases")) where
-    pub aims-cases : {m : Meaning} → b ≡ true → m ≡ ifNumber keep cases (parsed 16 limit n) → m ≡ aimed keep k n
+    pub aims-cases : {m : Meaning} → b ≡ true → m ≡ ifNumber keep cases (parsed 10 limit n) → m ≡ aimed keep k n
     unfolding aimed
     aims-cases f e = rw (sym ea, fa, sym eb, f) e
 

@@ -38,7 +38,7 @@ ifNumber keep aim none = unknown
 unfoldable pub aimed : Bool → List ℕ → List ℕ → Meaning
 aimed keep kind text =
     cond (alike kind (bytes "size")) (ifNumber keep nodes (parsed 10 (2 ^ 32) text))
-    (cond (alike kind (bytes "cases")) (ifNumber keep cases (parsed 16 limit text))
+    (cond (alike kind (bytes "cases")) (ifNumber keep cases (parsed 10 limit text))
     (cond (alike kind (bytes "hex")) (ifNumber keep cases (parsed 16 limit text))
     (cond (alike kind (bytes "count")) which
     unknown)))

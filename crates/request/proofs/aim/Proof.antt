@@ -33,7 +33,7 @@ by-count-requires : tie.Need-by-count-requires
 by-count-requires c κs = search needs
 
 returns-2 : tie.Need-returns-2
-returns-2 c = aims-cases (c .before .before .before .before .before .before .before .before .before .before .args .keep) (c .before .before .before .before .before .before .before .before .before .before .args .kind .now) (c .before .before .before .before .before .before .before .before .before .before .args .number .now) (c .before .before .before .before .before .before .same .ensures) (c .before .before .before .before .before .if1 .left) (c .before .before .before .same2 .ensures) (c .before .before .if2 .taken) (c .by-count .ensures ∙ if-answered (c .before .before .before .before .before .before .before .before .before .before .args .keep) 16 (c .before .before .before .before .before .before .before .before .before .before .args .number .now) (c .before .parse-natural .result) (c .before .parse-natural .ensures))
+returns-2 c = aims-cases (c .before .before .before .before .before .before .before .before .before .before .args .keep) (c .before .before .before .before .before .before .before .before .before .before .args .kind .now) (c .before .before .before .before .before .before .before .before .before .before .args .number .now) (c .before .before .before .before .before .before .same .ensures) (c .before .before .before .before .before .if1 .left) (c .before .before .before .same2 .ensures) (c .before .before .if2 .taken) (c .by-count .ensures ∙ if-answered (c .before .before .before .before .before .before .before .before .before .before .args .keep) 10 (c .before .before .before .before .before .before .before .before .before .before .args .number .now) (c .before .parse-natural .result) (c .before .parse-natural .ensures))
 
 slice-aggregate-same-3 : tie.Need-slice-aggregate-same-3
 slice-aggregate-same-3 c = search needs
