@@ -1,7 +1,8 @@
 """Writes crates/blocks_run/stdin and stdout: files, whole and damaged, texts and reports, and what document 01 says of
-each; crates/weigh/stdin and stdout; and the files of examples/."""
+each; crates/weigh/stdin and stdout; and the files of examples/. An argument gives another word count than 8."""
 import os
 import random
+import sys
 
 import block
 from diagram_cases import D
@@ -11,6 +12,8 @@ from weights_cases import by_chances
 HERE = os.path.dirname(os.path.abspath(__file__))
 TOP = os.path.join(HERE, '..')
 LENT, ROOM = 960, 7680
+WORDS = int(sys.argv[1]) if len(sys.argv) > 1 else 8
+LIMIT = 1 << (32 * WORDS)
 random.seed(23)
 
 
@@ -122,13 +125,20 @@ def reported():
 
 def texts():
     decimals = ['0', '1', '9', '10', '4294967295', '4294967296', '99999999999999999999', '', '00', '01', '1a', 'a', ' 1', '1 ', '-1', '/', ':', '007']
-    hexadecimals = ['0', 'f', '10', 'ff', 'F', 'g', '0f', '', 'deadbeef0123456789', '1' + '0' * 63, 'f' * 64, '1' + '0' * 64, 'f' * 65, '`', 'a0', '00']
+    hexadecimals = ['0', 'f', '10', 'ff', 'F', 'g', '0f', '', 'deadbeef0123456789', '%x' % (LIMIT >> 4), '%x' % (LIMIT - 1), '%x' % LIMIT,
+                    '%x' % (16 * LIMIT - 1), '`', 'a0', '00']
+    naturals = [0, 9, 10, 99, 100, 2 ** 32 - 1, 2 ** 32, 10 ** 19, 2 ** 64 - 1, 2 ** 64, 10 ** 20, 10 ** 77, LIMIT // 10, LIMIT - 1, LIMIT, LIMIT + 1,
+                LIMIT + 12345, 10 * LIMIT, 10 ** 78, 10 ** (10 * WORDS), LIMIT * LIMIT]
+    others = ['', '00', '01', '0' + str(LIMIT - 1), '00' + '1' * 70, 'a', '1a', 'a1', '12345678901234567890f', '-1', '+1', ' 1', '1 ', '1_000', '/', ':', '1:']
     for t in decimals:
         good = t.isdigit() and str(int(t)) == t and int(t) < 2 ** 32
         yield 3, t, t if good else 'none'
     for t in hexadecimals:
-        good = t != '' and all(c in '0123456789abcdef' for c in t) and '%x' % int(t, 16) == t and int(t, 16) < 2 ** 256
+        good = t != '' and all(c in '0123456789abcdef' for c in t) and '%x' % int(t, 16) == t and int(t, 16) < LIMIT
         yield 4, t, t if good else 'none'
+    for t in [str(n) for n in naturals] + others:
+        good = t.isdigit() and str(int(t)) == t and int(t) < LIMIT
+        yield 5, t, '%s\n%d' % (t, int(t) % 2 ** 64) if good else 'none\nnone'
 
 
 def main():

@@ -22,6 +22,7 @@ SAMPLES = [
     block(0, WORDS, 2309737967), 3, (1 << (16 * WORDS)) + 1, block(2, WORDS - 2, 4275878552),
 ]
 SHIFTS = [0, 1, 31, 32, 33, 127, 128, 224, 255, 256, 4294967295]
+DIVISORS = [0, 1, 3, 10, 65536, 2147483649, 4294967295]
 PLACES = [0, 1, 11, 12, 13, 20, 2**64 - 8, 2**64 - 1]
 lines = []
 
@@ -69,6 +70,10 @@ for i, a in enumerate(SAMPLES):
         lines.append(f'compare {i} {j} ' + order(a, b))
     for k in SHIFTS:
         lines.append(f'shift {i} {k} ' + shifted(a, k))
+    for d in DIVISORS:
+        lines.append(f'divide {i} {d} ' + (f'= {a % d:x} {a // d:x}' if d else '! 0 0'))
+        for c in (0, TOP):
+            lines.append(f'times {i} {d} {c} ' + below(a * d + c))
 for k in SHIFTS:
     lines.append(f'power {k} ' + shifted(1, k))
     lines.append(f'word {k} {k:x}')

@@ -3,7 +3,8 @@
 //     0  read a file from the bytes to that many words of the filling; prints the answer and these words
 //     1  write the file of the words to that many bytes of the filling; prints the answer and these bytes
 //     2  the report of the bytes
-//     3  take the bytes for a decimal number and print it back, 4 for a hexadecimal one
+//     3  take the bytes for a decimal number of 32 bits and print it back, 4 for a hexadecimal one of all words, 5 for a
+//        decimal one of all words, and after it its two lowest words as one number
 // Both files are made by tests/blocks_cases.py, from a reading of document 01 that shares nothing with this code.
 use block_file::read::read_file;
 use block_file::write::write_file;
@@ -14,12 +15,16 @@ use cases::number;
 use cases::words_of;
 use diagram::node::word;
 use libc::STDOUT_FILENO;
+use naturals::Natural;
 use report::weigh::report;
 use text::parse::parse_decimal;
 use text::parse::parse_hexadecimal;
+use text::parse::parse_natural;
 use text::print::write_decimal;
 use text::print::write_hexadecimal;
-ghost use Prim.Native.Nat.{_≤_, _<_};
+use text::print::write_natural;
+ghost use mathlib.Core.Path.{_≡_};
+ghost use Prim.Native.Nat.{_^_, _≤_, _<_};
 ghost use lib.ListN.{length};
 
 const TEXT: usize = 524288;
@@ -29,6 +34,8 @@ const WORDS: usize = 2100;
 const OUTPUT: usize = 400;
 
 const LINES: usize = 16384;
+
+const NUMERAL: usize = 10 * naturals::WORDS;
 
 fn say(text: &[u8], value: u64) {
     io::write_all(STDOUT_FILENO, text);
@@ -141,16 +148,37 @@ fn say_text(valid: bool, text: &[u8], end: usize) {
 }
 
 fn decimal_case(bytes: &[u8]) {
-    let mut text = [0u8; 80];
+    let mut text = [0u8; NUMERAL];
     let parsed = parse_decimal(bytes);
     let end = write_decimal(&mut text, 0, parsed.value as u64);
     say_text(parsed.valid, &text, end);
 }
 
 fn hexadecimal_case(bytes: &[u8]) {
-    let mut text = [0u8; 80];
+    let mut text = [0u8; NUMERAL];
     let parsed = parse_hexadecimal(bytes);
     let end = write_hexadecimal(&mut text, 0, parsed.natural);
+    say_text(parsed.fits, &text, end);
+}
+
+// A word where its sums and products have room.
+fn wide(x: u32) -> u64
+    ensures { λ r. ⌜ (r ≡ x) × (r < 2 ^ 32) ⌝ }
+{
+    x as u64
+}
+
+fn lowest(a: Natural) -> u64 {
+    wide(a.words[1]) * 4294967296 + wide(a.words[0])
+}
+
+fn natural_case(bytes: &[u8]) {
+    let mut text = [0u8; NUMERAL];
+    let parsed = parse_natural(bytes);
+    let natural = parsed.natural;
+    let end = write_natural(&mut text, 0, natural);
+    say_text(parsed.fits, &text, end);
+    let end = write_decimal(&mut text, 0, lowest(natural));
     say_text(parsed.fits, &text, end);
 }
 
@@ -166,6 +194,9 @@ fn run_bytes(kind: u32, bytes: &[u8], lent: usize, filling: u32) {
     }
     if kind == 4 {
         hexadecimal_case(bytes);
+    }
+    if kind == 5 {
+        natural_case(bytes);
     }
 }
 

@@ -8,7 +8,7 @@ use native.Mathlib.Nat.{pow-suc, mul-one, mul-assoc, mul-le-mul, sub-zero, le-tr
 use lib.Pow.{pow-pos, pow-add, pow-mono, pow-lt}
 use lib.Dec.{eqb}
 use borrow.Author.Tests.{lt-ltb, le-ltb}
-use Rattle.naturals.specs.Natural.{limit, wordCount}
+use Rattle.naturals.specs.Natural.{limit, limitIn, wordCount}
 use Rattle.diagram.specs.Limits.{maxVariables}
 use Rattle.diagram.specs.Diagram.{varOf, lowOf, highOf, size, vars, root, holds, Ordered}
 use Rattle.diagram.specs.Reading.{eval, pass}
@@ -159,7 +159,7 @@ doublings-most true d = omega arith
 doublings-most false d = omega arith
 
 pub under-limit : (x k : ℕ) → x ≤ 2 ^ k → k ≤ maxVariables → x < limit
-unfolding limit
+unfolding limitIn
 under-limit x k a b =
     let m = pow-mono b in
     let l : 2 ^ maxVariables < 2 ^ (32 * wordCount) = pow-lt {i = maxVariables} {j = 32 * wordCount} (omega arith) in

@@ -10,6 +10,8 @@ const SAMPLES: usize = 12;
 
 const SHIFTS: [u32; 11] = [0, 1, 31, 32, 33, 127, 128, 224, 255, 256, 4294967295];
 
+const DIVISORS: [u32; 7] = [0, 1, 3, 10, 65536, 2147483649, 4294967295];
+
 const ROOM: usize = 20;
 
 const SHORT: usize = WORDS - 1;
@@ -158,6 +160,38 @@ fn shifts(i: usize) {
     }
 }
 
+// The remainder, then the quotient.
+fn divide(i: usize, d: u32) {
+    label(b"divide ", i, d as u64);
+    let division = naturals::divide_small(sample(i), d);
+    if division.divides {
+        text(b"= ");
+    } else {
+        text(b"! ");
+    }
+    hex(division.remainder, 1);
+    text(b" ");
+    let quotient = division.quotient;
+    show(quotient);
+}
+
+fn times(i: usize, m: u32, c: u32) {
+    label(b"times ", i, m as u64);
+    number(c as u64);
+    show_fit(naturals::times_plus(sample(i), m, c));
+}
+
+fn by_words(i: usize) {
+    let mut j = 0;
+    while j < 7 {
+        let d = DIVISORS[j];
+        divide(i, d);
+        times(i, d, 0);
+        times(i, d, 4294967295);
+        j += 1;
+    }
+}
+
 fn alone(i: usize) {
     text(b"sample ");
     number(i as u64);
@@ -269,6 +303,7 @@ fn main() {
         alone(i);
         pairs(i);
         shifts(i);
+        by_words(i);
         i += 1;
     }
     powers();

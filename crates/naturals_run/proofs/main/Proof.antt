@@ -5,6 +5,7 @@ use Rattle.naturals_run.proofs.main.Tie as tie
 use Rattle.naturals_run.proofs.main.Reads as reads
 use Rattle.naturals_run.proofs.main.Lts as lts
 use Rattle.naturals_run.proofs.alone.Reads as alone-reads
+use Rattle.naturals_run.proofs.by_words.Reads as by-words-reads
 use Rattle.naturals_run.proofs.just_enough.Reads as just-enough-reads
 use Rattle.naturals_run.proofs.lowest_words.Reads as lowest-words-reads
 use Rattle.naturals_run.proofs.pairs.Reads as pairs-reads
@@ -30,6 +31,9 @@ pairs-requires c κs = search needs
 
 shifts-requires : tie.Need-shifts-requires Inv-loop μ-loop
 shifts-requires c κs = search needs
+
+by-words-requires : tie.Need-by-words-requires Inv-loop μ-loop
+by-words-requires c κs = search needs
 
 add-i : tie.Need-add-i Inv-loop μ-loop
 add-i c = search needs
@@ -68,6 +72,7 @@ main-spec =
     alone-requires
     pairs-requires
     shifts-requires
+    by-words-requires
     add-i
     loop-less
     loop-again
