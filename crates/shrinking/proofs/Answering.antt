@@ -116,6 +116,7 @@ module _ (keep : Bool) (aim : Aim) (s blank left : List ℕ) {r : Stored} (h : R
   unfolding done
   file-done e t = rw (sym is-blank, sym (h .is), e) t
 
+module _ (s blank left : List ℕ) {r : Stored} (h : ReadsFile s blank left r) (is-blank : blank ≡ replicate 360 0) where
   pub file-few : {n : ℕ} → r ≡ Nodes n → n ≤ 120
   unfolding readFile
   file-few e = read-few 3 0 0 s blank (sym (rw e at (h .is)))
@@ -134,3 +135,9 @@ module _ (s file text text′ : List ℕ) {end text-end : ℕ} (none : end ≡ 0
   pub not-named : m ≡ which → Wrote whichText text 0 text′ text-end → Shrinks (done m s (length file)) file file text text′ end text-end
   unfolding done
   not-named e t = rw e (record { stored = refl; stored-end = none; told = t })
+
+-- ---- what the words mean
+
+pub is-done : (s : List ℕ) (lent : ℕ) {m k : Meaning} {file left text text′ : List ℕ} {end text-end : ℕ} → m ≡ k
+    → Shrinks (done k s lent) file left text text′ end text-end → Shrinks (done m s lent) file left text text′ end text-end
+is-done s lent e t = rw e t

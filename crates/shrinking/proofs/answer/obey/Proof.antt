@@ -1,81 +1,61 @@
+use mathlib.Core.Path.{refl, sym}
+use Rattle.shrinking.proofs.Answering.{helped, not-known, not-named, is-done}
+use Rattle.request.proofs.Asking.{is-help, is-unknown, is-which, is-cut}
 use native.Mathlib.Omega.{arith}
 use borrow.Author.Needs.{needs}
 use Rattle.shrinking.proofs.answer.obey.Statement.{statement}
 use Rattle.shrinking.proofs.answer.obey.Tie as tie
-use Rattle.shrinking.proofs.answer.obey.Reads as reads
-use Rattle.shrinking.proofs.answer.obey.Lts as lts
-use Rattle.messages.proofs.words.write_help.Reads as write-help-reads
-use Rattle.messages.proofs.words.write_unknown.Reads as write-unknown-reads
-use Rattle.messages.proofs.words.write_which.Reads as write-which-reads
-use Rattle.shrinking.proofs.job.shrink.Reads as shrink-reads
 
--- src/answer.rt:22:34
 enum-told : tie.Need-enum-told
 enum-told c = search needs
 
--- src/answer.rt:22:17
 write-help-requires : tie.Need-write-help-requires
 write-help-requires c κs = search needs
 
--- src/answer.rt:26:37
 enum-told-2 : tie.Need-enum-told-2
 enum-told-2 c = search needs
 
--- src/answer.rt:26:17
 write-unknown-requires : tie.Need-write-unknown-requires
 write-unknown-requires c κs = search needs
 
--- src/answer.rt:30:35
 enum-told-3 : tie.Need-enum-told-3
 enum-told-3 c = search needs
 
--- src/answer.rt:30:17
 write-which-requires : tie.Need-write-which-requires
 write-which-requires c κs = search needs
 
--- src/answer.rt:33:45
 enum-told-4 : tie.Need-enum-told-4
 enum-told-4 c = search needs
 
--- src/answer.rt:33:23
 shrink-requires : tie.Need-shrink-requires
 shrink-requires c κs = search needs
 
--- src/answer.rt:15:1
 same-length : tie.Need-same-length
 same-length c = search needs
 
--- src/answer.rt:15:1
 returns : tie.Need-returns
-returns c = ?
+returns c = helped (c .before .before .before .before .before .before .before .before .before .before .args .bytes .now) (c .before .before .before .before .before .before .before .before .before .before .args .file .now) _ _ refl (is-help (c .before .before .before .before .before .before .before .before .before .before .args .request) (c .before .before .before .before .enum-told .given .1)) (c .before .before .write-help .ensures)
 
--- src/answer.rt:15:1
 same-length-2 : tie.Need-same-length-2
 same-length-2 c = search needs
 
--- src/answer.rt:15:1
 returns-2 : tie.Need-returns-2
-returns-2 c = ?
+returns-2 c = not-known (c .before .before .before .before .before .before .before .before .before .before .args .bytes .now) (c .before .before .before .before .before .before .before .before .before .before .args .file .now) _ _ refl (is-unknown (c .before .before .before .before .before .before .before .before .before .before .args .request) (c .before .before .before .before .enum-told2 .given .1)) (c .before .before .write-unknown .ensures)
 
--- src/answer.rt:15:1
 same-length-3 : tie.Need-same-length-3
 same-length-3 c = search needs
 
--- src/answer.rt:15:1
 returns-3 : tie.Need-returns-3
-returns-3 c = ?
+returns-3 c = not-named (c .before .before .before .before .before .before .before .before .before .before .args .bytes .now) (c .before .before .before .before .before .before .before .before .before .before .args .file .now) _ _ refl (is-which (c .before .before .before .before .before .before .before .before .before .before .args .request) (c .before .before .before .before .enum-told3 .given .1)) (c .before .before .write-which .ensures)
 
--- src/answer.rt:15:1
 same-length-4 : tie.Need-same-length-4
 same-length-4 c = search needs
 
--- src/answer.rt:15:1
 same-length-5 : tie.Need-same-length-5
 same-length-5 c = search needs
 
--- src/answer.rt:15:1
 returns-4 : tie.Need-returns-4
-returns-4 c = ?
+returns-4 c = is-done _ _ (is-cut (c .before .before .before .before .before .before .before .before .before .before .before .before .before .args .request) (c .before .before .before .before .before .before .before .enum-told4 .given .1)) (c .before .before .before .before .shrink .ensures)
 
 pub obey-spec : {M : Type 1} → statement M
 obey-spec =

@@ -1,68 +1,55 @@
+use Prim.Native.Nat.{_*_}
+use lib.ListN.{length}
+use lib.Seq.{length-take-le}
+use mathlib.Core.Path.{_≡_, refl, sym}
+use Rattle.shrinking.proofs.Answering.{file-few, file-done, file-refused}
+use Rattle.request.specs.Request.{aimOf}
 use native.Mathlib.Omega.{arith}
 use borrow.Author.Needs.{needs}
 use Rattle.shrinking.proofs.job.shrink.Statement.{statement}
 use Rattle.shrinking.proofs.job.shrink.Tie as tie
-use Rattle.shrinking.proofs.job.shrink.Reads as reads
-use Rattle.shrinking.proofs.job.shrink.Lts as lts
-use Rattle.block_file.proofs.read.read_file.Reads as read-file-reads
-use Rattle.shrinking.proofs.job.refuse.Reads as refuse-reads
-use Rattle.shrinking.proofs.job.shrink_diagram.Reads as shrink-diagram-reads
 
--- src/job.rt:88:35
 slice-aggregate-read-file : tie.Need-slice-aggregate-read-file
 slice-aggregate-read-file c = search needs
 
--- src/job.rt:88:9
 read-file-requires : tie.Need-read-file-requires
 read-file-requires c κs = search needs
 
--- src/job.rt:90:23
 enum-known-stored : tie.Need-enum-known-stored
 enum-known-stored c = search needs
 
--- src/job.rt:90:57
 mul-words : tie.Need-mul-words
-mul-words c = search needs
+mul-words c = omega (arith, file-few (c .before .before .before .before .before .before .before .before .before .args .bytes .now) _ _ (c .before .before .before .before .read-file .ensures) refl (c .before .stored .given .1))
 
--- src/job.rt:90:48
 array-share-prefix-words : tie.Need-array-share-prefix-words
-array-share-prefix-words c = search needs
+array-share-prefix-words c = omega (arith, file-few (c .before .before .before .before .before .before .before .before .before .args .bytes .now) _ _ (c .before .before .before .before .read-file .ensures) refl (c .before .stored .given .1), c .before .before .before .before .read-file .kept .1 .0)
 
--- src/job.rt:90:48
 slice-aggregate-shrink-diagram : tie.Need-slice-aggregate-shrink-diagram
-slice-aggregate-shrink-diagram c = search needs
+slice-aggregate-shrink-diagram c = let h : length (c .before .before .before .before .before .read-file .last .1 .0) ≡ 360 = c .before .before .before .before .before .read-file .kept .1 .0 in sym (length-take-le (3 * c .before .before .stored .given .0 .0) (c .before .before .before .before .before .read-file .last .1 .0) (omega (arith, file-few (c .before .before .before .before .before .before .before .before .before .before .args .bytes .now) _ _ (c .before .before .before .before .before .read-file .ensures) refl (c .before .before .stored .given .1))))
 
--- src/job.rt:90:33
 shrink-diagram-requires : tie.Need-shrink-diagram-requires
 shrink-diagram-requires c κs = search needs
 
--- src/job.rt:91:27
 enum-known-stored-2 : tie.Need-enum-known-stored-2
 enum-known-stored-2 c = search needs
 
--- src/job.rt:91:46
 refuse-requires : tie.Need-refuse-requires
 refuse-requires c κs = search needs
 
--- src/job.rt:84:1
 same-length : tie.Need-same-length
 same-length c = search needs
 
--- src/job.rt:84:1
 same-length-2 : tie.Need-same-length-2
 same-length-2 c = search needs
 
--- src/job.rt:84:1
 returns : tie.Need-returns
-returns c = ?
+returns c = file-done (c .before .before .before .before .before .before .before .before .before .before .before .before .before .before .before .before .before .args .target .keep) (aimOf (c .before .before .before .before .before .before .before .before .before .before .before .before .before .before .before .before .before .args .target)) (c .before .before .before .before .before .before .before .before .before .before .before .before .before .before .before .before .before .args .bytes .now) _ _ (c .before .before .before .before .before .before .before .before .before .before .before .before .read-file .ensures) refl (c .before .before .before .before .before .before .before .before .before .stored .given .1) (c .before .before .before .before .shrink-diagram .ensures)
 
--- src/job.rt:84:1
 same-length-3 : tie.Need-same-length-3
 same-length-3 c = search needs
 
--- src/job.rt:84:1
 returns-2 : tie.Need-returns-2
-returns-2 c = ?
+returns-2 c = file-refused (c .before .before .before .before .before .before .before .before .before .before .before .before .before .args .target .keep) (aimOf (c .before .before .before .before .before .before .before .before .before .before .before .before .before .args .target)) (c .before .before .before .before .before .before .before .before .before .before .before .before .before .args .bytes .now) _ _ (c .before .before .before .before .before .before .before .before .read-file .ensures) refl (c .before .before .before .before .before .stored2 .given .1) (c .before .before .refuse .ensures)
 
 pub shrink-spec : {M : Type 1} → statement M
 shrink-spec =

@@ -2,42 +2,30 @@ use native.Mathlib.Omega.{arith}
 use borrow.Author.Needs.{needs}
 use Rattle.shrinking.proofs.wanted.shrink_words.Statement.{statement}
 use Rattle.shrinking.proofs.wanted.shrink_words.Tie as tie
-use Rattle.shrinking.proofs.wanted.shrink_words.Reads as reads
-use Rattle.shrinking.proofs.wanted.shrink_words.Lts as lts
-use Rattle.shrinking.proofs.wanted.to_count.Reads as to-count-reads
-use Rattle.shrinking.proofs.wanted.to_size.Reads as to-size-reads
 
--- src/wanted.rt:55:9
 to-count-requires : tie.Need-to-count-requires
 to-count-requires c κs = search needs
 
--- src/wanted.rt:55:9
 same-length : tie.Need-same-length
 same-length c = search needs
 
--- src/wanted.rt:55:9
 same-length-2 : tie.Need-same-length-2
 same-length-2 c = search needs
 
--- src/wanted.rt:55:9
 returns : tie.Need-returns
-returns c = ?
+returns c = rw (c .before .before .before .before .before .before .before .if1 .taken) (c .before .before .before .before .to-count .ensures)
 
--- src/wanted.rt:57:5
 to-size-requires : tie.Need-to-size-requires
 to-size-requires c κs = search needs
 
--- src/wanted.rt:45:1
 same-length-3 : tie.Need-same-length-3
 same-length-3 c = search needs
 
--- src/wanted.rt:45:1
 same-length-4 : tie.Need-same-length-4
 same-length-4 c = search needs
 
--- src/wanted.rt:45:1
 returns-2 : tie.Need-returns-2
-returns-2 c = ?
+returns-2 c = rw (c .before .before .before .before .before .before .before .if1 .left) (c .before .before .before .before .to-size .ensures)
 
 pub shrink-words-spec : {M : Type 1} → statement M
 shrink-words-spec =
