@@ -4,15 +4,15 @@ use mathlib.Core.Path.{_≡_, refl, sym, ap, _∙_}
 use mathlib.Core.Bool.{Bool, true, false, cond, _||_}
 use mathlib.Core.List.{List, [], _∷_, _++_, append-assoc, append-nil}
 use native.Mathlib.Omega.{arith}
-use lib.ListN.{length, getD, take, drop, length-append, length-take, length-drop, take-append-drop}
-use lib.Seq.{getD-drop, take-take, take-add, take-at, drop-at, drop-drop, take-all, length-take-le}
+use lib.ListN.{length, getD, take, drop, length-append, length-take, length-drop, take-append-drop, List·getD-eq-default}
+use lib.Seq.{getD-drop, getD-take, take-take, take-add, take-at, drop-at, drop-drop, take-all, length-take-le}
 use lib.Dec.{ltb, eqb}
 use borrow.Author.Tests.{eqb-true, ne-eqb, lt-ltb, le-ltb, ltb-false}
-use Rattle.diagram.specs.Diagram.{size}
+use Rattle.diagram.specs.Diagram.{varOf, size}
 use Rattle.writing.proofs.Laws.{by-le}
-use Rattle.blocks.specs.Block.{Outcome, nodes, refused, row, two, four, here, nodesIn, blockOf, blockOutcome, blockOutput}
+use Rattle.blocks.specs.Block.{Bytes, Outcome, nodes, refused, row, two, four, here, nodesIn, blockOf, blockOutcome, blockOutput}
 use Rattle.blocks.proofs.Testing.{Taken, is-taken, counted}
-use Rattle.blocks.proofs.Meaning.{Bytes, block-is, nodes-in}
+use Rattle.blocks.proofs.Meaning.{block-is, nodes-in, nodes-narrow}
 use Rattle.block_file.specs.File.{Reading, reading, endOf, after, readOn, readFile, blocksFrom, fileOf, part, blockCount}
 
 -- ---- words put in the middle of a list
@@ -47,11 +47,13 @@ module _ (out mid : List ℕ) (a h : ℕ) (fits : a + h ≤ length out) (len : l
 
 -- What reading on from a block tells, where it ends with n nodes: w is the words of all nodes.
 pub record Told (number stated : ℕ) (s out left : List ℕ) (n : ℕ) : Type 0 where
+  pub some : 0 < n
   pub stated-is : 0 < number → n ≡ stated
   pub whole : 3 * n ≤ length out
   pub same : length left ≡ length out
   pub kept : take (150 * number) left ≡ take (150 * number) out
   pub beyond : drop (3 * n) left ≡ drop (3 * n) out
+  pub narrow : (p : ℕ) → 50 * number ≤ p → varOf (take (3 * n) left) p < 65536
   pub file : drop (512 * number) s ≡ blocksFrom (take (3 * n) left) number (blockCount n - number)
 
 bytes-drop : (s : List ℕ) (k : ℕ) → Bytes s → Bytes (drop k s)
@@ -77,6 +79,18 @@ part-of left n number m h l q z =
     (λ b.
     let g : 3 * n - 150 * number ≡ m = omega (arith, z b) in
     rw g (take-all 150 (take m (drop (150 * number) left)) (simp length-take (omega arith))))
+
+-- the variables of a block's words, and past the end
+beyond-narrow : (w : List ℕ) (p : ℕ) → length w ≤ 3 * p → varOf w p < 65536
+beyond-narrow w p h = let z : varOf w p ≡ 0 = List·getD-eq-default w 0 h in omega arith
+
+block-narrow : (w mid : List ℕ) (number : ℕ) → part w number ≡ mid → ((p : ℕ) → varOf mid p < 65536) → (p : ℕ) → 50 * number ≤ p → p < 50 * suc number
+    → varOf w p < 65536
+block-narrow w mid number e small p h l =
+    let k : 150 * number + 3 * (p - 50 * number) ≡ 3 * p = omega arith in
+    let v : getD (part w number) (3 * (p - 50 * number)) 0 ≡ getD w (150 * number + 3 * (p - 50 * number)) 0 =
+    getD-take 150 (drop (150 * number) w) (3 * (p - 50 * number)) 0 (omega arith) ∙ getD-drop (150 * number) w (3 * (p - 50 * number)) 0 in
+    rw (sym k, sym v, e) (small (p - 50 * number))
 
 module _ (s out : List ℕ) (small : Bytes s) {number stated n : ℕ} (t : Taken (drop (512 * number) s) number stated (length out) n) where
   held-is : two (drop (512 * number) s) 2 ≡ here n number
@@ -109,6 +123,10 @@ module _ (s out : List ℕ) (small : Bytes s) {number stated n : ℕ} (t : Taken
       ∙ put-here out mid (150 * number) (3 * two (drop (512 * number) s) 2) (t .fits) words-in in
       let all-of : drop (512 * number) s ≡ take 512 (drop (512 * number) s) = sym (take-all 512 (drop (512 * number) s) (simp length-drop (omega arith))) in
       record {
+        some = omega (arith, held-is, some-held);
+        narrow = λ g h. by-le (50 * suc number) g
+            (λ b. beyond-narrow (take (3 * n) (put out mid (150 * number) (3 * two (drop (512 * number) s) 2) (t .fits) words-in)) g (simp length-take (omega arith)))
+            (λ b. block-narrow _ mid number u (nodes-narrow (drop (512 * number) s) (bytes-drop s (512 * number) small) 4 (two (drop (512 * number) s) 2)) g h b);
         stated-is = stated-now;
         whole = w;
         same = p;
@@ -141,6 +159,10 @@ module _ (s out : List ℕ) (small : Bytes s) {number stated n : ℕ} (t : Taken
       drop-drop 512 (512 * number) s ∙ (let k : 512 * number + 512 ≡ 512 * suc number = omega arith in rw k) in
       let this-m : take 512 (drop (512 * number) s) ≡ blockOf m number mid = this-block ∙ ap (λ (k : ℕ). blockOf k number mid) (sym e) in
       record {
+        some = omega arith;
+        narrow = λ g h. by-le (50 * suc number) g
+            (λ b. a .narrow g b)
+            (λ b. block-narrow _ mid number u (nodes-narrow (drop (512 * number) s) (bytes-drop s (512 * number) small) 4 (two (drop (512 * number) s) 2)) g h b);
         stated-is = λ h. e ∙ stated-now h;
         whole = omega (arith, a .whole);
         same = long;
@@ -192,6 +214,9 @@ pub record Stands (s out left : List ℕ) (n : ℕ) : Type 0 where
   pub file : s ≡ fileOf (take (3 * n) left)
   pub beyond : drop (3 * n) left ≡ drop (3 * n) out
   pub same : length left ≡ length out
+  pub some : 0 < n
+  pub count : size (take (3 * n) left) ≡ n
+  pub narrow : (p : ℕ) → varOf (take (3 * n) left) p < 65536
 
 pub read-is-file : (s out : List ℕ) → Bytes s → {n : ℕ} {left : List ℕ} → readFile s out ≡ reading (nodes n) left → Stands s out left n
 unfolding readFile fileOf
@@ -199,4 +224,4 @@ read-is-file s out small {n} {left} e =
     let a = told s small 3 0 0 out e in
     let z : size (take (3 * n) left) ≡ n = simp length-take (omega (arith, a .whole, a .same)) in
     let c : blockCount n - 0 ≡ blockCount n = omega arith in
-    record { file = rw z (rw c at (a .file)); beyond = a .beyond; same = a .same }
+    record { file = rw z (rw c at (a .file)); beyond = a .beyond; same = a .same; some = a .some; count = z; narrow = λ p. a .narrow p (omega arith) }

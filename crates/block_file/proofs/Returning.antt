@@ -17,7 +17,7 @@ use Rattle.blocks.proofs.Front.{block-length}
 use Rattle.blocks.proofs.Written.{Fits, held-back, words-back, taken-back}
 use Rattle.block_file.specs.File.{reading, after, readOn, readFile, blocksFrom, fileOf, part, blockCount, firstWide, writeOutcome, written, ReadsFile, WritesFile, Storable}
 use Rattle.block_file.proofs.Steps.{end-right}
-use Rattle.block_file.proofs.Storing.{part-few, file-length, is-written}
+use Rattle.block_file.proofs.Storing.{part-few, part-small, part-narrow, file-length, is-written}
 use Rattle.block_file.proofs.Reading.{put-length, both-len, put-after}
 
 -- One step of the reader, where the block due answers and leaves what is given.
@@ -29,21 +29,7 @@ step c number stated s out e f = rw (e, f)
 
 module _ (w : List ℕ) (a : Storable w) (fits : Fits w) where
   part-fits : (number : ℕ) → Fits (part w number)
-  part-fits number =
-      record {
-        small = λ k. by-le 150 k
-            (λ h. rw (none k h) (omega arith))
-            (λ h. rw (some k h) (fits .small (150 * number + k)));
-        narrow = λ p. by-le 150 (3 * p)
-            (λ h. rw (none (3 * p) h) (omega arith))
-            (λ h. let e : 150 * number + 3 * p ≡ 3 * (50 * number + p) = omega arith in rw (some (3 * p) h, e) (fits .narrow (50 * number + p)));
-      }
-    where
-      none : (k : ℕ) → 150 ≤ k → getD (part w number) k 0 ≡ 0
-      none k h = List·getD-eq-default (part w number) 0 (omega (arith, part-few w number))
-
-      some : (k : ℕ) → k < 150 → getD (part w number) k 0 ≡ getD w (150 * number + k) 0
-      some k h = getD-take 150 (drop (150 * number) w) k 0 h ∙ getD-drop (150 * number) w k 0
+  part-fits number = record { small = part-small w number (2 ^ 32) (omega arith) (fits .small); narrow = part-narrow w number (fits .narrow) }
 
   -- A block of the file, where it is due.
   module _ (number stated : ℕ) (s out : List ℕ) (more : 50 * number < size w) (same : 0 < number → stated ≡ size w) (room : length w ≤ length out)
@@ -132,15 +118,7 @@ module _ (w : List ℕ) (a : Storable w) (fits : Fits w) where
 
 -- Words that the writer does not refuse are words that fit.
 fits-of : (w : List ℕ) (lent n : ℕ) → ((k : ℕ) → getD w k 0 < 2 ^ 32) → writeOutcome w lent ≡ nodes n → Fits w
-unfolding firstWide
-fits-of w lent n small e =
-    let a = is-written w lent n e in
-    record {
-      small = small;
-      narrow = λ p. by-le (size w) p
-          (λ h. let z : varOf w p ≡ 0 = List·getD-eq-default w 0 (omega (arith, a .lengths .whole)) in omega arith)
-          (λ h. let l = ltb-false 65535 (varOf w p) (first-least (λ q. ltb 65535 (varOf w q)) 0 (size w) p (omega arith) (omega (arith, a .narrow))) in omega arith);
-    }
+fits-of w lent n small e = record { small = small; narrow = is-written w lent n e .lengths .narrow }
 
 -- What is written reads back: where the writer answers n nodes, its file is read as n nodes, into any output that they
 -- fit; the output then begins with the words that were written, and beyond them it is as it was.

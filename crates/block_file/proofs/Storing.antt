@@ -6,13 +6,13 @@ use mathlib.Core.Bool.{Bool, true, false, not}
 use mathlib.Core.List.{List, [], _++_}
 use native.Mathlib.Omega.{arith}
 use native.Mathlib.Numerals.{add-one}
-use lib.ListN.{length, take, drop, length-take, length-drop, length-append}
-use lib.Seq.{take-all}
+use lib.ListN.{length, getD, take, drop, length-take, length-drop, length-append, List·getD-eq-default}
+use lib.Seq.{take-all, getD-take, getD-drop}
 use lib.Dec.{eqb, ltb}
 use borrow.Author.Tests.{lt-ltb, le-ltb, eq-eqb, ne-eqb, ltb-false, eqb-true, eqb-false, not-false}
 use Rattle.diagram.specs.Diagram.{varOf, size}
 use Rattle.diagram.specs.Verdict.{first}
-use Rattle.diagram.proofs.Count.{Scanned, scan-start, scan-on, scan-hit, scan-end}
+use Rattle.diagram.proofs.Count.{Scanned, scan-start, scan-on, scan-hit, scan-end, first-least}
 use Rattle.writing.specs.Writing.{Wrote}
 use Rattle.writing.proofs.Laws.{wrote-fits, by-le, Still, still-begins}
 use Rattle.blocks.specs.Block.{Outcome, nodes, refused, said, row, here, blockOf, Whole}
@@ -82,6 +82,25 @@ part-is w number whole =
 pub part-few : (w : List ℕ) (number : ℕ) → length (part w number) ≤ 150
 part-few w number = omega (arith, length-take 150 (drop (150 * number) w))
 
+-- what stands at a place of a part
+part-none : (w : List ℕ) (number k : ℕ) → 150 ≤ k → getD (part w number) k 0 ≡ 0
+part-none w number k h = List·getD-eq-default (part w number) 0 (omega (arith, part-few w number))
+
+part-some : (w : List ℕ) (number k : ℕ) → k < 150 → getD (part w number) k 0 ≡ getD w (150 * number + k) 0
+part-some w number k h = getD-take 150 (drop (150 * number) w) k 0 h ∙ getD-drop (150 * number) w k 0
+
+pub part-small : (w : List ℕ) (number m : ℕ) → 0 < m → ((k : ℕ) → getD w k 0 < m) → (k : ℕ) → getD (part w number) k 0 < m
+part-small w number m pos small k =
+    by-le 150 k
+    (λ h. rw (part-none w number k h) pos)
+    (λ h. rw (part-some w number k h) (small (150 * number + k)))
+
+pub part-narrow : (w : List ℕ) (number : ℕ) → ((p : ℕ) → varOf w p < 65536) → (p : ℕ) → varOf (part w number) p < 65536
+part-narrow w number narrow p =
+    by-le 150 (3 * p)
+    (λ h. rw (part-none w number (3 * p) h) (omega arith))
+    (λ h. let e : 150 * number + 3 * p ≡ 3 * (50 * number + p) = omega arith in rw (part-some w number (3 * p) h, e) (narrow (50 * number + p)))
+
 pub blocks-next : (w : List ℕ) (number left : ℕ) → 0 < left → blocksFrom w number left ≡ blockOf (size w) number (part w number) ++ blocksFrom w (number + 1) (left - 1)
 unfolding blocksFrom
 blocks-next w number zero h = absurd (omega arith)
@@ -127,6 +146,10 @@ module _ {w : List ℕ} {p : ℕ} (a : Narrow w p) where
         let h′ : varOf w p ≤ 65535 = rw e at h in
         record { scanned = scan-on (λ q. ltb 65535 (varOf w q)) 0 p (a .scanned) (le-ltb 65535 (varOf w p) h′); within = omega arith }
 
+pub narrow-all : (w : List ℕ) → ((p : ℕ) → varOf w p < 65536) → (p : ℕ) → p ≤ size w → Narrow w p
+narrow-all w small zero h = narrow-begins w
+narrow-all w small (suc p) h = rw (sym (add-one p)) (narrow-on (narrow-all w small p (omega arith)) (omega arith) refl (omega (arith, small p)))
+
 -- ---- a block, and the blocks one after another
 
 module _ {w : List ℕ} (a : Storable w) (number : ℕ) (more : 50 * number < size w) {h : ℕ} (eh : h ≡ here (size w) number) where
@@ -138,7 +161,7 @@ module _ {w : List ℕ} (a : Storable w) (number : ℕ) (more : 50 * number < si
   pub part-whole : Whole (size w) number (take (150 * number + 3 * h - 150 * number) (drop (150 * number) w))
   part-whole =
       let l : length (take (150 * number + 3 * h - 150 * number) (drop (150 * number) w)) ≡ 3 * here (size w) number = simp (length-take, length-drop) (omega (arith, a .whole)) in
-      record { whole = omega arith; few = omega arith; counted = omega (arith, a .few); numbered = omega (arith, a .few) }
+      record { whole = omega arith; few = omega arith; narrow = rw lent-is (part-narrow w number (a .narrow)); counted = omega (arith, a .few); numbered = omega (arith, a .few) }
 
   pub wrote-part : {before left : List ℕ} {at place : ℕ} → Wrote (blockOf (size w) number (take (150 * number + 3 * h - 150 * number) (drop (150 * number) w))) before at left place
       → Wrote (blockOf (size w) number (part w number)) before at left place
@@ -166,6 +189,13 @@ unfolding row
 passed k true p o e = let z : _≡_ {A = ℕ} 0 1 = cc in absurd (omega arith)
 passed k false p o e = (refl, e)
 
+all-narrow : (w : List ℕ) → length w ≡ 3 * size w → size w ≤ firstWide w → (p : ℕ) → varOf w p < 65536
+unfolding firstWide
+all-narrow w whole h p =
+    by-le (size w) p
+    (λ l. let z : varOf w p ≡ 0 = List·getD-eq-default w 0 (omega arith) in omega arith)
+    (λ l. let n = ltb-false 65535 (varOf w p) (first-least (λ q. ltb 65535 (varOf w q)) 0 (size w) p (omega arith) (omega arith)) in omega arith)
+
 -- Words that may be written have passed every test.
 pub record Written (w : List ℕ) (lent n : ℕ) : Type 0 where
   pub lengths : Storable w
@@ -183,10 +213,11 @@ is-written w lent n e =
     let g = passed _ _ _ _ (f .1) in
     let some : length w ≡ 0 → ⊥ = eqb-false _ _ (a .0) in
     let whole : length w % 3 ≡ 0 = eqb-true _ _ (not-false _ (b .0)) in
+    let wide : size w ≤ firstWide w = ltb-false _ _ (g .0) in
     record {
-      lengths = record { whole = omega arith; some = omega arith; few = ltb-false _ _ (d .0) };
+      lengths = record { whole = omega arith; some = omega arith; few = ltb-false _ _ (d .0); narrow = all-narrow w (omega arith) wide };
       fits = ltb-false _ _ (f .0);
-      narrow = ltb-false _ _ (g .0);
+      narrow = wide;
       count = cc;
     }
 

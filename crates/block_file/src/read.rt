@@ -1,5 +1,6 @@
 // Reading a file block by block.
 use blocks::layout::BLOCK;
+use blocks::layout::MOST;
 use blocks::layout::NODES;
 use blocks::read::read_block;
 use blocks::stored::SHORT_BLOCK;
@@ -10,7 +11,7 @@ ghost use Rattle.blocks.specs.Block.{said};
 ghost use Rattle.block_file.specs.File.{endOf, ReadsFile};
 
 // The most blocks of a file.
-const MOST_BLOCKS: usize = 3;
+const MOST_BLOCKS: usize = (MOST + NODES - 1) / NODES;
 
 // After the last block no byte may stand.
 fn end_of(len: usize, number: usize, nodes: usize) -> Stored

@@ -17,7 +17,7 @@ ghost use Prim.Native.Nat.{_*_, _<_, _≤_};
 ghost use lib.ListN.{length};
 ghost use Rattle.diagram.specs.Diagram.{size};
 ghost use Rattle.writing.specs.Writing.{Wrote};
-ghost use Rattle.blocks.specs.Block.{said, blockOf};
+ghost use Rattle.blocks.specs.Block.{said, blockNodes, blockOf};
 ghost use Rattle.block_file.specs.File.{blockCount, part, fileOf, firstWide, writeOutcome, WritesFile, Storable};
 
 // The widest variable that two bytes hold.
@@ -61,7 +61,7 @@ fn test_words(words: &[u32], lent: usize) -> Stored
             place: 0,
         };
     }
-    if lent < BLOCK * ((nodes + 49) / 50) {
+    if lent < BLOCK * ((nodes + (NODES - 1)) / NODES) {
         return Stored::Refused {
             number: SHORT_OUTPUT,
             place: 0,
@@ -79,7 +79,7 @@ fn test_words(words: &[u32], lent: usize) -> Stored
 
 // The block with this number: its fifty nodes, or those that are left.
 fn put_block(file: &mut [u8], at: usize, words: &[u32], number: usize) -> usize
-    requires { ⌜ Storable (now words) × (50 * number < size (now words)) ⌝ }
+    requires { ⌜ Storable (now words) × (blockNodes * number < size (now words)) ⌝ }
     ensures { λ r. ⌜ Wrote (blockOf (size (now (words .entry))) number (part (now (words .entry)) number)) (now (file .entry)) at (now (file .exit)) r ⌝ }
 {
     let nodes = words.len() / 3;

@@ -6,6 +6,7 @@
 --     Answering  what reading the block due answers and leaves
 --     Meaning    what is read is what would be written
 --     Written    a block that is written is taken, and its nodes come back
+--     Enough     what follows a block changes nothing of its reading
 pub mod Adding
 pub mod Places
 pub mod Testing
@@ -13,3 +14,4 @@ pub mod Front
 pub mod Answering
 pub mod Meaning
 pub mod Written
+pub mod Enough

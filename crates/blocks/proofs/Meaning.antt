@@ -11,14 +11,11 @@ use lib.Dec.{eqb, ltb}
 use borrow.Author.Tests.{eqb-true}
 use Rattle.diagram.proofs.Tests.{and-both}
 use Rattle.writing.proofs.Laws.{drop-next}
-use Rattle.blocks.specs.Block.{two, four, twoBytes, fourBytes, nodeBytes, nodesBytes, nodeAt, nodesAt, nodesIn, total, weighted, front, blockOf, here, unused, sumsRight, countsRight, blockOutcome, nodes}
+use Rattle.diagram.specs.Diagram.{varOf}
+use Rattle.blocks.specs.Block.{Bytes, two, four, twoBytes, fourBytes, nodeBytes, nodesBytes, nodeAt, nodesAt, nodesIn, total, weighted, front, blockOf, here, unused, sumsRight, countsRight, blockOutcome, nodes}
 use Rattle.blocks.proofs.Testing.{Taken, is-taken, Counted, counted}
 use Rattle.blocks.proofs.Answering.{nodes-at-length}
 use Rattle.blocks.proofs.Front.{nodes-length, front-length}
-
--- Bytes are below 256.
-abbrev pub Bytes : List ℕ → Type 0
-Bytes s = (k : ℕ) → getD s k 0 < 256
 
 low-byte : (a b : ℕ) → a < 256 → (a + 256 * b) % 256 ≡ a
 low-byte a b h = omega arith
@@ -76,6 +73,13 @@ module _ (s : List ℕ) (small : Bytes s) where
       let e : at + 10 + 10 * c ≡ at + 10 * suc c = omega arith in
       split-node at (omega arith)
       ∙ ap (λ (l : List ℕ). nodesBytes (nodeAt s at) ++ l) (split-nodes (at + 10) c (omega arith) ∙ rw e)
+
+  -- Two bytes hold each variable.
+  pub nodes-narrow : (at c p : ℕ) → varOf (nodesAt s at c) p < 65536
+  unfolding nodesAt
+  nodes-narrow at zero p = omega arith
+  nodes-narrow at (suc c) zero = omega (arith, small at, small (at + 1))
+  nodes-narrow at (suc c) (suc p) = let e : 3 * suc p ≡ suc (suc (suc (3 * p))) = omega arith in rw e (nodes-narrow (at + 10) c p)
 
 -- Bytes whose sum is zero are zeros.
 no-sum : (s : List ℕ) → total s ≡ 0 → s ≡ replicate (length s) 0

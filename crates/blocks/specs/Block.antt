@@ -5,10 +5,42 @@ use mathlib.Core.Bool.{Bool, cond, not, _&&_, _||_}
 use mathlib.Core.List.{List, [], _∷_, _++_}
 use lib.ListN.{length, getD, take, drop, replicate}
 use lib.Dec.{ltb, eqb}
+use Rattle.diagram.specs.Diagram.{varOf}
 use Rattle.blocks.specs.declared.stored.Stored.{Stored}
 use Rattle.blocks.specs.declared.stored.Stored.the-variants.{Nodes, Refused}
 
--- ---- numbers, least byte first
+-- ---- the layout
+
+-- bytes of a block; nodes of a full one, and their words; the most nodes of a file
+abbrev pub blockBytes : ℕ
+blockBytes = 512
+
+abbrev pub blockNodes : ℕ
+blockNodes = 50
+
+abbrev pub blockWords : ℕ
+blockWords = 3 * blockNodes
+
+abbrev pub maxStored : ℕ
+maxStored = 120
+
+-- bytes that the sums are over; where the places for nodes begin and end, and the bytes of one
+abbrev pub summed : ℕ
+summed = 508
+
+abbrev pub places : ℕ
+places = 4
+
+abbrev pub placesEnd : ℕ
+placesEnd = 504
+
+abbrev pub placeBytes : ℕ
+placeBytes = 10
+
+-- ---- bytes, and numbers in them, least byte first
+
+abbrev pub Bytes : List ℕ → Type 0
+Bytes s = (k : ℕ) → getD s k 0 < 256
 
 -- two and four bytes of a number
 abbrev pub twoBytes : ℕ → List ℕ
@@ -52,7 +84,7 @@ front nodes number w =
     twoBytes number
     ++ twoBytes (length w / 3)
     ++ nodesBytes w
-    ++ replicate (500 - 10 * (length w / 3)) 0
+    ++ replicate (placesEnd - places - placeBytes * (length w / 3)) 0
     ++ fourBytes nodes
 
 -- 508–509 the sum, 510–511 the weighted sum, both modulo 65,536, which two bytes are
@@ -61,40 +93,36 @@ blockOf nodes number w = front nodes number w ++ twoBytes (total (front nodes nu
 
 -- every block but the last holds fifty nodes: so many does a block hold in a file of n
 abbrev pub here : ℕ → ℕ → ℕ
-here n number = min 50 (n - 50 * number)
+here n number = min blockNodes (n - blockNodes * number)
 
 -- ---- what is read
-
--- the places for nodes begin at byte 4
-abbrev pub places : ℕ
-places = 4
 
 abbrev pub nodeAt : List ℕ → ℕ → List ℕ
 nodeAt s at = two s at ∷ four s (at + 2) ∷ four s (at + 6) ∷ []
 
 unfoldable pub nodesAt : List ℕ → ℕ → ℕ → List ℕ
 nodesAt s at zero = []
-nodesAt s at (suc c) = nodeAt s at ++ nodesAt s (at + 10) c
+nodesAt s at (suc c) = nodeAt s at ++ nodesAt s (at + placeBytes) c
 
 -- the nodes in a block; its unused bytes, where it holds some number of nodes
 abbrev pub nodesIn : List ℕ → List ℕ
 nodesIn s = nodesAt s places (two s 2)
 
 abbrev pub unused : List ℕ → ℕ → List ℕ
-unused s held = take (504 - (4 + 10 * held)) (drop (4 + 10 * held) s)
+unused s held = take (placesEnd - (places + placeBytes * held)) (drop (places + placeBytes * held) s)
 
 -- both sums are what the block says
 unfoldable pub sumsRight : List ℕ → Bool
-sumsRight s = eqb (two s 508) (total (take 508 s) % 65536) && eqb (two s 510) (weighted 1 (take 508 s) % 65536)
+sumsRight s = eqb (two s summed) (total (take summed s) % 65536) && eqb (two s (summed + 2)) (weighted 1 (take summed s) % 65536)
 
 -- the block's number is the one due; a later block states the nodes that the first one stated; the block holds some
 -- nodes, as many as its number and the nodes in the file say
 unfoldable pub countsRight : ℕ → ℕ → List ℕ → Bool
 countsRight number stated s =
     eqb (two s 0) number
-    && ((eqb number 0 || eqb (four s 504) stated)
+    && ((eqb number 0 || eqb (four s placesEnd) stated)
     && (ltb 0 (two s 2)
-    && eqb (two s 2) (here (four s 504) number)))
+    && eqb (two s 2) (here (four s placesEnd) number)))
 
 -- ---- the answers
 
@@ -114,17 +142,17 @@ row number test place below = cond test (refused number place) below
 -- length of the output. The place is the number of the block due.
 unfoldable pub blockOutcome : ℕ → ℕ → List ℕ → ℕ → Outcome
 blockOutcome number stated s lent =
-    row 21 (ltb (length s) 512) number
+    row 21 (ltb (length s) blockBytes) number
     (row 22 (not (sumsRight s)) number
     (row 23 (not (countsRight number stated s)) number
-    (row 25 (ltb 120 (four s 504)) number
+    (row 25 (ltb maxStored (four s placesEnd)) number
     (row 24 (not (eqb (total (unused s (two s 2))) 0)) number
-    (row 4 (ltb lent (150 * number + 3 * two s 2)) number
-    (nodes (four s 504)))))))
+    (row 4 (ltb lent (blockWords * number + 3 * two s 2)) number
+    (nodes (four s placesEnd)))))))
 
 -- The output after the block due: its nodes at their place where the block is taken, else as it was.
 unfoldable pub blockOutput : ℕ → List ℕ → List ℕ → Outcome → List ℕ
-blockOutput number s out (nodes n) = take (150 * number) out ++ nodesIn s ++ drop (150 * number + 3 * two s 2) out
+blockOutput number s out (nodes n) = take (blockWords * number) out ++ nodesIn s ++ drop (blockWords * number + 3 * two s 2) out
 blockOutput number s out (refused k p) = out
 
 -- What reading the block due says and leaves.
@@ -135,6 +163,7 @@ pub record Reads (number stated : ℕ) (s before after : List ℕ) (r : Stored) 
 -- What may be written as one block: whole nodes, at most fifty, and numbers that fit their bytes.
 pub record Whole (nodes number : ℕ) (w : List ℕ) : Type 0 where
   pub whole : length w ≡ 3 * (length w / 3)
-  pub few : length w ≤ 150
+  pub few : length w ≤ blockWords
+  pub narrow : (p : ℕ) → varOf w p < 65536
   pub counted : nodes < 2 ^ 32
   pub numbered : number < 65536

@@ -18,7 +18,7 @@ fn byte(bytes: &[u8], at: usize) -> u32
 }
 
 // The number in two bytes.
-pub fn get_two(bytes: &[u8], at: usize) -> u32
+pub(crate) fn get_two(bytes: &[u8], at: usize) -> u32
     requires { ⌜ at < 4294967296 ⌝ }
     ensures { λ r. ⌜ (r ≡ two (now (bytes .entry)) at) × (r < 65536) ⌝ }
 {
@@ -26,7 +26,7 @@ pub fn get_two(bytes: &[u8], at: usize) -> u32
 }
 
 // The number in four bytes.
-pub fn get_four(bytes: &[u8], at: usize) -> u32
+pub(crate) fn get_four(bytes: &[u8], at: usize) -> u32
     requires { ⌜ at < 65536 ⌝ }
     ensures { λ r. ⌜ r ≡ four (now (bytes .entry)) at ⌝ }
 {
@@ -34,14 +34,14 @@ pub fn get_four(bytes: &[u8], at: usize) -> u32
 }
 
 // The two low bytes of a number.
-pub fn put_two(out: &mut [u8], at: usize, x: u32) -> usize
+pub(crate) fn put_two(out: &mut [u8], at: usize, x: u32) -> usize
     ensures { λ r. ⌜ Wrote (twoBytes x) (now (out .entry)) at (now (out .exit)) r ⌝ }
 {
     let next = put(out, at, (x % 256) as u8);
     put(out, next, (x / 256 % 256) as u8)
 }
 
-pub fn put_four(out: &mut [u8], at: usize, x: u32) -> usize
+pub(crate) fn put_four(out: &mut [u8], at: usize, x: u32) -> usize
     ensures { λ r. ⌜ Wrote (fourBytes x) (now (out .entry)) at (now (out .exit)) r ⌝ }
 {
     let next = put_two(out, at, x);

@@ -16,7 +16,7 @@ pub const PLACE: usize = 10;
 // Nodes of a full block, and its words.
 pub const NODES: usize = 50;
 
-pub const WORDS: usize = 150;
+pub const WORDS: usize = 3 * NODES;
 
 // The most nodes of a file.
 pub const MOST: usize = 120;

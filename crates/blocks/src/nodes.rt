@@ -23,7 +23,7 @@ fn get_node(block: &[u8], from: usize, output: &mut [u32], at: usize) -> usize
 }
 
 // The nodes in a block's first places.
-pub fn get_nodes(block: &[u8], count: usize, output: &mut [u32], at: usize) -> usize
+pub(crate) fn get_nodes(block: &[u8], count: usize, output: &mut [u32], at: usize) -> usize
     requires { ⌜ count ≤ 50 ⌝ }
     ensures { λ r. ⌜ Wrote (nodesAt (now (block .entry)) places count) (now (output .entry)) at (now (output .exit)) r ⌝ }
 {
@@ -47,7 +47,7 @@ fn put_node(out: &mut [u8], at: usize, var: u32, low: u32, high: u32) -> usize
 }
 
 // The places of some nodes, three words each.
-pub fn put_nodes(out: &mut [u8], at: usize, words: &[u32]) -> usize
+pub(crate) fn put_nodes(out: &mut [u8], at: usize, words: &[u32]) -> usize
     ensures { λ r. ⌜ Wrote (nodesBytes (now (words .entry))) (now (out .entry)) at (now (out .exit)) r ⌝ }
 {
     let mut place = at;

@@ -27,18 +27,13 @@ ghost use Rattle.blocks.specs.Block.{total, here, two, four, unused, cou
 
 // How many nodes a block holds, by its number and the number of nodes in the file.
 pub fn nodes_here(nodes: usize, number: usize) -> usize
-    requires { ⌜ number < 65536 ⌝ }
     ensures { λ r. ⌜ r ≡ here nodes number ⌝ }
 {
-    let before = NODES * number;
-    if nodes <= before {
+    if nodes / NODES < number {
         return 0;
     }
-    if nodes - before < NODES {
-        nodes - before
-    } else {
-        NODES
-    }
+    let left = nodes - NODES * number;
+    if left < NODES { left } else { NODES }
 }
 
 // Whether a block states the number of nodes that the first block stated.
@@ -102,10 +97,12 @@ fn test_block(block: &[u8], number: usize, stated: usize, lent: usize) -> Stored
         return refused(TOO_MANY_STORED, number);
     }
     let held = get_two(block, 2) as usize;
-    if !unused_zero(block, held) {
+    let clean = unused_zero(block, held);
+    let fits = WORDS * number + 3 * held <= lent;
+    if !clean {
         return refused(UNUSED_BYTES, number);
     }
-    if lent < WORDS * number + 3 * held {
+    if !fits {
         return refused(SHORT_OUTPUT, number);
     }
     Stored::Nodes(nodes)

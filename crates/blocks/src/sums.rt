@@ -6,7 +6,7 @@ ghost use Prim.Native.Nat.{_≤_};
 ghost use lib.ListN.{length};
 ghost use Rattle.blocks.specs.Block.{total, weighted, sumsRight};
 
-pub fn sum(bytes: &[u8]) -> u32
+pub(crate) fn sum(bytes: &[u8]) -> u32
     requires { ⌜ length (now bytes) ≤ 512 ⌝ }
     ensures { λ r. ⌜ r ≡ total (now (bytes .entry)) ⌝ }
 {
@@ -20,7 +20,7 @@ pub fn sum(bytes: &[u8]) -> u32
 }
 
 // Each byte times its position, counted from one.
-pub fn weighted_sum(bytes: &[u8]) -> u32
+pub(crate) fn weighted_sum(bytes: &[u8]) -> u32
     requires { ⌜ length (now bytes) ≤ 512 ⌝ }
     ensures { λ r. ⌜ r ≡ weighted 1 (now (bytes .entry)) ⌝ }
 {
@@ -34,7 +34,7 @@ pub fn weighted_sum(bytes: &[u8]) -> u32
 }
 
 // Whether both sums of a block are what the block says.
-pub fn sums_right(block: &[u8]) -> bool
+pub(crate) fn sums_right(block: &[u8]) -> bool
     requires { ⌜ 512 ≤ length (now block) ⌝ }
     ensures { λ r. ⌜ r ≡ sumsRight (now (block .entry)) ⌝ }
 {

@@ -31,7 +31,8 @@ fn put_front(out: &mut [u8], nodes: usize, number: usize, words: &[u32]) -> usiz
     put_four(out, full, nodes as u32)
 }
 
-// The block of some nodes, three words each, in a file of `nodes`.
+// The block of some nodes, three words each, in a file of `nodes`. Variables that do not fit two bytes are not taken: what
+// is asked rules them out, and `write_file` of crates/block_file refuses them.
 pub fn write_block(file: &mut [u8], at: usize, nodes: usize, number: usize, words: &[u32]) -> usize
     requires { ⌜ Whole nodes number (now words) ⌝ }
     ensures { λ r. ⌜ Wrote (blockOf nodes number (now (words .entry))) (now (file .entry)) at (now (file .exit)) r ⌝ }

@@ -7,14 +7,14 @@ use native.Mathlib.Numerals.{add-one}
 use lib.ListN.{length}
 use Rattle.naturals.specs.Natural.{value}
 use Rattle.diagram.specs.Diagram.{varOf, size, vars}
-use Rattle.writing.specs.Writing.{Wrote}
+use Rattle.writing.specs.Writing.{bytes, Wrote}
 use Rattle.writing.proofs.Laws.{wrote-then, Still, still-begins}
 use Rattle.text.specs.Digits.{decimal, hexadecimal}
-use Rattle.report.specs.Report.{refusal, line, lines, head, varsText, nodesText, countText, nodeText, varText, weightText, feed}
+use Rattle.report.specs.Report.{refusal, line, lines, head, feed}
 
 pub wrote-head : (w a : List ℕ) {x count : ℕ} {f₀ f₁ f₂ f₃ f₄ : List ℕ} {p₀ p₁ p₂ p₃ p₄ : ℕ} → x ≡ vars w → value a ≡ count
-    → Wrote (varsText ++ decimal x) f₀ p₀ f₁ p₁ → Wrote (nodesText ++ decimal (size w)) f₁ p₁ f₂ p₂
-    → Wrote (countText ++ hexadecimal (value a)) f₂ p₂ f₃ p₃ → Wrote feed f₃ p₃ f₄ p₄
+    → Wrote (bytes "vars " ++ decimal x) f₀ p₀ f₁ p₁ → Wrote (bytes "\nnodes " ++ decimal (size w)) f₁ p₁ f₂ p₂
+    → Wrote (bytes "\ncount " ++ hexadecimal (value a)) f₂ p₂ f₃ p₃ → Wrote feed f₃ p₃ f₄ p₄
     → Wrote (head w count) f₀ p₀ f₄ p₄
 unfolding head
 wrote-head w ws ex ea a b d f =
@@ -22,8 +22,8 @@ wrote-head w ws ex ea a b d f =
     rw (ex, ea) at t
 
 pub wrote-line : (w a : List ℕ) (p : ℕ) {x weight : ℕ} {f₀ f₁ f₂ f₃ f₄ : List ℕ} {p₀ p₁ p₂ p₃ p₄ : ℕ} → x ≡ varOf w p → value a ≡ weight
-    → Wrote (nodeText ++ decimal p) f₀ p₀ f₁ p₁ → Wrote (varText ++ decimal x) f₁ p₁ f₂ p₂
-    → Wrote (weightText ++ hexadecimal (value a)) f₂ p₂ f₃ p₃ → Wrote feed f₃ p₃ f₄ p₄
+    → Wrote (bytes "node " ++ decimal p) f₀ p₀ f₁ p₁ → Wrote (bytes " var " ++ decimal x) f₁ p₁ f₂ p₂
+    → Wrote (bytes " weight " ++ hexadecimal (value a)) f₂ p₂ f₃ p₃ → Wrote feed f₃ p₃ f₄ p₄
     → Wrote (line w weight p) f₀ p₀ f₄ p₄
 unfolding line
 wrote-line w ws p ex ea a b d f =

@@ -19,7 +19,7 @@ use Rattle.text.specs.Digits.{decimalDigits, hexadecimalDigits, decimal}
 use Rattle.text.proofs.Numerals.{decimal-length, decimal-short, hexadecimal-length}
 use Rattle.writing.specs.Writing.{Wrote}
 use Rattle.writing.proofs.Laws.{wrote-length, wrote-fits, wrote-place}
-use Rattle.report.specs.Report.{refusal, line, lines, head, weighedReport, diagramReport, storedReport, reportOf}
+use Rattle.report.specs.Report.{refusedAt, refusal, line, lines, head, weighedReport, diagramReport, storedReport, reportOf}
 
 -- What is weighed was accepted, so its numbers are small: variables are at most 255 and nodes at most 4,096.
 checked : (w : List ℕ) (a b : Outcome) {n v : ℕ} → verdictOf w (Weights 960) 7680 ≡ a → andThen a b ≡ accepted n v → Accepted w
@@ -32,7 +32,7 @@ weighed-accepted w e = checked w (verdictOf w (Weights 960) 7680) _ refl e
 
 -- The lengths of the lines: three digits for a variable, four for a node, all that a number may have for a count and for what refuses.
 refusal-length : (number place : ℕ) → length (refusal number place) ≤ 13 + 2 * decimalDigits
-unfolding refusal
+unfolding refusedAt
 refusal-length number place = simp length-append (omega (arith, decimal-length number, decimal-length place))
 
 module _ (w : List ℕ) (a : Accepted w) where

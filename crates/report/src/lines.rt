@@ -10,10 +10,11 @@ ghost use mathlib.Core.Path.{_≡_};
 ghost use mathlib.Core.List.{_++_};
 ghost use Prim.Native.Nat.{_≤_, _<_};
 ghost use Rattle.naturals.specs.Natural.{value};
+ghost use Rattle.diagram.specs.Limits.{maxNodes};
 ghost use Rattle.diagram.specs.Diagram.{size};
 ghost use Rattle.writing.specs.Writing.{Wrote};
 ghost use Rattle.text.specs.Digits.{decimal, hexadecimal};
-ghost use Rattle.report.specs.Report.{weightIn, refusal, line, lines, head};
+ghost use Rattle.report.specs.Report.{weightIn, refusedAt, refusal, line, lines, head};
 
 // A label and a number after it.
 pub fn write_number(out: &mut [u8], at: usize, label: &[u8], x: u64) -> usize
@@ -23,23 +24,29 @@ pub fn write_number(out: &mut [u8], at: usize, label: &[u8], x: u64) -> usize
     write_decimal(out, next, x)
 }
 
-pub fn write_count(out: &mut [u8], at: usize, label: &[u8], a: Natural) -> usize
+pub(crate) fn write_count(out: &mut [u8], at: usize, label: &[u8], a: Natural) -> usize
     ensures { λ r. ⌜ Wrote (now (label .entry) ++ hexadecimal (value (a .words))) (now (out .entry)) at (now (out .exit)) r ⌝ }
 {
     let next = write(out, at, label);
     write_hexadecimal(out, next, a)
 }
 
-// `refused 12 at 4`
-pub fn write_refusal(out: &mut [u8], number: u32, place: usize) -> usize
-    ensures { λ r. ⌜ Wrote (refusal number place) (now (out .entry)) 0 (now (out .exit)) r ⌝ }
+// `refused 12 at 4`, without the line feed
+pub fn write_refused(out: &mut [u8], number: u32, place: usize) -> usize
+    ensures { λ r. ⌜ Wrote (refusedAt number place) (now (out .entry)) 0 (now (out .exit)) r ⌝ }
 {
     let first = write_number(out, 0, b"refused ", number as u64);
-    let second = write_number(out, first, b" at ", place as u64);
-    put(out, second, 10)
+    write_number(out, first, b" at ", place as u64)
 }
 
-// The weight of a node, eight words for each.
+pub(crate) fn write_refusal(out: &mut [u8], number: u32, place: usize) -> usize
+    ensures { λ r. ⌜ Wrote (refusal number place) (now (out .entry)) 0 (now (out .exit)) r ⌝ }
+{
+    let next = write_refused(out, number, place);
+    put(out, next, 10)
+}
+
+// The weight of a node in a table of weights.
 fn weight_of(weights: &[u32], node: usize) -> Natural
     requires { ⌜ node < 65536 ⌝ }
     ensures { λ r. ⌜ value (r .words) ≡ weightIn (now (weights .entry)) node ⌝ }
@@ -70,7 +77,7 @@ fn write_node(out: &mut [u8], at: usize, words: &[u32], weights: &[u32], node: u
 }
 
 fn write_nodes(out: &mut [u8], at: usize, words: &[u32], weights: &[u32]) -> usize
-    requires { ⌜ size (now words) ≤ 4096 ⌝ }
+    requires { ⌜ size (now words) ≤ maxNodes ⌝ }
     ensures { λ r. ⌜ Wrote (lines (now (words .entry)) (weightIn (now (weights .entry))) 0 (size (now (words .entry)))) (now (out .entry)) at (now (out .exit)) r ⌝ }
 {
     let nodes = words.len() / 3;
@@ -84,8 +91,8 @@ fn write_nodes(out: &mut [u8], at: usize, words: &[u32], weights: &[u32]) -> usi
 }
 
 // The whole report of a diagram and its weights.
-pub fn write_lines(out: &mut [u8], words: &[u32], weights: &[u32]) -> usize
-    requires { ⌜ size (now words) ≤ 4096 ⌝ }
+pub(crate) fn write_lines(out: &mut [u8], words: &[u32], weights: &[u32]) -> usize
+    requires { ⌜ size (now words) ≤ maxNodes ⌝ }
     ensures { λ r. ⌜ Wrote (head (now (words .entry)) (weightIn (now (weights .entry)) 1) ++ lines (now (words .entry)) (weightIn (now (weights .entry))) 0 (size (now (words .entry)))) (now (out .entry)) 0 (now (out .exit)) r ⌝ }
 {
     let next = write_head(out, words, weights);

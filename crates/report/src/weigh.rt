@@ -2,7 +2,9 @@
 use crate::lines::write_lines;
 use crate::lines::write_refusal;
 use block_file::read::read_file;
+use blocks::layout::MOST;
 use blocks::stored::Stored;
+use diagram::limits::ROOM_PER_NODE;
 use diagram::verdict::Verdict;
 use weights::node_valuation_weights;
 ghost use Prim.Native.Nat.{_*_, _≤_};
@@ -10,12 +12,12 @@ ghost use lib.ListN.{length};
 ghost use Rattle.writing.specs.Writing.{Wrote};
 ghost use Rattle.report.specs.Report.{reportOf, diagramReport};
 
-// Words of the 120 nodes that a file may have, of their weights, and of the room to weigh them.
-const WORDS: usize = 360;
+// Words of the most nodes that a file may have, of their weights, and of the room to weigh them.
+const WORDS: usize = 3 * MOST;
 
-const WEIGHTS: usize = 960;
+const WEIGHTS: usize = naturals::WORDS * MOST;
 
-const ROOM: usize = 7680;
+const ROOM: usize = ROOM_PER_NODE * MOST;
 
 // The report of a diagram, or its refusal.
 pub fn report_diagram(out: &mut [u8], words: &[u32]) -> usize

@@ -1,33 +1,98 @@
--- A request from its parts.
+-- A request from its words.
 use Prim.Native.Nat.{ℕ, _^_}
-use mathlib.Core.Path.{_≡_, refl, sym, ap, ap₂, _∙_}
-use mathlib.Core.Bool.{Bool, true, false, cond, _&&_, _||_}
+use mathlib.Core.Path.{_≡_, refl, sym, ap, _∙_}
+use mathlib.Core.Bool.{Bool, true, false, cond}
 use mathlib.Core.List.{List}
+use mathlib.Core.Logic.{_≢_}
+use borrow.Author.Tests.{eq-eqb, ne-eqb}
 use Rattle.naturals.specs.Natural.{value, limit, Answers, Holds}
 use Rattle.naturals.specs.declared.Fit.{Fit}
+use Rattle.writing.specs.Writing.{bytes}
 use Rattle.text.specs.Digits.{Reading, number, none, parsed, isNumber, numberOf, Parses}
-use Rattle.request.specs.Request.{alike, keepText, suppressText, sizeText, countText, Asks}
+use Rattle.request.specs.Request.{alike, Aim, nodes, cases, Meaning, help, unknown, which, cut, ifNumber, aimed, requestOf, aimOf, meant}
+use Rattle.request.specs.declared.Asked.the-variants.{Help, Unknown, Which, Cut}
+use Rattle.request.specs.declared.Request.{Request}
 
-number-anyway : (r : Reading) → cond (isNumber r) (numberOf r) 0 ≡ numberOf r
-number-anyway (number n) = refl
-number-anyway none = refl
+-- ---- what is asked
 
-module _ (d k n : List ℕ) {known keep counted sized in-size in-count target valid number-valid : Bool} {size : ℕ} {fit : Fit}
-    (a : known ≡ (alike d keepText || alike d suppressText)) (b : keep ≡ alike d keepText)
-    (e : counted ≡ alike k countText) (f : sized ≡ alike k sizeText)
-    (g : Parses (parsed 10 (2 ^ 32) n) number-valid size)
-    (h : Answers (isNumber (parsed 16 limit n)) (numberOf (parsed 16 limit n)) fit)
-    (i : in-size ≡ (sized && number-valid)) (j : in-count ≡ (counted && fit .fits))
-    (l : target ≡ (in-size || in-count)) (m : valid ≡ (known && target)) where
-  and : {x y u v : Bool} → x ≡ u → y ≡ v → (x && y) ≡ (u && v)
-  and p q = ap₂ (λ (x : Bool) (y : Bool). x && y) p q
+pub is-help : (r : Request) → r .asked ≡ Help → meant r ≡ help
+is-help r e = rw e
 
-  pub asked : Asks d k n valid keep counted size (value (fit .natural .words))
-  asked =
-      record {
-        accepts = m ∙ and a (l ∙ ap₂ (λ (x : Bool) (y : Bool). x || y) (i ∙ and f (g .said)) (j ∙ and e (h .said)));
-        keeps = b;
-        counts = e;
-        to-size = g .worth;
-        to-count = h .holds .worth ∙ number-anyway (parsed 16 limit n);
-      }
+pub is-unknown : (r : Request) → r .asked ≡ Unknown → meant r ≡ unknown
+is-unknown r e = rw e
+
+pub is-which : (r : Request) → r .asked ≡ Which → meant r ≡ which
+is-which r e = rw e
+
+pub is-cut : (r : Request) → r .asked ≡ Cut → meant r ≡ cut (r .target .keep) (aimOf (r .target))
+is-cut r e = rw e
+
+-- ---- a number that was read, or none
+
+if-is : (keep : Bool) (aim : ℕ → Aim) (r : Reading) → cond (isNumber r) (cut keep (aim (cond (isNumber r) (numberOf r) 0))) unknown ≡ ifNumber keep aim r
+if-is keep aim (number n) = refl
+if-is keep aim none = refl
+
+parsed-is : (keep : Bool) (r : Reading) {valid : Bool} {n : ℕ} → Parses r valid n → cond valid (cut keep (nodes n)) unknown ≡ ifNumber keep nodes r
+parsed-is keep (number n) p = rw (p .said, p .worth)
+parsed-is keep none p = rw (p .said)
+
+pub if-parsed : (keep : Bool) (text : List ℕ) {valid : Bool} {n : ℕ} → Parses (parsed 10 (2 ^ 32) text) valid n
+    → cond valid (cut keep (nodes n)) unknown ≡ ifNumber keep nodes (parsed 10 (2 ^ 32) text)
+if-parsed keep text p = parsed-is keep (parsed 10 (2 ^ 32) text) p
+
+pub if-answered : (keep : Bool) (base : ℕ) (text : List ℕ) (fit : Fit) → Answers (isNumber (parsed base limit text)) (numberOf (parsed base limit text)) fit
+    → cond (fit .fits) (cut keep (cases (value (fit .natural .words)))) unknown ≡ ifNumber keep cases (parsed base limit text)
+if-answered keep base text fit a = rw (a .said, a .holds .worth) (if-is keep cases (parsed base limit text))
+
+-- ---- the second word
+
+module _ (keep : Bool) (k n : List ℕ) {a : Bool} (ea : a ≡ alike k (bytes "size")) where
+  pub aims-size : {m : Meaning} → a ≡ true → m ≡ ifNumber keep nodes (parsed 10 (2 ^ 32) n) → m ≡ aimed keep k n
+  unfolding aimed
+  aims-size f e = rw (sym ea, f) e
+
+  module _ (fa : a ≡ false) {b : Bool} (eb : b ≡ alike k (bytes "cases")) where
+    pub aims-cases : {m : Meaning} → b ≡ true → m ≡ ifNumber keep cases (parsed 10 limit n) → m ≡ aimed keep k n
+    unfolding aimed
+    aims-cases f e = rw (sym ea, fa, sym eb, f) e
+
+    module _ (fb : b ≡ false) {d : Bool} (ed : d ≡ alike k (bytes "hex")) where
+      pub aims-hex : {m : Meaning} → d ≡ true → m ≡ ifNumber keep cases (parsed 16 limit n) → m ≡ aimed keep k n
+      unfolding aimed
+      aims-hex f e = rw (sym ea, fa, sym eb, fb, sym ed, f) e
+
+      module _ (fd : d ≡ false) {g : Bool} (eg : g ≡ alike k (bytes "count")) {m : Meaning} where
+        pub aims-which : g ≡ true → m ≡ which → m ≡ aimed keep k n
+        unfolding aimed
+        aims-which f e = rw (sym ea, fa, sym eb, fb, sym ed, fd, sym eg, f) e
+
+        pub aims-none : g ≡ false → m ≡ unknown → m ≡ aimed keep k n
+        unfolding aimed
+        aims-none f e = rw (sym ea, fa, sym eb, fb, sym ed, fd, sym eg, f) e
+
+-- ---- how many words, and the first
+
+module _ (count : ℕ) (d k n : List ℕ) {m : Meaning} where
+  pub asks-help : count ≡ 0 → m ≡ help → m ≡ requestOf count d k n
+  unfolding requestOf
+  asks-help h e = rw (eq-eqb count 0 h) e
+
+  module _ (some : count ≢ 0) where
+    pub asks-others : count ≢ 3 → m ≡ unknown → m ≡ requestOf count d k n
+    unfolding requestOf
+    asks-others h e = rw (ne-eqb count 0 some, ne-eqb count 3 h) e
+
+    module _ (three : count ≡ 3) {a : Bool} (ea : a ≡ alike d (bytes "keep")) where
+      pub asks-keep : a ≡ true → m ≡ aimed true k n → m ≡ requestOf count d k n
+      unfolding requestOf
+      asks-keep f e = rw (ne-eqb count 0 some, eq-eqb count 3 three, sym ea, f) e
+
+      module _ (fa : a ≡ false) {b : Bool} (eb : b ≡ alike d (bytes "suppress")) where
+        pub asks-suppress : b ≡ true → m ≡ aimed false k n → m ≡ requestOf count d k n
+        unfolding requestOf
+        asks-suppress f e = rw (ne-eqb count 0 some, eq-eqb count 3 three, sym ea, fa, sym eb, f) e
+
+        pub asks-none : b ≡ false → m ≡ unknown → m ≡ requestOf count d k n
+        unfolding requestOf
+        asks-none f e = rw (ne-eqb count 0 some, eq-eqb count 3 three, sym ea, fa, sym eb, f) e

@@ -1,5 +1,5 @@
 -- Laws that belong to no one function.
 --     Alike   words compared byte by byte
---     Asking  a request from its parts
+--     Asking  a request from its words
 pub mod Alike
 pub mod Asking

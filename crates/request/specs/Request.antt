@@ -1,27 +1,15 @@
 -- The words of a request: which are taken, and what they mean. Words are lists of bytes.
 use Prim.Native.Nat.{ℕ, _^_}
-use mathlib.Core.Path.{_≡_}
-use mathlib.Core.Bool.{Bool, true, false, _&&_, _||_}
+use mathlib.Core.Bool.{Bool, true, false, cond, not, _&&_}
 use mathlib.Core.List.{List, [], _∷_}
 use lib.Dec.{eqb}
-use Rattle.naturals.specs.Natural.{limit}
-use Rattle.text.specs.Digits.{parsed, isNumber, numberOf}
-
--- "keep"
-abbrev pub keepText : List ℕ
-keepText = 107 ∷ 101 ∷ 101 ∷ 112 ∷ []
-
--- "suppress"
-abbrev pub suppressText : List ℕ
-suppressText = 115 ∷ 117 ∷ 112 ∷ 112 ∷ 114 ∷ 101 ∷ 115 ∷ 115 ∷ []
-
--- "size"
-abbrev pub sizeText : List ℕ
-sizeText = 115 ∷ 105 ∷ 122 ∷ 101 ∷ []
-
--- "count"
-abbrev pub countText : List ℕ
-countText = 99 ∷ 111 ∷ 117 ∷ 110 ∷ 116 ∷ []
+use Rattle.naturals.specs.Natural.{value, limit}
+use Rattle.writing.specs.Writing.{bytes}
+use Rattle.text.specs.Digits.{Reading, number, none, parsed}
+use Rattle.request.specs.declared.Asked.{Asked}
+use Rattle.request.specs.declared.Asked.the-variants.{Help, Unknown, Which, Cut}
+use Rattle.request.specs.declared.Target.{Target}
+use Rattle.request.specs.declared.Request.{Request}
 
 -- Equal byte by byte (`alike-same` and `same-alike` of proofs/Alike.antt).
 unfoldable pub alike : List ℕ → List ℕ → Bool
@@ -30,12 +18,50 @@ alike [] (y ∷ ys) = false
 alike (x ∷ xs) [] = false
 alike (x ∷ xs) (y ∷ ys) = eqb x y && alike xs ys
 
--- What a request answers. It is valid for one of two words, one of two kinds and a number of that kind: a size in decimal,
--- a count in hexadecimal. `keep` is true for that word alone. Both numbers are there, 0 where the text is none.
-pub record Asks (direction kind number : List ℕ) (valid keep counted : Bool) (size count : ℕ) : Type 0 where
-  pub accepts : valid ≡ ((alike direction keepText || alike direction suppressText)
-      && ((alike kind sizeText && isNumber (parsed 10 (2 ^ 32) number)) || (alike kind countText && isNumber (parsed 16 limit number))))
-  pub keeps : keep ≡ alike direction keepText
-  pub counts : counted ≡ alike kind countText
-  pub to-size : size ≡ numberOf (parsed 10 (2 ^ 32) number)
-  pub to-count : count ≡ numberOf (parsed 16 limit number)
+-- What to cut to: a number of nodes, or a number of cases (of valuations for which the condition holds).
+pub data Aim : Type 0 where
+  nodes : ℕ → Aim
+  cases : ℕ → Aim
+
+-- What words mean: help; words that are not taken; `count`, which does not name its base; or a cut, `true` for keep.
+pub data Meaning : Type 0 where
+  help : Meaning
+  unknown : Meaning
+  which : Meaning
+  cut : Bool → Aim → Meaning
+
+abbrev pub ifNumber : Bool → (ℕ → Aim) → Reading → Meaning
+ifNumber keep aim (number n) = cut keep (aim n)
+ifNumber keep aim none = unknown
+
+-- By the second word and the third: `size` and `cases` are decimal, `hex` is in lower-case hexadecimal.
+unfoldable pub aimed : Bool → List ℕ → List ℕ → Meaning
+aimed keep kind text =
+    cond (alike kind (bytes "size")) (ifNumber keep nodes (parsed 10 (2 ^ 32) text))
+    (cond (alike kind (bytes "cases")) (ifNumber keep cases (parsed 10 limit text))
+    (cond (alike kind (bytes "hex")) (ifNumber keep cases (parsed 16 limit text))
+    (cond (alike kind (bytes "count")) which
+    unknown)))
+
+-- By how many words there are, and the three words where there are three.
+unfoldable pub requestOf : ℕ → List ℕ → List ℕ → List ℕ → Meaning
+requestOf count direction kind text =
+    cond (eqb count 0) help
+    (cond (not (eqb count 3)) unknown
+    (cond (alike direction (bytes "keep")) (aimed true kind text)
+    (cond (alike direction (bytes "suppress")) (aimed false kind text)
+    unknown)))
+
+-- ---- the same as the code has it
+
+abbrev pub aimOf : Target → Aim
+aimOf t = cond (t .counted) (cases (value (t .count .words))) (nodes (t .size))
+
+abbrev pub comes : Asked → Target → Meaning
+comes Help t = help
+comes Unknown t = unknown
+comes Which t = which
+comes Cut t = cut (t .keep) (aimOf t)
+
+abbrev pub meant : Request → Meaning
+meant r = comes (r .asked) (r .target)

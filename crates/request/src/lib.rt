@@ -1,41 +1,124 @@
-// The words of a request to shrink: `keep` or `suppress`, `size` or `count`, and a number.
+// The words of a request to shrink: `keep` or `suppress`; `size`, `cases` or `hex`; and a number.
 pub mod words;
 
+use naturals::Fit;
 use naturals::Natural;
+use naturals::zero;
+use text::parse::Number;
 use text::parse::parse_decimal;
 use text::parse::parse_hexadecimal;
-use words::both;
-use words::either;
-use words::one_of;
+use text::parse::parse_natural;
 use words::same;
+ghost use mathlib.Core.Path.{_≡_};
+ghost use mathlib.Core.Bool.{cond};
 ghost use Rattle.naturals.specs.Natural.{value};
-ghost use Rattle.request.specs.Request.{Asks};
+ghost use Rattle.request.specs.Request.{nodes, cases, unknown, cut, meant, aimed, requestOf};
 
-// There is no field that says to underapproximate or to overapproximate: `keep` decides it.
-pub struct Request {
-    pub valid: bool,
+// What the words come to. `Which` is for the word `count`, which does not say whether its number is decimal.
+pub enum Asked {
+    Help,
+    Unknown,
+    Which,
+    Cut,
+}
+
+// What to cut to: a number of cases where `counted`, else a number of nodes. There is no field that says to
+// underapproximate or to overapproximate: `keep` decides it.
+pub struct Target {
     pub keep: bool,
     pub counted: bool,
     pub size: u32,
     pub count: Natural,
 }
 
-pub fn ask(direction: &[u8], kind: &[u8], number: &[u8]) -> Request
-    ensures { λ r. ⌜ Asks (now (direction .entry)) (now (kind .entry)) (now (number .entry)) (r .valid) (r .keep) (r .counted) (r .size) (value (r .count .words)) ⌝ }
+pub struct Request {
+    pub asked: Asked,
+    pub target: Target,
+}
+
+fn no_cut(asked: Asked) -> Request
+    ensures { λ r. ⌜ r .asked ≡ asked ⌝ }
 {
-    let known = one_of(direction, b"keep", b"suppress");
-    let keep = same(direction, b"keep");
-    let by_count = same(kind, b"count");
-    let by_size = same(kind, b"size");
-    let size = parse_decimal(number);
-    let count = parse_hexadecimal(number);
-    let natural = count.natural;
-    let target = either(both(by_size, size.valid), both(by_count, count.fits));
-    Request {
-        valid: both(known, target),
-        keep,
-        counted: by_count,
-        size: size.value,
-        count: natural,
+    let target = Target {
+        keep: false,
+        counted: false,
+        size: 0,
+        count: zero(),
+    };
+    Request { asked, target }
+}
+
+fn by_size(keep: bool, read: Number) -> Request
+    ensures { λ r. ⌜ meant r ≡ cond (read .valid) (cut keep (nodes (read .value))) unknown ⌝ }
+{
+    if !read.valid {
+        return no_cut(Asked::Unknown);
     }
+    let target = Target {
+        keep,
+        counted: false,
+        size: read.value,
+        count: zero(),
+    };
+    Request {
+        asked: Asked::Cut,
+        target,
+    }
+}
+
+fn by_count(keep: bool, read: Fit) -> Request
+    ensures { λ r. ⌜ meant r ≡ cond (read .fits) (cut keep (cases (value (read .natural .words)))) unknown ⌝ }
+{
+    if !read.fits {
+        return no_cut(Asked::Unknown);
+    }
+    let count = read.natural;
+    let target = Target {
+        keep,
+        counted: true,
+        size: 0,
+        count,
+    };
+    Request {
+        asked: Asked::Cut,
+        target,
+    }
+}
+
+// The second word says what the third counts, and in which base.
+fn aim(keep: bool, kind: &[u8], number: &[u8]) -> Request
+    ensures { λ r. ⌜ meant r ≡ aimed keep (now (kind .entry)) (now (number .entry)) ⌝ }
+{
+    if same(kind, b"size") {
+        return by_size(keep, parse_decimal(number));
+    }
+    if same(kind, b"cases") {
+        return by_count(keep, parse_natural(number));
+    }
+    if same(kind, b"hex") {
+        return by_count(keep, parse_hexadecimal(number));
+    }
+    if same(kind, b"count") {
+        return no_cut(Asked::Which);
+    }
+    no_cut(Asked::Unknown)
+}
+
+// `count` is how many words there are.
+pub fn ask(count: usize, direction: &[u8], kind: &[u8], number: &[u8]) -> Request
+    ensures { λ r. ⌜ meant r ≡ requestOf count (now (direction .entry)) (now (kind .entry)) (now (number .entry)) ⌝ }
+{
+    if count == 0 {
+        return no_cut(Asked::Help);
+    }
+    if count != 3 {
+        return no_cut(Asked::Unknown);
+    }
+    if same(direction, b"keep") {
+        return aim(true, kind, number);
+    }
+    if same(direction, b"suppress") {
+        return aim(false, kind, number);
+    }
+    no_cut(Asked::Unknown)
 }

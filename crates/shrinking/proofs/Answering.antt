@@ -1,5 +1,5 @@
 -- What is done with a file.
-use Prim.Native.Nat.{ℕ, _+_, _*_, _/_, _≤_}
+use Prim.Native.Nat.{ℕ, _+_, _-_, _*_, _/_, _≤_}
 use mathlib.Core.Path.{_≡_, refl, sym, ap, _∙_}
 use mathlib.Core.Bool.{Bool}
 use mathlib.Core.List.{List, [], _++_}
@@ -18,16 +18,16 @@ use Rattle.block_file.specs.File.{Reading, reading, readFile, ReadsFile, Writes
 use Rattle.block_file.proofs.Steps.{read-few}
 use Rattle.block_file.proofs.Storing.{file-length, is-written}
 use Rattle.writing.specs.Writing.{Wrote}
-use Rattle.report.specs.Report.{refusal}
-use Rattle.request.specs.declared.Request.{Request}
-use Rattle.shrinking.specs.Shrinking.{Done, shrunk, refused, ifStored, storing, wanted, wantedVerdict, diagramDone, done, cutText, Shrinks}
+use Rattle.messages.specs.Texts.{helpText, unknownText, whichText, refusalText}
+use Rattle.request.specs.Request.{Aim, Meaning, help, unknown, which, cut}
+use Rattle.shrinking.specs.Shrinking.{Done, shrunk, refused, ifStored, storing, wanted, wantedVerdict, diagramDone, done, summary, Shrinks}
 use Rattle.shrinking.proofs.Wanting.{admitted, answer-accepted}
 
 -- ---- the answer
 
-module _ (w a : List ℕ) (trials : ℕ) (file left : List ℕ) {r : Stored} (h : WritesFile a file left r) where
-  pub store-refused : {keep : Bool} {k p : ℕ} {text text′ : List ℕ} {end text-end : ℕ} → r ≡ Unread k p → (end ≡ 0) × Wrote (refusal k p) text 0 text′ text-end
-      → Shrinks keep (storing w a trials (length file)) file left text text′ end text-end
+module _ (keep : Bool) (aim : Aim) (w a : List ℕ) (trials : ℕ) (file left : List ℕ) {r : Stored} (h : WritesFile a file left r) where
+  pub store-refused : {k p : ℕ} {text text′ : List ℕ} {end text-end : ℕ} → r ≡ Unread k p → (end ≡ 0) × Wrote (refusalText k p) text 0 text′ text-end
+      → Shrinks (storing keep aim w a trials (length file)) file left text text′ end text-end
   unfolding storing written
   store-refused {k = k} {p = p} e t =
       let o : writeOutcome a (length file) ≡ unread k p = sym (h .answer) ∙ ap told e in
@@ -41,81 +41,103 @@ module _ (w a : List ℕ) (trials : ℕ) (file left : List ℕ) {r : Stored} (h 
     pub store-few : n ≤ 120
     store-few = let i = is-written a (length file) n outcome-is in omega (arith, i .lengths .few, i .count)
 
-    pub store-done : {keep : Bool} {text text′ : List ℕ} {text-end : ℕ} → Wrote (cutText keep w a trials) text 0 text′ text-end
-        → Shrinks keep (storing w a trials (length file)) file left text text′ (512 * ((n + 49) / 50)) text-end
+    pub store-done : {text text′ : List ℕ} {text-end : ℕ} → Wrote (summary keep aim w a trials) text 0 text′ text-end
+        → Shrinks (storing keep aim w a trials (length file)) file left text text′ (512 * ((n + (50 - 1)) / 50)) text-end
     unfolding storing written
     store-done t =
         let l : left ≡ fileOf a ++ drop (length (fileOf a)) file = rw outcome-is at (h .leaves) in
-        let s : 512 * ((n + 49) / 50) ≡ length (fileOf a) = omega (arith, file-length a, is-written a (length file) n outcome-is .count) in
+        let s : 512 * ((n + (50 - 1)) / 50) ≡ length (fileOf a) = omega (arith, file-length a, is-written a (length file) n outcome-is .count) in
         rw outcome-is (record { stored = l; stored-end = s; told = t })
 
 -- ---- the diagram
 
-module _ (q : Request) (w out out′ room room′ : List ℕ) {r : Verdict} {k trials : ℕ}
-    (m : Meets (wantedVerdict q w (length out) (length room)) (wanted q w) w room room′ out out′ r k trials)
+module _ (keep : Bool) (aim : Aim) (w out out′ room room′ : List ℕ) {r : Verdict} {k trials : ℕ}
+    (m : Meets (wantedVerdict keep aim w (length out) (length room)) (wanted keep aim w) w room room′ out out′ r k trials)
     (lent : length out ≡ 360) (roomy : length room ≡ 7680) where
-  verdict-is : said r ≡ wantedVerdict q w 360 7680
+  verdict-is : said r ≡ wantedVerdict keep aim w 360 7680
   verdict-is = rw (lent, roomy) at (m .verdict)
 
-  pub diagram-refused : {n p : ℕ} {file text text′ : List ℕ} {end text-end : ℕ} → r ≡ No n p → (end ≡ 0) × Wrote (refusal n p) text 0 text′ text-end
-      → Shrinks (q .keep) (diagramDone q w (length file)) file file text text′ end text-end
+  pub diagram-refused : {n p : ℕ} {file text text′ : List ℕ} {end text-end : ℕ} → r ≡ No n p → (end ≡ 0) × Wrote (refusalText n p) text 0 text′ text-end
+      → Shrinks (diagramDone keep aim w (length file)) file file text text′ end text-end
   unfolding diagramDone
   diagram-refused e t = rw (sym verdict-is, e) (record { stored = refl; stored-end = t .0; told = t .1 })
 
   module _ {n v : ℕ} (e : r ≡ Yes n v) (same : length out′ ≡ 360) where
-    accepted-is : wantedVerdict q w (length out) (length room) ≡ accepted n v
+    accepted-is : wantedVerdict keep aim w (length out) (length room) ≡ accepted n v
     accepted-is = sym (m .verdict) ∙ ap said e
 
-    out-is : out′ ≡ wanted q w .words ++ drop (length (wanted q w .words)) out
+    out-is : out′ ≡ wanted keep aim w .words ++ drop (length (wanted keep aim w .words)) out
     out-is = rw accepted-is at (m .output)
 
-    answer : Accepted (wanted q w .words)
-    answer = answer-accepted q w (length out) (length room) accepted-is
+    answer : Accepted (wanted keep aim w .words)
+    answer = answer-accepted w (length out) (length room) keep aim accepted-is
 
-    count-is : k ≡ size (wanted q w .words)
+    count-is : k ≡ size (wanted keep aim w .words)
     count-is = rw accepted-is at (m .nodes)
 
-    trials-is : trials ≡ wanted q w .trials
+    trials-is : trials ≡ wanted keep aim w .trials
     trials-is = rw accepted-is at (m .trials)
 
-    answer-few : length (wanted q w .words) ≤ 360
+    answer-few : length (wanted keep aim w .words) ≤ 360
     answer-few =
-        let l : length (wanted q w .words ++ drop (length (wanted q w .words)) out) ≡ length (wanted q w .words) + length (drop (length (wanted q w .words)) out) = length-append (wanted q w .words) _ in
-        let o : length out′ ≡ length (wanted q w .words ++ drop (length (wanted q w .words)) out) = ap length out-is in
+        let l : length (wanted keep aim w .words ++ drop (length (wanted keep aim w .words)) out) ≡ length (wanted keep aim w .words) + length (drop (length (wanted keep aim w .words)) out) = length-append (wanted keep aim w .words) _ in
+        let o : length out′ ≡ length (wanted keep aim w .words ++ drop (length (wanted keep aim w .words)) out) = ap length out-is in
         omega arith
 
     pub answer-long : 3 * k ≤ 360
     answer-long = omega (arith, answer .formed .whole, answer-few, count-is)
 
-    words-are : take (3 * k) out′ ≡ wanted q w .words
+    words-are : take (3 * k) out′ ≡ wanted keep aim w .words
     words-are =
-        let l : 3 * k ≡ length (wanted q w .words) = omega (arith, answer .formed .whole, count-is) in
-        rw (l, out-is) (take-append-seam (wanted q w .words) _)
+        let l : 3 * k ≡ length (wanted keep aim w .words) = omega (arith, answer .formed .whole, count-is) in
+        rw (l, out-is) (take-append-seam (wanted keep aim w .words) _)
 
     pub answer-ready : Accepted w × (size w ≤ 120) × Accepted (take (3 * k) out′) × (size (take (3 * k) out′) ≤ 120)
     answer-ready =
-        let d = admitted q w (length out) (length room) accepted-is .2 in
+        let d = admitted keep aim w (length out) (length room) accepted-is .2 in
         rw words-are (d .accepted, omega (arith, d .fits), answer, omega (arith, answer .formed .whole, answer-few))
 
-    pub diagram-done : {file left text text′ : List ℕ} {end text-end : ℕ} → Shrinks (q .keep) (storing w (take (3 * k) out′) trials (length file)) file left text text′ end text-end
-        → Shrinks (q .keep) (diagramDone q w (length file)) file left text text′ end text-end
+    pub diagram-done : {file left text text′ : List ℕ} {end text-end : ℕ} → Shrinks (storing keep aim w (take (3 * k) out′) trials (length file)) file left text text′ end text-end
+        → Shrinks (diagramDone keep aim w (length file)) file left text text′ end text-end
     unfolding diagramDone
     diagram-done t = rw (sym verdict-is, e) (rw (words-are, trials-is) at t)
 
 -- ---- the file
 
-module _ (q : Request) (s blank left : List ℕ) {r : Stored} (h : ReadsFile s blank left r) (is-blank : blank ≡ replicate 360 0) where
-  pub file-refused : {k p : ℕ} {file text text′ : List ℕ} {end text-end : ℕ} → r ≡ Unread k p → (end ≡ 0) × Wrote (refusal k p) text 0 text′ text-end
-      → Shrinks (q .keep) (done q s (length file)) file file text text′ end text-end
+module _ (keep : Bool) (aim : Aim) (s blank left : List ℕ) {r : Stored} (h : ReadsFile s blank left r) (is-blank : blank ≡ replicate 360 0) where
+  pub file-refused : {k p : ℕ} {file text text′ : List ℕ} {end text-end : ℕ} → r ≡ Unread k p → (end ≡ 0) × Wrote (refusalText k p) text 0 text′ text-end
+      → Shrinks (done (cut keep aim) s (length file)) file file text text′ end text-end
   unfolding done
   file-refused e t = rw (sym is-blank, sym (h .is), e) (record { stored = refl; stored-end = t .0; told = t .1 })
 
   pub file-done : {n : ℕ} {file file′ text text′ : List ℕ} {end text-end : ℕ} → r ≡ Nodes n
-      → Shrinks (q .keep) (diagramDone q (take (3 * n) left) (length file)) file file′ text text′ end text-end
-      → Shrinks (q .keep) (done q s (length file)) file file′ text text′ end text-end
+      → Shrinks (diagramDone keep aim (take (3 * n) left) (length file)) file file′ text text′ end text-end
+      → Shrinks (done (cut keep aim) s (length file)) file file′ text text′ end text-end
   unfolding done
   file-done e t = rw (sym is-blank, sym (h .is), e) t
 
+module _ (s blank left : List ℕ) {r : Stored} (h : ReadsFile s blank left r) (is-blank : blank ≡ replicate 360 0) where
   pub file-few : {n : ℕ} → r ≡ Nodes n → n ≤ 120
   unfolding readFile
   file-few e = read-few 3 0 0 s blank (sym (rw e at (h .is)))
+
+-- ---- words that ask for no cut
+
+module _ (s file text text′ : List ℕ) {end text-end : ℕ} (none : end ≡ 0) {m : Meaning} where
+  pub helped : m ≡ help → Wrote helpText text 0 text′ text-end → Shrinks (done m s (length file)) file file text text′ end text-end
+  unfolding done
+  helped e t = rw e (record { stored = refl; stored-end = none; told = t })
+
+  pub not-known : m ≡ unknown → Wrote unknownText text 0 text′ text-end → Shrinks (done m s (length file)) file file text text′ end text-end
+  unfolding done
+  not-known e t = rw e (record { stored = refl; stored-end = none; told = t })
+
+  pub not-named : m ≡ which → Wrote whichText text 0 text′ text-end → Shrinks (done m s (length file)) file file text text′ end text-end
+  unfolding done
+  not-named e t = rw e (record { stored = refl; stored-end = none; told = t })
+
+-- ---- what the words mean
+
+pub is-done : (s : List ℕ) (lent : ℕ) {m k : Meaning} {file left text text′ : List ℕ} {end text-end : ℕ} → m ≡ k
+    → Shrinks (done k s lent) file left text text′ end text-end → Shrinks (done m s lent) file left text text′ end text-end
+is-done s lent e t = rw e t

@@ -1,12 +1,9 @@
--- Counts of diagrams that a file holds, and differences.
-use Prim.Native.Nat.{ℕ, _-_, _*_, _≤_}
+-- Counts of diagrams that a file holds.
+use Prim.Native.Nat.{ℕ, _*_, _≤_}
 use mathlib.Core.Path.{_≡_, refl}
-use mathlib.Core.Bool.{Bool, true, false, cond}
 use mathlib.Core.List.{List}
 use native.Mathlib.Omega.{arith}
 use lib.ListN.{length}
-use lib.Dec.{leb}
-use borrow.Author.Tests.{leb-false}
 use Rattle.naturals.specs.Natural.{value}
 use Rattle.diagram.specs.Diagram.{size, vars, Accepted}
 use Rattle.diagram.specs.Valuations.{countOf}
@@ -23,10 +20,3 @@ count-is w before after h l a few =
     let room : roomOf w ≤ length before = omega arith in
     let v : verdictOf w Nothing (length before) ≡ accepted (size w) (vars w) = accepted-verdict w Nothing (length before) a refl room in
     rw v at (h .counted .worth)
-
-less-by : (a b : ℕ) (t : Bool) → leb b a ≡ t → cond t (a - b) 0 ≡ a - b
-less-by a b true e = refl
-less-by a b false e = omega (arith, leb-false b a e)
-
-pub less-is : (a b : ℕ) → cond (leb b a) (a - b) 0 ≡ a - b
-less-is a b = less-by a b (leb b a) refl

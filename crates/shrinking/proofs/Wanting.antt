@@ -13,8 +13,8 @@ use Rattle.approximation.specs.Cut.{Under, Over, underCountOf, overCountOf}
 use Rattle.approximation.proofs.Listing.{under-accepted-open, over-accepted-most, over-accepted-open}
 use Rattle.approximation.proofs.Targets.{to-size-under, over-to-size-over, to-count-under, over-to-count-over}
 use Rattle.targets.specs.Targets.{sizeVerdict, underCountVerdict, overCountVerdict}
-use Rattle.request.specs.declared.Request.{Request}
-use Rattle.shrinking.specs.Shrinking.{toSize, toCount, countVerdict, wanted, wantedVerdict}
+use Rattle.request.specs.Request.{Aim, nodes, cases}
+use Rattle.shrinking.specs.Shrinking.{wanted, wantedVerdict}
 
 then-first : (x y : Outcome) {n v : ℕ} → andThen x y ≡ accepted n v → (m : ℕ) × (u : ℕ) × (x ≡ accepted m u) × (y ≡ accepted n v)
 then-first (accepted m u) y e = (m, u, refl, e)
@@ -35,52 +35,36 @@ over-is w k e = let f = row-left _ _ _ _ e in f ∙ row-left _ _ _ _ (sym f ∙ 
 
 -- ---- the check is passed
 
-count-first : (b : Bool) (w : List ℕ) (k lent room : ℕ) {n v : ℕ} → countVerdict b w k lent room ≡ accepted n v
-    → (m : ℕ) × (u : ℕ) × (verdictOf w (Diagram lent) room ≡ accepted m u)
-unfolding countVerdict
-count-first true w k lent room e = let a = then-first (verdictOf w (Diagram lent) room) _ e in (a .0, a .1, a .2)
-count-first false w k lent room e = let a = then-first (verdictOf w (Diagram lent) room) _ e in (a .0, a .1, a .2)
-
-first-by : (b : Bool) (q : Request) (w : List ℕ) (lent room : ℕ) {n v : ℕ} → q .counted ≡ b → wantedVerdict q w lent room ≡ accepted n v
+first-of : (keep : Bool) (aim : Aim) (w : List ℕ) (lent room : ℕ) {n v : ℕ} → wantedVerdict keep aim w lent room ≡ accepted n v
     → (m : ℕ) × (u : ℕ) × (verdictOf w (Diagram lent) room ≡ accepted m u)
 unfolding wantedVerdict
-first-by true q w lent room f e = count-first (q .keep) w (value (q .count .words)) lent room (rw f at e)
-first-by false q w lent room f e = (_, _, rw f at e)
+first-of keep (nodes t) w lent room e = (_, _, e)
+first-of true (cases k) w lent room e = let a = then-first (verdictOf w (Diagram lent) room) _ e in (a .0, a .1, a .2)
+first-of false (cases k) w lent room e = let a = then-first (verdictOf w (Diagram lent) room) _ e in (a .0, a .1, a .2)
 
-module _ (q : Request) (w : List ℕ) (lent room : ℕ) {n v : ℕ} (e : wantedVerdict q w lent room ≡ accepted n v) where
-  pub admitted : (m : ℕ) × (u : ℕ) × Admitted w (Diagram lent) room m u
-  admitted = let a = first-by (q .counted) q w lent room refl e in (a .0, a .1, verdict-accepted w (Diagram lent) room (a .0) (a .1) (a .2))
+pub admitted : (keep : Bool) (aim : Aim) (w : List ℕ) (lent room : ℕ) {n v : ℕ} → wantedVerdict keep aim w lent room ≡ accepted n v
+    → (m : ℕ) × (u : ℕ) × Admitted w (Diagram lent) room m u
+admitted keep aim w lent room e =
+    let a = first-of keep aim w lent room e in
+    (a .0, a .1, verdict-accepted w (Diagram lent) room (a .0) (a .1) (a .2))
 
-  diagram : Accepted w
-  diagram = admitted .2 .accepted
-
-  over-by : (b : Bool) → q .counted ≡ b → q .keep ≡ true → Over w (wanted q w .words)
-  unfolding wanted wantedVerdict toSize toCount countVerdict
-  over-by true f g =
-      let d : overCountVerdict w (value (q .count .words)) lent room ≡ accepted n v = rw (f, g) at e in
-      let h = over-is w (value (q .count .words)) (then-first (verdictOf w (Diagram lent) room) _ d .3) in
-      rw (f, g) (over-to-count-over w (value (q .count .words)) diagram (over-accepted-most w (value (q .count .words)) h) (over-accepted-open w (value (q .count .words)) h))
-  over-by false f g = rw (f, g) (over-to-size-over w (q .size) diagram)
-
-  under-by : (b : Bool) → q .counted ≡ b → q .keep ≡ false → Under w (wanted q w .words)
-  unfolding wanted wantedVerdict toSize toCount countVerdict
-  under-by true f g =
-      let d : underCountVerdict w (value (q .count .words)) lent room ≡ accepted n v = rw (f, g) at e in
-      let h = under-is w (value (q .count .words)) (then-first (verdictOf w (Diagram lent) room) _ d .3) in
-      rw (f, g) (to-count-under w (value (q .count .words)) diagram (under-accepted-open w (value (q .count .words)) h))
-  under-by false f g = rw (f, g) (to-size-under w (q .size) diagram)
-
+module _ (w : List ℕ) (lent room : ℕ) {n v : ℕ} where
   -- A keep condition holds wherever it held.
-  pub keep-over : q .keep ≡ true → Over w (wanted q w .words)
-  keep-over = over-by (q .counted) refl
+  pub keep-over : (aim : Aim) → wantedVerdict true aim w lent room ≡ accepted n v → Over w (wanted true aim w .words)
+  unfolding wanted wantedVerdict
+  keep-over (nodes t) e = over-to-size-over w t (admitted true (nodes t) w lent room e .2 .accepted)
+  keep-over (cases k) e =
+      let h = over-is w k (then-first (verdictOf w (Diagram lent) room) _ e .3) in
+      over-to-count-over w k (admitted true (cases k) w lent room e .2 .accepted) (over-accepted-most w k h) (over-accepted-open w k h)
 
   -- A suppress condition holds only where it held.
-  pub suppress-under : q .keep ≡ false → Under w (wanted q w .words)
-  suppress-under = under-by (q .counted) refl
+  pub suppress-under : (aim : Aim) → wantedVerdict false aim w lent room ≡ accepted n v → Under w (wanted false aim w .words)
+  unfolding wanted wantedVerdict
+  suppress-under (nodes t) e = to-size-under w t (admitted false (nodes t) w lent room e .2 .accepted)
+  suppress-under (cases k) e =
+      let h = under-is w k (then-first (verdictOf w (Diagram lent) room) _ e .3) in
+      to-count-under w k (admitted false (cases k) w lent room e .2 .accepted) (under-accepted-open w k h)
 
-  either-way : (b : Bool) → q .keep ≡ b → Accepted (wanted q w .words)
-  either-way true g = keep-over g .accepted
-  either-way false g = suppress-under g .accepted
-
-  pub answer-accepted : Accepted (wanted q w .words)
-  answer-accepted = either-way (q .keep) refl
+  pub answer-accepted : (keep : Bool) (aim : Aim) → wantedVerdict keep aim w lent room ≡ accepted n v → Accepted (wanted keep aim w .words)
+  answer-accepted true aim e = keep-over aim e .accepted
+  answer-accepted false aim e = suppress-under aim e .accepted

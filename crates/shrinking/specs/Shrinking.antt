@@ -1,120 +1,97 @@
--- What shrinking a block file answers: `q` is the request, `w` the words of a diagram, `s` the bytes of a file.
-use Prim.Native.Nat.{ℕ, _-_, _*_}
+-- What shrinking a block file answers: `w` is the words of a diagram, `s` the bytes of a file; `keep` and `aim` are what
+-- the words of a request mean.
+use Prim.Native.Nat.{ℕ, _*_}
 use mathlib.Core.Path.{_≡_}
-use mathlib.Core.Bool.{Bool, true, false, cond}
-use mathlib.Core.List.{List, [], _∷_, _++_}
+use mathlib.Core.Bool.{Bool, true, false}
+use mathlib.Core.List.{List, [], _++_}
 use lib.ListN.{length, take, drop, replicate}
-use Rattle.naturals.specs.Natural.{value}
+use Rattle.diagram.specs.Limits.{roomPerNode}
 use Rattle.diagram.specs.Diagram.{size}
 use Rattle.diagram.specs.Valuations.{countOf}
 use Rattle.diagram.specs.Verdict.{Outcome, accepted, refused as rejected}
 use Rattle.approximation.specs.Search.{Answer, underToSize, overToSize, underToCount, overToCount}
 use Rattle.targets.specs.Targets.{sizeVerdict, underCountVerdict, overCountVerdict}
-use Rattle.blocks.specs.Block.{Outcome as Stored, nodes, refused as unread}
+use Rattle.blocks.specs.Block.{maxStored, Outcome as Stored, nodes as stored, refused as unread}
 use Rattle.block_file.specs.File.{Reading, reading, readFile, writeOutcome, fileOf}
-use Rattle.text.specs.Digits.{decimal, hexadecimal}
 use Rattle.writing.specs.Writing.{Wrote}
-use Rattle.report.specs.Report.{refusal, feed}
-use Rattle.request.specs.declared.Request.{Request}
+use Rattle.request.specs.Request.{Aim, nodes, cases, Meaning, help, unknown, which, cut}
+use Rattle.messages.specs.Texts.{helpText, unknownText, whichText, refusalText, targetText, missedText, sizesText, countsText, changeText, trialsText}
 
--- ---- the one cut that a request means: keep goes over, suppress goes under
+-- ---- the one cut that is meant: keep goes over, suppress goes under
 
-unfoldable pub toSize : Bool → List ℕ → ℕ → Answer
-toSize true w t = overToSize w t
-toSize false w t = underToSize w t
+unfoldable pub wanted : Bool → Aim → List ℕ → Answer
+wanted true (nodes t) w = overToSize w t
+wanted false (nodes t) w = underToSize w t
+wanted true (cases k) w = overToCount w k
+wanted false (cases k) w = underToCount w k
 
-unfoldable pub toCount : Bool → List ℕ → ℕ → Answer
-toCount true w k = overToCount w k
-toCount false w k = underToCount w k
+unfoldable pub wantedVerdict : Bool → Aim → List ℕ → ℕ → ℕ → Outcome
+wantedVerdict keep (nodes t) w lent room = sizeVerdict w lent room
+wantedVerdict true (cases k) w lent room = overCountVerdict w k lent room
+wantedVerdict false (cases k) w lent room = underCountVerdict w k lent room
 
-unfoldable pub countVerdict : Bool → List ℕ → ℕ → ℕ → ℕ → Outcome
-countVerdict true w k lent room = overCountVerdict w k lent room
-countVerdict false w k lent room = underCountVerdict w k lent room
+-- ---- what is done
 
-unfoldable pub wanted : Request → List ℕ → Answer
-wanted q w = cond (q .counted) (toCount (q .keep) w (value (q .count .words))) (toSize (q .keep) w (q .size))
-
-unfoldable pub wantedVerdict : Request → List ℕ → ℕ → ℕ → Outcome
-wantedVerdict q w lent room =
-    cond (q .counted) (countVerdict (q .keep) w (value (q .count .words)) lent room) (sizeVerdict w lent room)
-
--- ---- what is done: the words before, the words after and the trials, or a refusal
-
+-- Only a text; a refusal; or a cut, with its words before and after and its trials.
 pub data Done : Type 0 where
-  shrunk : List ℕ → List ℕ → ℕ → Done
+  told : List ℕ → Done
   refused : ℕ → ℕ → Done
+  shrunk : Bool → Aim → List ℕ → List ℕ → ℕ → Done
 
 -- An answer has to fit the file that is lent.
-abbrev pub ifStored : List ℕ → List ℕ → ℕ → Stored → Done
-ifStored w a trials (nodes n) = shrunk w a trials
-ifStored w a trials (unread number place) = refused number place
+abbrev pub ifStored : Bool → Aim → List ℕ → List ℕ → ℕ → Stored → Done
+ifStored keep aim w a trials (stored n) = shrunk keep aim w a trials
+ifStored keep aim w a trials (unread number place) = refused number place
 
-unfoldable pub storing : List ℕ → List ℕ → ℕ → ℕ → Done
-storing w a trials lent = ifStored w a trials (writeOutcome a lent)
+unfoldable pub storing : Bool → Aim → List ℕ → List ℕ → ℕ → ℕ → Done
+storing keep aim w a trials lent = ifStored keep aim w a trials (writeOutcome a lent)
 
--- The words of the output and of the room are those that 120 nodes need.
-abbrev pub ifCut : Request → List ℕ → ℕ → Outcome → Done
-ifCut q w lent (accepted n v) = storing w (wanted q w .words) (wanted q w .trials) lent
-ifCut q w lent (rejected number place) = refused number place
+-- The words of the output and of the room are those that the most nodes of a file need.
+abbrev pub ifCut : Bool → Aim → List ℕ → ℕ → Outcome → Done
+ifCut keep aim w lent (accepted n v) = storing keep aim w (wanted keep aim w .words) (wanted keep aim w .trials) lent
+ifCut keep aim w lent (rejected number place) = refused number place
 
-unfoldable pub diagramDone : Request → List ℕ → ℕ → Done
-diagramDone q w lent = ifCut q w lent (wantedVerdict q w 360 7680)
+unfoldable pub diagramDone : Bool → Aim → List ℕ → ℕ → Done
+diagramDone keep aim w lent = ifCut keep aim w lent (wantedVerdict keep aim w (3 * maxStored) (roomPerNode * maxStored))
 
-abbrev pub ifRead : Request → ℕ → Reading → Done
-ifRead q lent (reading (nodes n) left) = diagramDone q (take (3 * n) left) lent
-ifRead q lent (reading (unread number place) left) = refused number place
+-- What the input is read into.
+abbrev pub blank : List ℕ
+blank = replicate (3 * maxStored) 0
 
-unfoldable pub done : Request → List ℕ → ℕ → Done
-done q s lent = ifRead q lent (readFile s (replicate 360 0))
+abbrev pub ifRead : Bool → Aim → ℕ → Reading → Done
+ifRead keep aim lent (reading (stored n) left) = diagramDone keep aim (take (3 * n) left) lent
+ifRead keep aim lent (reading (unread number place) left) = refused number place
+
+-- By what the words mean; `lent` is the length of the file buffer.
+unfoldable pub done : Meaning → List ℕ → ℕ → Done
+done help s lent = told helpText
+done unknown s lent = told unknownText
+done which s lent = told whichText
+done (cut keep aim) s lent = ifRead keep aim lent (readFile s blank)
 
 -- ---- what is written of it
 
--- "nodes " and " to "
-abbrev pub toText : List ℕ
-toText = 32 ∷ 116 ∷ 111 ∷ 32 ∷ []
+unfoldable pub summary : Bool → Aim → List ℕ → List ℕ → ℕ → List ℕ
+summary keep aim w a trials =
+    targetText keep aim
+    ++ missedText aim (size a)
+    ++ sizesText (size w) (size a)
+    ++ (countsText (countOf w) (countOf a) ++ changeText keep (countOf w) (countOf a))
+    ++ trialsText trials
 
-abbrev pub nodesText : List ℕ
-nodesText = 110 ∷ 111 ∷ 100 ∷ 101 ∷ 115 ∷ 32 ∷ []
-
--- a line feed and "count ", "added ", "lost ", "trials "
-abbrev pub countText : List ℕ
-countText = 10 ∷ 99 ∷ 111 ∷ 117 ∷ 110 ∷ 116 ∷ 32 ∷ []
-
-abbrev pub addedText : List ℕ
-addedText = 10 ∷ 97 ∷ 100 ∷ 100 ∷ 101 ∷ 100 ∷ 32 ∷ []
-
-abbrev pub lostText : List ℕ
-lostText = 10 ∷ 108 ∷ 111 ∷ 115 ∷ 116 ∷ 32 ∷ []
-
-abbrev pub trialsText : List ℕ
-trialsText = 10 ∷ 116 ∷ 114 ∷ 105 ∷ 97 ∷ 108 ∷ 115 ∷ 32 ∷ []
-
-unfoldable pub sizesText : ℕ → ℕ → List ℕ
-sizesText before after = nodesText ++ decimal before ++ (toText ++ decimal after)
-
-unfoldable pub countsText : ℕ → ℕ → List ℕ
-countsText before after = countText ++ hexadecimal before ++ (toText ++ hexadecimal after)
-
-unfoldable pub changeText : Bool → ℕ → ℕ → List ℕ
-changeText true before after = addedText ++ hexadecimal (after - before)
-changeText false before after = lostText ++ hexadecimal (before - after)
-
-unfoldable pub cutText : Bool → List ℕ → List ℕ → ℕ → List ℕ
-cutText keep w a trials =
-    sizesText (size w) (size a) ++ (countsText (countOf w) (countOf a) ++ changeText keep (countOf w) (countOf a))
-    ++ (trialsText ++ decimal trials) ++ feed
-
--- The bytes of the file: none where there is a refusal. The text: the summary, or the line of the refusal.
+-- The bytes of standard output: none but for a cut. Those of standard error.
 abbrev pub fileBytes : Done → List ℕ
-fileBytes (shrunk w a trials) = fileOf a
+fileBytes (told t) = []
 fileBytes (refused number place) = []
+fileBytes (shrunk keep aim w a trials) = fileOf a
 
-abbrev pub summary : Bool → Done → List ℕ
-summary keep (shrunk w a trials) = cutText keep w a trials
-summary keep (refused number place) = refusal number place
+abbrev pub textBytes : Done → List ℕ
+textBytes (told t) = t
+textBytes (refused number place) = refusalText number place
+textBytes (shrunk keep aim w a trials) = summary keep aim w a trials
 
--- The file begins with its bytes and is as it was beyond them; the text is the summary.
-pub record Shrinks (keep : Bool) (d : Done) (file file-left text text-left : List ℕ) (file-end text-end : ℕ) : Type 0 where
+-- The file begins with its bytes and is as it was beyond them; the text is what is said.
+pub record Shrinks (d : Done) (file file-left text text-left : List ℕ) (file-end text-end : ℕ) : Type 0 where
   pub stored : file-left ≡ fileBytes d ++ drop (length (fileBytes d)) file
   pub stored-end : file-end ≡ length (fileBytes d)
-  pub told : Wrote (summary keep d) text 0 text-left text-end
+  pub told : Wrote (textBytes d) text 0 text-left text-end

@@ -4,24 +4,31 @@ use crate::summary::write_summary;
 use crate::wanted::shrink_words;
 use block_file::read::read_file;
 use block_file::write::write_file;
+use blocks::layout::BLOCK;
+use blocks::layout::MOST;
+use blocks::layout::NODES;
 use blocks::stored::Stored;
 use diagram::verdict::Verdict;
-use report::lines::write_refusal;
-use request::Request;
+use diagram::limits::ROOM_PER_NODE;
+use messages::refusal::write_refusal;
+use request::Target;
 ghost use mathlib.Core.Path.{_≡_};
 ghost use Prim.Native.Nat.{_≤_};
 ghost use lib.ListN.{length};
 ghost use Rattle.diagram.specs.Diagram.{size, Accepted};
 ghost use Rattle.writing.specs.Writing.{Wrote};
-ghost use Rattle.report.specs.Report.{refusal};
+ghost use Rattle.blocks.specs.Block.{maxStored};
+ghost use Rattle.request.specs.Request.{cut, aimOf};
+ghost use Rattle.messages.specs.Texts.{refusalText};
 ghost use Rattle.shrinking.specs.Shrinking.{storing, diagramDone, done, Shrinks};
 
-const WORDS: usize = 360;
+// Words of the most nodes that a file may have, and of the room to cut them.
+const WORDS: usize = 3 * MOST;
 
-const ROOM: usize = 7680;
+const ROOM: usize = ROOM_PER_NODE * MOST;
 
 fn refuse(text: &mut [u8], number: u32, place: usize) -> Ends
-    ensures { λ r. ⌜ (r .file ≡ 0) × Wrote (refusal number place) (now (text .entry)) 0 (now (text .exit)) (r .text) ⌝ }
+    ensures { λ r. ⌜ (r .file ≡ 0) × Wrote (refusalText number place) (now (text .entry)) 0 (now (text .exit)) (r .text) ⌝ }
 {
     let end = write_refusal(text, number, place);
     Ends { file: 0, text: end }
@@ -31,20 +38,20 @@ fn refuse(text: &mut [u8], number: u32, place: usize) -> Ends
 fn hand_out(
     words: &[u32],
     answer: &[u32],
-    keep: bool,
+    target: Target,
     trials: usize,
     file: &mut [u8],
     text: &mut [u8],
 ) -> Ends
-    requires { ⌜ Accepted (now words) × (size (now words) ≤ 120) × Accepted (now answer) × (size (now answer) ≤ 120) ⌝ }
-    ensures { λ r. ⌜ Shrinks keep (storing (now (words .entry)) (now (answer .entry)) trials (length (now (file .entry)))) (now (file .entry)) (now (file .exit)) (now (text .entry)) (now (text .exit)) (r .file) (r .text) ⌝ }
+    requires { ⌜ Accepted (now words) × (size (now words) ≤ maxStored) × Accepted (now answer) × (size (now answer) ≤ maxStored) ⌝ }
+    ensures { λ r. ⌜ Shrinks (storing (target .keep) (aimOf target) (now (words .entry)) (now (answer .entry)) trials (length (now (file .entry)))) (now (file .entry)) (now (file .exit)) (now (text .entry)) (now (text .exit)) (r .file) (r .text) ⌝ }
 {
     let stored = write_file(answer, file);
     match stored {
         Stored::Nodes(nodes) => {
-            let end = write_summary(text, keep, words, answer, trials);
+            let end = write_summary(text, target, words, answer, trials);
             Ends {
-                file: 512 * ((nodes + 49) / 50),
+                file: BLOCK * ((nodes + (NODES - 1)) / NODES),
                 text: end,
             }
         }
@@ -53,19 +60,18 @@ fn hand_out(
 }
 
 // Cuts a diagram as requested.
-pub fn shrink_diagram(words: &[u32], request: Request, file: &mut [u8], text: &mut [u8]) -> Ends
-    ensures { λ r. ⌜ Shrinks (request .keep) (diagramDone request (now (words .entry)) (length (now (file .entry)))) (now (file .entry)) (now (file .exit)) (now (text .entry)) (now (text .exit)) (r .file) (r .text) ⌝ }
+pub(crate) fn shrink_diagram(words: &[u32], target: Target, file: &mut [u8], text: &mut [u8]) -> Ends
+    ensures { λ r. ⌜ Shrinks (diagramDone (target .keep) (aimOf target) (now (words .entry)) (length (now (file .entry)))) (now (file .entry)) (now (file .exit)) (now (text .entry)) (now (text .exit)) (r .file) (r .text) ⌝ }
 {
-    let keep = request.keep;
     let mut output = [0u32; WORDS];
     let mut room = [0u32; ROOM];
-    let cut = shrink_words(words, request, &mut room, &mut output);
+    let cut = shrink_words(words, target, &mut room, &mut output);
     let verdict = cut.verdict;
     match verdict {
         Verdict::Accepted { nodes: _, vars: _ } => hand_out(
             words,
             &output[..3 * cut.nodes],
-            keep,
+            target,
             cut.trials,
             file,
             text,
@@ -74,14 +80,14 @@ pub fn shrink_diagram(words: &[u32], request: Request, file: &mut [u8], text: &m
     }
 }
 
-// The whole job, on the bytes of a block file.
-pub fn shrink(bytes: &[u8], request: Request, file: &mut [u8], text: &mut [u8]) -> Ends
-    ensures { λ r. ⌜ Shrinks (request .keep) (done request (now (bytes .entry)) (length (now (file .entry)))) (now (file .entry)) (now (file .exit)) (now (text .entry)) (now (text .exit)) (r .file) (r .text) ⌝ }
+// The whole cut, on the bytes of a block file.
+pub(crate) fn shrink(bytes: &[u8], target: Target, file: &mut [u8], text: &mut [u8]) -> Ends
+    ensures { λ r. ⌜ Shrinks (done (cut (target .keep) (aimOf target)) (now (bytes .entry)) (length (now (file .entry)))) (now (file .entry)) (now (file .exit)) (now (text .entry)) (now (text .exit)) (r .file) (r .text) ⌝ }
 {
     let mut words = [0u32; WORDS];
     let stored = read_file(bytes, &mut words);
     match stored {
-        Stored::Nodes(nodes) => shrink_diagram(&words[..3 * nodes], request, file, text),
+        Stored::Nodes(nodes) => shrink_diagram(&words[..3 * nodes], target, file, text),
         Stored::Refused { number, place } => refuse(text, number, place),
     }
 }

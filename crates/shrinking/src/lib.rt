@@ -1,4 +1,5 @@
 // The supervisor's job: a keep condition may only grow, a suppress condition may only lose cases.
+pub mod answer;
 pub mod job;
 pub mod summary;
 pub mod wanted;

@@ -1,9 +1,16 @@
 -- What writing into a lent slice leaves.
 use Prim.Native.Nat.{ℕ, _+_, max, min}
+use Prim.Native.Char.{code}
+use Prim.Native.String.{String, [] as no-more, _∷_ as _then_}
 use mathlib.Core.Path.{_≡_}
-use mathlib.Core.List.{List}
+use mathlib.Core.List.{List, [], _∷_}
 use lib.ListN.{length}
 use lib.Seq.{sets}
+
+-- A text as the bytes of its characters.
+abbrev pub bytes : String → List ℕ
+bytes no-more = []
+bytes (c then s) = code c ∷ bytes s
 
 -- The place after t, in a slice of n: past the end it stays.
 unfoldable pub past : ℕ → ℕ → List ℕ → ℕ

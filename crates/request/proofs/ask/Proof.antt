@@ -1,16 +1,20 @@
-use Rattle.request.proofs.Asking.{asked}
+use Rattle.request.proofs.Asking.{is-help, is-unknown, asks-help, asks-others, asks-keep, asks-suppress, asks-none}
+use native.Mathlib.Omega.{arith}
 use borrow.Author.Needs.{needs}
 use Rattle.request.proofs.ask.Statement.{statement}
 use Rattle.request.proofs.ask.Tie as tie
 
-slice-aggregate-one-of : tie.Need-slice-aggregate-one-of
-slice-aggregate-one-of c = search needs
+no-cut-requires : tie.Need-no-cut-requires
+no-cut-requires c κs = search needs
 
-slice-aggregate-one-of-2 : tie.Need-slice-aggregate-one-of-2
-slice-aggregate-one-of-2 c = search needs
+returns : tie.Need-returns
+returns c = asks-help (c .before .before .before .before .before .args .count) (c .before .before .before .before .before .args .direction .now) (c .before .before .before .before .before .args .kind .now) (c .before .before .before .before .before .args .number .now) (c .before .if1 .taken) (is-help _ (c .no-cut .ensures))
 
-one-of-requires : tie.Need-one-of-requires
-one-of-requires c κs = search needs
+no-cut-requires-2 : tie.Need-no-cut-requires-2
+no-cut-requires-2 c κs = search needs
+
+returns-2 : tie.Need-returns-2
+returns-2 c = asks-others (c .before .before .before .before .before .before .args .count) (c .before .before .before .before .before .before .args .direction .now) (c .before .before .before .before .before .before .args .kind .now) (c .before .before .before .before .before .before .args .number .now) (c .before .before .if1 .left) (c .before .if2 .taken) (is-unknown _ (c .no-cut2 .ensures))
 
 slice-aggregate-same : tie.Need-slice-aggregate-same
 slice-aggregate-same c = search needs
@@ -18,56 +22,45 @@ slice-aggregate-same c = search needs
 same-requires : tie.Need-same-requires
 same-requires c κs = search needs
 
+aim-requires : tie.Need-aim-requires
+aim-requires c κs = search needs
+
+returns-3 : tie.Need-returns-3
+returns-3 c = asks-keep (c .before .before .before .before .before .before .before .before .before .args .count) (c .before .before .before .before .before .before .before .before .before .args .direction .now) (c .before .before .before .before .before .before .before .before .before .args .kind .now) (c .before .before .before .before .before .before .before .before .before .args .number .now) (c .before .before .before .before .before .if1 .left) (c .before .before .before .before .if2 .left) (c .before .before .same .ensures) (c .before .if3 .taken) (c .aim .ensures)
+
 slice-aggregate-same-2 : tie.Need-slice-aggregate-same-2
 slice-aggregate-same-2 c = search needs
 
 same-requires-2 : tie.Need-same-requires-2
 same-requires-2 c κs = search needs
 
-slice-aggregate-same-3 : tie.Need-slice-aggregate-same-3
-slice-aggregate-same-3 c = search needs
+aim-requires-2 : tie.Need-aim-requires-2
+aim-requires-2 c κs = search needs
 
-same-requires-3 : tie.Need-same-requires-3
-same-requires-3 c κs = search needs
+returns-4 : tie.Need-returns-4
+returns-4 c = asks-suppress (c .before .before .before .before .before .before .before .before .before .before .before .before .args .count) (c .before .before .before .before .before .before .before .before .before .before .before .before .args .direction .now) (c .before .before .before .before .before .before .before .before .before .before .before .before .args .kind .now) (c .before .before .before .before .before .before .before .before .before .before .before .before .args .number .now) (c .before .before .before .before .before .before .before .before .if1 .left) (c .before .before .before .before .before .before .before .if2 .left) (c .before .before .before .before .before .same .ensures) (c .before .before .before .before .if3 .left) (c .before .before .same2 .ensures) (c .before .if4 .taken) (c .aim2 .ensures)
 
-parse-decimal-requires : tie.Need-parse-decimal-requires
-parse-decimal-requires c κs = search needs
+no-cut-requires-3 : tie.Need-no-cut-requires-3
+no-cut-requires-3 c κs = search needs
 
-parse-hexadecimal-requires : tie.Need-parse-hexadecimal-requires
-parse-hexadecimal-requires c κs = search needs
-
-both-requires : tie.Need-both-requires
-both-requires c κs = search needs
-
-both-requires-2 : tie.Need-both-requires-2
-both-requires-2 c κs = search needs
-
-either-requires : tie.Need-either-requires
-either-requires c κs = search needs
-
-both-requires-3 : tie.Need-both-requires-3
-both-requires-3 c κs = search needs
-
-returns : tie.Need-returns
-returns c = asked (c .before .before .before .before .before .before .before .before .before .before .before .before .before .before .before .before .before .before .before .args .direction .now) (c .before .before .before .before .before .before .before .before .before .before .before .before .before .before .before .before .before .before .before .args .kind .now) (c .before .before .before .before .before .before .before .before .before .before .before .before .before .before .before .before .before .before .before .args .number .now) (c .before .before .before .before .before .before .before .before .before .before .before .before .before .one-of .ensures) (c .before .before .before .before .before .before .before .before .before .before .before .same .ensures) (c .before .before .before .before .before .before .before .before .before .same2 .ensures) (c .before .before .before .before .before .before .before .same3 .ensures) (c .before .before .before .before .before .before .parse-decimal .ensures) (c .before .before .before .before .before .parse-hexadecimal .ensures) (c .before .before .before .both .ensures) (c .before .before .both2 .ensures) (c .before .either .ensures) (c .both3 .ensures)
+returns-5 : tie.Need-returns-5
+returns-5 c = asks-none (c .before .before .before .before .before .before .before .before .before .before .before .before .args .count) (c .before .before .before .before .before .before .before .before .before .before .before .before .args .direction .now) (c .before .before .before .before .before .before .before .before .before .before .before .before .args .kind .now) (c .before .before .before .before .before .before .before .before .before .before .before .before .args .number .now) (c .before .before .before .before .before .before .before .before .if1 .left) (c .before .before .before .before .before .before .before .if2 .left) (c .before .before .before .before .before .same .ensures) (c .before .before .before .before .if3 .left) (c .before .before .same2 .ensures) (c .before .if4 .left) (is-unknown _ (c .no-cut3 .ensures))
 
 pub ask-spec : {M : Type 1} → statement M
 ask-spec =
     tie.close
     (tie.spec
-    slice-aggregate-one-of
-    slice-aggregate-one-of-2
-    one-of-requires
+    no-cut-requires
+    returns
+    no-cut-requires-2
+    returns-2
     slice-aggregate-same
     same-requires
+    aim-requires
+    returns-3
     slice-aggregate-same-2
     same-requires-2
-    slice-aggregate-same-3
-    same-requires-3
-    parse-decimal-requires
-    parse-hexadecimal-requires
-    both-requires
-    both-requires-2
-    either-requires
-    both-requires-3
-    returns)
+    aim-requires-2
+    returns-4
+    no-cut-requires-3
+    returns-5)

@@ -12,6 +12,9 @@ returns-2 c = refused-2 (c .before .before .before .args .words .now) (c .before
 returns-3 : tie.Need-returns-3
 returns-3 c = refused-25 (c .before .before .before .before .args .words .now) (c .before .before .before .before .args .lent) (c .before .before .if1 .left) (c .before .if2 .left) (c .if3 .taken)
 
+sub-if4 : tie.Need-sub-if4
+sub-if4 c = search needs
+
 add-if4 : tie.Need-add-if4
 add-if4 c = search needs
 
@@ -37,6 +40,7 @@ test-words-spec =
     returns
     returns-2
     returns-3
+    sub-if4
     add-if4
     mul-if4
     returns-4

@@ -1,10 +1,11 @@
 use Rattle.blocks.specs.Block.{nodes}
 use mathlib.Core.Path.{ap}
 use Rattle.blocks.specs.Block.{two}
-use Prim.Native.Nat.{_≤_}
+use Prim.Native.Nat.{_+_, _*_, _≤_}
 use mathlib.Core.Path.{sym, _∙_}
 use borrow.Author.Tests.{not-true, not-false}
 use Rattle.blocks.proofs.Testing.{refused-21, refused-22, refused-23, refused-25, refused-24, refused-4, taken, held-few, due-small}
+use borrow.Author.Tests.{leb-true, leb-false}
 use native.Mathlib.Omega.{arith}
 use borrow.Author.Needs.{needs}
 use Rattle.blocks.proofs.read.test_block.Statement.{statement}
@@ -55,29 +56,29 @@ cast-held c = search needs
 unused-zero-requires : tie.Need-unused-zero-requires
 unused-zero-requires c κs = (let h : two (c .before .before .before .before .before .before .before .before .before .args .block .now) 2 ≤ 50 = held-few (c .before .before .before .before .before .before .before .before .before .args .block .now) (c .before .before .before .before .before .before .before .before .before .args .number) (c .before .before .before .before .before .before .before .before .before .args .stated) (sym (c .before .before .before .before .counts-right .ensures) ∙ not-false _ (c .before .before .before .if3 .left)) in omega (arith, c .get-two .ensures .0), c .before .before .before .before .before .before .before .if1 .left)
 
+mul-fits : tie.Need-mul-fits
+mul-fits c = omega (arith, due-small (c .before .before .before .before .before .before .before .before .before .before .args .block .now) (c .before .before .before .before .before .before .before .before .before .before .args .number) (c .before .before .before .before .before .before .before .before .before .before .args .stated) (sym (c .before .before .before .before .before .counts-right .ensures) ∙ not-false _ (c .before .before .before .before .if3 .left)) (omega (arith, c .before .before .if4 .left, c .before .before .before .get-four .ensures)))
+
+mul-fits-2 : tie.Need-mul-fits-2
+mul-fits-2 c = search needs
+
+add-fits : tie.Need-add-fits
+add-fits c = omega (arith, due-small (c .before .before .before .before .before .before .before .before .before .before .args .block .now) (c .before .before .before .before .before .before .before .before .before .before .args .number) (c .before .before .before .before .before .before .before .before .before .before .args .stated) (sym (c .before .before .before .before .before .counts-right .ensures) ∙ not-false _ (c .before .before .before .before .if3 .left)) (omega (arith, c .before .before .if4 .left, c .before .before .before .get-four .ensures)), c .before .get-two .ensures .1)
+
 refused-requires-5 : tie.Need-refused-requires-5
 refused-requires-5 c κs = search needs
 
 returns-5 : tie.Need-returns-5
 returns-5 c = c .refused5 .ensures ∙ refused-24 (c .before .before .before .before .before .before .before .before .before .before .before .before .args .block .now) (c .before .before .before .before .before .before .before .before .before .before .before .before .args .number) (c .before .before .before .before .before .before .before .before .before .before .before .before .args .stated) (c .before .before .before .before .before .before .before .before .before .before .before .before .args .lent) (c .before .before .before .before .before .before .before .before .before .before .if1 .left) (sym (c .before .before .before .before .before .before .before .before .before .sums-right .ensures) ∙ not-false _ (c .before .before .before .before .before .before .before .before .if2 .left)) (sym (c .before .before .before .before .before .before .before .counts-right .ensures) ∙ not-false _ (c .before .before .before .before .before .before .if3 .left)) (omega (arith, c .before .before .before .before .if4 .left, c .before .before .before .before .before .get-four .ensures)) (rw (c .before .before .before .get-two .ensures .0) at (sym (c .before .before .unused-zero .ensures) ∙ not-true _ (c .before .if5 .taken)))
 
-mul-if6 : tie.Need-mul-if6
-mul-if6 c = omega (arith, due-small (c .before .before .before .before .before .before .before .before .before .before .before .args .block .now) (c .before .before .before .before .before .before .before .before .before .before .before .args .number) (c .before .before .before .before .before .before .before .before .before .before .before .args .stated) (sym (c .before .before .before .before .before .before .counts-right .ensures) ∙ not-false _ (c .before .before .before .before .before .if3 .left)) (omega (arith, c .before .before .before .if4 .left, c .before .before .before .before .get-four .ensures)))
-
-mul-if6-2 : tie.Need-mul-if6-2
-mul-if6-2 c = search needs
-
-add-if6 : tie.Need-add-if6
-add-if6 c = omega (arith, due-small (c .before .before .before .before .before .before .before .before .before .before .before .args .block .now) (c .before .before .before .before .before .before .before .before .before .before .before .args .number) (c .before .before .before .before .before .before .before .before .before .before .before .args .stated) (sym (c .before .before .before .before .before .before .counts-right .ensures) ∙ not-false _ (c .before .before .before .before .before .if3 .left)) (omega (arith, c .before .before .before .if4 .left, c .before .before .before .before .get-four .ensures)), c .before .before .get-two .ensures .1)
-
 refused-requires-6 : tie.Need-refused-requires-6
 refused-requires-6 c κs = search needs
 
 returns-6 : tie.Need-returns-6
-returns-6 c = c .refused6 .ensures ∙ refused-4 (c .before .before .before .before .before .before .before .before .before .before .before .before .before .args .block .now) (c .before .before .before .before .before .before .before .before .before .before .before .before .before .args .number) (c .before .before .before .before .before .before .before .before .before .before .before .before .before .args .stated) (c .before .before .before .before .before .before .before .before .before .before .before .before .before .args .lent) (c .before .before .before .before .before .before .before .before .before .before .before .if1 .left) (sym (c .before .before .before .before .before .before .before .before .before .before .sums-right .ensures) ∙ not-false _ (c .before .before .before .before .before .before .before .before .before .if2 .left)) (sym (c .before .before .before .before .before .before .before .before .counts-right .ensures) ∙ not-false _ (c .before .before .before .before .before .before .before .if3 .left)) (omega (arith, c .before .before .before .before .before .if4 .left, c .before .before .before .before .before .before .get-four .ensures)) (rw (c .before .before .before .before .get-two .ensures .0) at (sym (c .before .before .before .unused-zero .ensures) ∙ not-false _ (c .before .before .if5 .left))) (omega (arith, c .before .if6 .taken, c .before .before .before .before .get-two .ensures .0))
+returns-6 c = c .refused6 .ensures ∙ refused-4 (c .before .before .before .before .before .before .before .before .before .before .before .before .before .args .block .now) (c .before .before .before .before .before .before .before .before .before .before .before .before .before .args .number) (c .before .before .before .before .before .before .before .before .before .before .before .before .before .args .stated) (c .before .before .before .before .before .before .before .before .before .before .before .before .before .args .lent) (c .before .before .before .before .before .before .before .before .before .before .before .if1 .left) (sym (c .before .before .before .before .before .before .before .before .before .before .sums-right .ensures) ∙ not-false _ (c .before .before .before .before .before .before .before .before .before .if2 .left)) (sym (c .before .before .before .before .before .before .before .before .counts-right .ensures) ∙ not-false _ (c .before .before .before .before .before .before .before .if3 .left)) (omega (arith, c .before .before .before .before .before .if4 .left, c .before .before .before .before .before .before .get-four .ensures)) (rw (c .before .before .before .before .get-two .ensures .0) at (sym (c .before .before .before .unused-zero .ensures) ∙ not-false _ (c .before .before .if5 .left))) (omega (arith, leb-false (150 * c .before .before .before .before .before .before .before .before .before .before .before .before .before .args .number + 3 * c .before .before .before .before .get-two .result) (c .before .before .before .before .before .before .before .before .before .before .before .before .before .args .lent) (not-true _ (c .before .if6 .taken)), c .before .before .before .before .get-two .ensures .0))
 
 returns-7 : tie.Need-returns-7
-returns-7 c = ap nodes (c .before .before .before .before .before .get-four .ensures) ∙ taken (c .before .before .before .before .before .before .before .before .before .before .before .before .args .block .now) (c .before .before .before .before .before .before .before .before .before .before .before .before .args .number) (c .before .before .before .before .before .before .before .before .before .before .before .before .args .stated) (c .before .before .before .before .before .before .before .before .before .before .before .before .args .lent) (c .before .before .before .before .before .before .before .before .before .before .if1 .left) (sym (c .before .before .before .before .before .before .before .before .before .sums-right .ensures) ∙ not-false _ (c .before .before .before .before .before .before .before .before .if2 .left)) (sym (c .before .before .before .before .before .before .before .counts-right .ensures) ∙ not-false _ (c .before .before .before .before .before .before .if3 .left)) (omega (arith, c .before .before .before .before .if4 .left, c .before .before .before .before .before .get-four .ensures)) (rw (c .before .before .before .get-two .ensures .0) at (sym (c .before .before .unused-zero .ensures) ∙ not-false _ (c .before .if5 .left))) (omega (arith, c .if6 .left, c .before .before .before .get-two .ensures .0))
+returns-7 c = ap nodes (c .before .before .before .before .before .get-four .ensures) ∙ taken (c .before .before .before .before .before .before .before .before .before .before .before .before .args .block .now) (c .before .before .before .before .before .before .before .before .before .before .before .before .args .number) (c .before .before .before .before .before .before .before .before .before .before .before .before .args .stated) (c .before .before .before .before .before .before .before .before .before .before .before .before .args .lent) (c .before .before .before .before .before .before .before .before .before .before .if1 .left) (sym (c .before .before .before .before .before .before .before .before .before .sums-right .ensures) ∙ not-false _ (c .before .before .before .before .before .before .before .before .if2 .left)) (sym (c .before .before .before .before .before .before .before .counts-right .ensures) ∙ not-false _ (c .before .before .before .before .before .before .if3 .left)) (omega (arith, c .before .before .before .before .if4 .left, c .before .before .before .before .before .get-four .ensures)) (rw (c .before .before .before .get-two .ensures .0) at (sym (c .before .before .unused-zero .ensures) ∙ not-false _ (c .before .if5 .left))) (omega (arith, leb-true (150 * c .before .before .before .before .before .before .before .before .before .before .before .before .args .number + 3 * c .before .before .before .get-two .result) (c .before .before .before .before .before .before .before .before .before .before .before .before .args .lent) (not-false _ (c .if6 .left)), c .before .before .before .get-two .ensures .0))
 
 pub test-block-spec : {M : Type 1} → statement M
 test-block-spec =
@@ -98,11 +99,11 @@ test-block-spec =
     get-two-requires
     cast-held
     unused-zero-requires
+    mul-fits
+    mul-fits-2
+    add-fits
     refused-requires-5
     returns-5
-    mul-if6
-    mul-if6-2
-    add-if6
     refused-requires-6
     returns-6
     returns-7)

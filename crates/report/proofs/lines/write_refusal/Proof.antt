@@ -1,20 +1,11 @@
-use Rattle.report.specs.Report.{refusal}
 use Rattle.writing.proofs.Laws.{wrote-then}
+use native.Mathlib.Omega.{arith}
 use borrow.Author.Needs.{needs}
 use Rattle.report.proofs.lines.write_refusal.Statement.{statement}
 use Rattle.report.proofs.lines.write_refusal.Tie as tie
 
-slice-aggregate-write-number : tie.Need-slice-aggregate-write-number
-slice-aggregate-write-number c = search needs
-
-write-number-requires : tie.Need-write-number-requires
-write-number-requires c κs = search needs
-
-slice-aggregate-write-number-2 : tie.Need-slice-aggregate-write-number-2
-slice-aggregate-write-number-2 c = search needs
-
-write-number-requires-2 : tie.Need-write-number-requires-2
-write-number-requires-2 c κs = search needs
+write-refused-requires : tie.Need-write-refused-requires
+write-refused-requires c κs = search needs
 
 put-requires : tie.Need-put-requires
 put-requires c κs = search needs
@@ -23,17 +14,7 @@ same-length : tie.Need-same-length
 same-length c = search needs
 
 returns : tie.Need-returns
-unfolding refusal
-returns c = wrote-then (wrote-then (c .before .before .before .before .before .before .before .before .before .before .before .write-number .ensures) (c .before .before .before .before .before .before .write-number2 .ensures)) (c .before .before .put .ensures)
+returns c = wrote-then (c .before .before .before .before .before .before .write-refused .ensures) (c .before .before .put .ensures)
 
 pub write-refusal-spec : {M : Type 1} → statement M
-write-refusal-spec =
-    tie.close
-    (tie.spec
-    slice-aggregate-write-number
-    write-number-requires
-    slice-aggregate-write-number-2
-    write-number-requires-2
-    put-requires
-    same-length
-    returns)
+write-refusal-spec = tie.close (tie.spec write-refused-requires put-requires same-length returns)

@@ -1,4 +1,5 @@
 use Rattle.shrinking.proofs.Answering.{store-few, store-done, store-refused}
+use Rattle.request.specs.Request.{aimOf}
 use native.Mathlib.Omega.{arith}
 use borrow.Author.Needs.{needs}
 use Rattle.shrinking.proofs.job.hand_out.Statement.{statement}
@@ -13,11 +14,14 @@ enum-known-stored c = search needs
 write-summary-requires : tie.Need-write-summary-requires
 write-summary-requires c κs = c .before .before .before .before .before .before .before .before .before .before .before .before .pre
 
-add-t17 : tie.Need-add-t17
-add-t17 c = omega (arith, store-few (c .before .before .before .before .before .before .before .before .before .before .before .before .before .before .before .args .words .now) (c .before .before .before .before .before .before .before .before .before .before .before .before .before .before .before .args .answer .now) (c .before .before .before .before .before .before .before .before .before .before .before .before .before .before .before .args .trials) (c .before .before .before .before .before .before .before .before .before .before .before .before .before .before .before .args .file .now) _ (c .before .before .before .before .before .before .before .before .before .write-file .ensures) (c .before .before .before .before .before .stored .given .1))
+sub-t17 : tie.Need-sub-t17
+sub-t17 c = search needs
 
-mul-t19 : tie.Need-mul-t19
-mul-t19 c = omega (arith, store-few (c .before .before .before .before .before .before .before .before .before .before .before .before .before .before .before .args .words .now) (c .before .before .before .before .before .before .before .before .before .before .before .before .before .before .before .args .answer .now) (c .before .before .before .before .before .before .before .before .before .before .before .before .before .before .before .args .trials) (c .before .before .before .before .before .before .before .before .before .before .before .before .before .before .before .args .file .now) _ (c .before .before .before .before .before .before .before .before .before .write-file .ensures) (c .before .before .before .before .before .stored .given .1))
+add-t18 : tie.Need-add-t18
+add-t18 c = omega (arith, store-few (c .before .before .before .before .before .before .before .before .before .before .before .before .before .before .before .args .target .keep) (aimOf (c .before .before .before .before .before .before .before .before .before .before .before .before .before .before .before .args .target)) (c .before .before .before .before .before .before .before .before .before .before .before .before .before .before .before .args .words .now) (c .before .before .before .before .before .before .before .before .before .before .before .before .before .before .before .args .answer .now) (c .before .before .before .before .before .before .before .before .before .before .before .before .before .before .before .args .trials) (c .before .before .before .before .before .before .before .before .before .before .before .before .before .before .before .args .file .now) _ (c .before .before .before .before .before .before .before .before .before .write-file .ensures) (c .before .before .before .before .before .stored .given .1))
+
+mul-t20 : tie.Need-mul-t20
+mul-t20 c = omega (arith, store-few (c .before .before .before .before .before .before .before .before .before .before .before .before .before .before .before .args .target .keep) (aimOf (c .before .before .before .before .before .before .before .before .before .before .before .before .before .before .before .args .target)) (c .before .before .before .before .before .before .before .before .before .before .before .before .before .before .before .args .words .now) (c .before .before .before .before .before .before .before .before .before .before .before .before .before .before .before .args .answer .now) (c .before .before .before .before .before .before .before .before .before .before .before .before .before .before .before .args .trials) (c .before .before .before .before .before .before .before .before .before .before .before .before .before .before .before .args .file .now) _ (c .before .before .before .before .before .before .before .before .before .write-file .ensures) (c .before .before .before .before .before .stored .given .1))
 
 enum-known-stored-2 : tie.Need-enum-known-stored-2
 enum-known-stored-2 c = search needs
@@ -32,7 +36,7 @@ same-length-2 : tie.Need-same-length-2
 same-length-2 c = search needs
 
 returns : tie.Need-returns
-returns c = store-done (c .before .before .before .before .before .before .before .before .before .before .before .before .before .before .before .args .words .now) (c .before .before .before .before .before .before .before .before .before .before .before .before .before .before .before .args .answer .now) (c .before .before .before .before .before .before .before .before .before .before .before .before .before .before .before .args .trials) (c .before .before .before .before .before .before .before .before .before .before .before .before .before .before .before .args .file .now) _ (c .before .before .before .before .before .before .before .before .before .write-file .ensures) (c .before .before .before .before .before .stored .given .1) (c .before .before .write-summary .ensures)
+returns c = store-done (c .before .before .before .before .before .before .before .before .before .before .before .before .before .before .before .args .target .keep) (aimOf (c .before .before .before .before .before .before .before .before .before .before .before .before .before .before .before .args .target)) (c .before .before .before .before .before .before .before .before .before .before .before .before .before .before .before .args .words .now) (c .before .before .before .before .before .before .before .before .before .before .before .before .before .before .before .args .answer .now) (c .before .before .before .before .before .before .before .before .before .before .before .before .before .before .before .args .trials) (c .before .before .before .before .before .before .before .before .before .before .before .before .before .before .before .args .file .now) _ (c .before .before .before .before .before .before .before .before .before .write-file .ensures) (c .before .before .before .before .before .stored .given .1) (c .before .before .write-summary .ensures)
 
 same-length-3 : tie.Need-same-length-3
 same-length-3 c = search needs
@@ -41,7 +45,7 @@ same-length-4 : tie.Need-same-length-4
 same-length-4 c = search needs
 
 returns-2 : tie.Need-returns-2
-returns-2 c = store-refused (c .before .before .before .before .before .before .before .before .before .before .before .before .before .before .before .args .words .now) (c .before .before .before .before .before .before .before .before .before .before .before .before .before .before .before .args .answer .now) (c .before .before .before .before .before .before .before .before .before .before .before .before .before .before .before .args .trials) (c .before .before .before .before .before .before .before .before .before .before .before .before .before .before .before .args .file .now) _ (c .before .before .before .before .before .before .before .before .before .write-file .ensures) (c .before .before .before .before .before .stored2 .given .1) (c .before .before .refuse .ensures)
+returns-2 c = store-refused (c .before .before .before .before .before .before .before .before .before .before .before .before .before .before .before .args .target .keep) (aimOf (c .before .before .before .before .before .before .before .before .before .before .before .before .before .before .before .args .target)) (c .before .before .before .before .before .before .before .before .before .before .before .before .before .before .before .args .words .now) (c .before .before .before .before .before .before .before .before .before .before .before .before .before .before .before .args .answer .now) (c .before .before .before .before .before .before .before .before .before .before .before .before .before .before .before .args .trials) (c .before .before .before .before .before .before .before .before .before .before .before .before .before .before .before .args .file .now) _ (c .before .before .before .before .before .before .before .before .before .write-file .ensures) (c .before .before .before .before .before .stored2 .given .1) (c .before .before .refuse .ensures)
 
 pub hand-out-spec : {M : Type 1} → statement M
 hand-out-spec =
@@ -50,8 +54,9 @@ hand-out-spec =
     write-file-requires
     enum-known-stored
     write-summary-requires
-    add-t17
-    mul-t19
+    sub-t17
+    add-t18
+    mul-t20
     enum-known-stored-2
     refuse-requires
     same-length

@@ -1,4 +1,4 @@
-use Rattle.shrinking.specs.Shrinking.{wanted, wantedVerdict}
+use native.Mathlib.Omega.{arith}
 use borrow.Author.Needs.{needs}
 use Rattle.shrinking.proofs.wanted.shrink_words.Statement.{statement}
 use Rattle.shrinking.proofs.wanted.shrink_words.Tie as tie
@@ -13,7 +13,6 @@ same-length-2 : tie.Need-same-length-2
 same-length-2 c = search needs
 
 returns : tie.Need-returns
-unfolding wanted wantedVerdict
 returns c = rw (c .before .before .before .before .before .before .before .if1 .taken) (c .before .before .before .before .to-count .ensures)
 
 to-size-requires : tie.Need-to-size-requires
@@ -26,7 +25,6 @@ same-length-4 : tie.Need-same-length-4
 same-length-4 c = search needs
 
 returns-2 : tie.Need-returns-2
-unfolding wanted wantedVerdict
 returns-2 c = rw (c .before .before .before .before .before .before .before .if1 .left) (c .before .before .before .before .to-size .ensures)
 
 pub shrink-words-spec : {M : Type 1} → statement M

@@ -1,4 +1,5 @@
-use Rattle.shrinking.specs.Shrinking.{toSize}
+use Rattle.shrinking.specs.Shrinking.{wanted, wantedVerdict}
+use native.Mathlib.Omega.{arith}
 use borrow.Author.Needs.{needs}
 use Rattle.shrinking.proofs.wanted.to_size.Statement.{statement}
 use Rattle.shrinking.proofs.wanted.to_size.Tie as tie
@@ -13,7 +14,7 @@ same-length-2 : tie.Need-same-length-2
 same-length-2 c = search needs
 
 returns : tie.Need-returns
-unfolding toSize
+unfolding wanted wantedVerdict
 returns c = rw (c .before .before .before .before .before .before .before .if1 .taken) (c .before .before .before .before .overapproximate-to-size .ensures)
 
 underapproximate-to-size-requires : tie.Need-underapproximate-to-size-requires
@@ -26,7 +27,7 @@ same-length-4 : tie.Need-same-length-4
 same-length-4 c = search needs
 
 returns-2 : tie.Need-returns-2
-unfolding toSize
+unfolding wanted wantedVerdict
 returns-2 c = rw (c .before .before .before .before .before .before .before .if1 .left) (c .before .before .before .before .underapproximate-to-size .ensures)
 
 pub to-size-spec : {M : Type 1} → statement M

@@ -1,8 +1,9 @@
-use Rattle.shrinking.specs.Shrinking.{sizesText}
-use Rattle.writing.proofs.Laws.{wrote-then}
+use Rattle.writing.proofs.Laws.{wrote-then, wrote-none}
+use Rattle.messages.specs.Texts.{sizesText}
+use native.Mathlib.Omega.{arith}
 use borrow.Author.Needs.{needs}
-use Rattle.shrinking.proofs.summary.write_sizes.Statement.{statement}
-use Rattle.shrinking.proofs.summary.write_sizes.Tie as tie
+use Rattle.messages.proofs.summary.write_sizes.Statement.{statement}
+use Rattle.messages.proofs.summary.write_sizes.Tie as tie
 
 slice-aggregate-write-number : tie.Need-slice-aggregate-write-number
 slice-aggregate-write-number c = search needs
@@ -16,12 +17,15 @@ slice-aggregate-write-number-2 c = search needs
 write-number-requires-2 : tie.Need-write-number-requires-2
 write-number-requires-2 c κs = search needs
 
+put-requires : tie.Need-put-requires
+put-requires c κs = search needs
+
 same-length : tie.Need-same-length
 same-length c = search needs
 
 returns : tie.Need-returns
 unfolding sizesText
-returns c = wrote-then (c .before .before .before .before .before .before .before .write-number .ensures) (c .before .before .write-number2 .ensures)
+returns c = wrote-then (wrote-then (c .before .before .before .before .before .before .before .before .before .before .before .write-number .ensures) (c .before .before .before .before .before .before .write-number2 .ensures)) (c .before .before .put .ensures)
 
 pub write-sizes-spec : {M : Type 1} → statement M
 write-sizes-spec =
@@ -31,5 +35,6 @@ write-sizes-spec =
     write-number-requires
     slice-aggregate-write-number-2
     write-number-requires-2
+    put-requires
     same-length
     returns)

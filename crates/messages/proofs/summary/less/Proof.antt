@@ -1,8 +1,8 @@
 use mathlib.Core.Path.{_∙_}
-use Rattle.shrinking.proofs.Counting.{less-is}
+use Rattle.messages.proofs.Differing.{less-is}
 use borrow.Author.Needs.{needs}
-use Rattle.shrinking.proofs.summary.less.Statement.{statement}
-use Rattle.shrinking.proofs.summary.less.Tie as tie
+use Rattle.messages.proofs.summary.less.Statement.{statement}
+use Rattle.messages.proofs.summary.less.Tie as tie
 
 subtract-requires : tie.Need-subtract-requires
 subtract-requires c κs = search needs

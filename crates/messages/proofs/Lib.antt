@@ -1,0 +1,3 @@
+-- Laws that belong to no one function.
+--     Differing  differences, and tests of a number of refusal
+pub mod Differing

@@ -1,0 +1,64 @@
+// The line of a refusal: `refused 22 at 0: a check sum is wrong`.
+use report::lines::write_number;
+use report::lines::write_refused;
+use writing::put;
+use writing::write;
+ghost use mathlib.Core.Path.{_≡_};
+ghost use Rattle.writing.specs.Writing.{Wrote};
+ghost use Rattle.messages.specs.Texts.{ofNode, subject, phrase, refusalText};
+
+// Whether the place of a refusal with this number is a node.
+fn of_node(number: u32) -> bool
+    ensures { λ r. ⌜ r ≡ ofNode number ⌝ }
+{
+    if number == 6 {
+        return true;
+    }
+    if number < 8 {
+        return false;
+    }
+    number <= 12
+}
+
+fn write_subject(out: &mut [u8], at: usize, number: u32, place: usize) -> usize
+    ensures { λ r. ⌜ Wrote (subject number place) (now (out .entry)) at (now (out .exit)) r ⌝ }
+{
+    if of_node(number) {
+        let next = write_number(out, at, b"node ", place as u64);
+        return write(out, next, b" ");
+    }
+    at
+}
+
+fn write_phrase(out: &mut [u8], at: usize, number: u32) -> usize
+    ensures { λ r. ⌜ Wrote (phrase number) (now (out .entry)) at (now (out .exit)) r ⌝ }
+{
+    match number {
+        4 => write(out, at, b"the output is too short"),
+        6 => write(out, at, b"is not the terminal that stands there in a diagram, with node 0's variable count"),
+        7 => write(out, at, b"there are more than 255 variables"),
+        8 => write(out, at, b"has a variable that is not below the variable count"),
+        9 => write(out, at, b"has a low link past the nodes"),
+        10 => write(out, at, b"has a high link past the nodes"),
+        11 => write(out, at, b"has a child that is not at a larger variable"),
+        12 => write(out, at, b"can't be reached from the root"),
+        16 => write(out, at, b"the count to reach is above the number of all valuations"),
+        19 => write(out, at, b"a constant can't be cut to a count between 0 and the number of all valuations"),
+        21 => write(out, at, b"a block is short or missing, or bytes stand after the last one"),
+        22 => write(out, at, b"a check sum is wrong"),
+        23 => write(out, at, b"a block number, a node count or the order of blocks is wrong"),
+        24 => write(out, at, b"unused bytes are not zero"),
+        25 => write(out, at, b"there are more than 120 nodes"),
+        _ => write(out, at, b"the input is refused"),
+    }
+}
+
+pub fn write_refusal(out: &mut [u8], number: u32, place: usize) -> usize
+    ensures { λ r. ⌜ Wrote (refusalText number place) (now (out .entry)) 0 (now (out .exit)) r ⌝ }
+{
+    let refused = write_refused(out, number, place);
+    let colon = write(out, refused, b": ");
+    let of = write_subject(out, colon, number, place);
+    let said = write_phrase(out, of, number);
+    put(out, said, 10)
+}

@@ -1,0 +1,24 @@
+use mathlib.Core.Path.{sym}
+use Rattle.shrinking.proofs.Answering.{is-done}
+use native.Mathlib.Omega.{arith}
+use borrow.Author.Needs.{needs}
+use Rattle.shrinking.proofs.answer.answer.Statement.{statement}
+use Rattle.shrinking.proofs.answer.answer.Tie as tie
+
+ask-requires : tie.Need-ask-requires
+ask-requires c κs = search needs
+
+obey-requires : tie.Need-obey-requires
+obey-requires c κs = search needs
+
+same-length : tie.Need-same-length
+same-length c = search needs
+
+same-length-2 : tie.Need-same-length-2
+same-length-2 c = search needs
+
+returns : tie.Need-returns
+returns c = is-done _ _ (sym (c .before .before .before .before .before .before .before .ask .ensures)) (c .before .before .before .before .obey .ensures)
+
+pub answer-spec : {M : Type 1} → statement M
+answer-spec = tie.close (tie.spec ask-requires obey-requires same-length same-length-2 returns)
