@@ -47,7 +47,7 @@ pub record Demand3 : Type 0 where
   -- nodes after the terminals are numbered on the way back, low branch first, root last: so a node stands after its children
   pub numbered : (w : List ℕ) → Ordered w → 2 ≤ size (reduce w) → Numbering (reduce w) 2 (root (reduce w)) (size (reduce w))
   pub after-children : (w : List ℕ) → Ordered w → (p : ℕ) → 2 ≤ p → p < size (reduce w) → (lowOf (reduce w) p < p) × (highOf (reduce w) p < p)
-  -- and no other array is so: with no low = high, no two equal nodes and this numbering, it is its own reduced array
+  -- and this says it all: an array with no low = high, no two equal nodes and this numbering is its own reduced array
   pub only : (w : List ℕ) → Ordered w → Lean w → Distinct w → 2 ≤ size w → Numbering w 2 (root w) (size w) → reduce w ≡ w
   -- false has one node, true two
   pub false-one : (w : List ℕ) → Always false w → reduce w ≡ vars w ∷ 0 ∷ 0 ∷ []
