@@ -7,8 +7,8 @@ use native.Mathlib.Omega.{arith}
 use lib.ListN.{length}
 use lib.Dec.{eqb}
 use borrow.Author.Tests.{ne-eqb}
-use Rattle.diagram.specs.Diagram.{varOf, lowOf, highOf, size, vars, root, tests, holds, Formed, Ordered}
-use Rattle.diagram.specs.Reading.{pass, eval}
+use Rattle.diagram.specs.Diagram.{varOf, lowOf, highOf, size, vars, root, holds, Formed, Ordered}
+use Rattle.diagram.specs.Reading.{tests, pass, eval}
 use Rattle.diagram.proofs.Tests.{by-test, by-eq}
 use Rattle.diagram.proofs.Reading.{layered, by-two, root-in, pass-tests, pass-ends, child-in, eval-nil, eval-cons, eval-ends, var-most, holds-is-eval}
 use Rattle.diagram.proofs.Meeting.{meet, meet-nil, meet-cons, meet-here, meets-is-meet}

@@ -5,7 +5,7 @@ use mathlib.Core.Bool.{Bool, true, false}
 use mathlib.Core.Logic.{_⊎_, inl, inr}
 use native.Mathlib.Omega.{arith}
 use Rattle.diagram.specs.Verdict.{any, first}
-use Rattle.diagram.specs.Valuations.{count}
+use Rattle.diagram.specs.Marking.{count}
 use Rattle.diagram.proofs.Tests.{by-test, by-eq, not-both, or-left, or-right, or-cases, cond-true, cond-false}
 
 pub count-hit : (n : ℕ) (t : ℕ → Bool) → t n ≡ true → count (suc n) t ≡ suc (count n t)

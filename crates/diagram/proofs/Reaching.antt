@@ -10,7 +10,7 @@ use borrow.Author.Tests.{le-leb, leb-true, eq-eqb, eqb-true}
 use lib.Dec.{leb, eqb}
 use Rattle.diagram.specs.Diagram.{lowOf, highOf, size, root, Reach, start, by-low, by-high, Formed}
 use Rattle.diagram.specs.Verdict.{any, isChild, reachedIn, reaches}
-use Rattle.diagram.specs.Valuations.{count}
+use Rattle.diagram.specs.Marking.{count}
 use Rattle.diagram.proofs.Tests.{or-left, or-right, or-cases, and-both, both-and}
 use Rattle.diagram.proofs.Count.{count-most, count-some, count-grows, any-intro, any-elim}
 

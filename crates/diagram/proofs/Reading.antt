@@ -11,8 +11,8 @@ use lib.ListN.{length, getD, drop, drop-of-length-le}
 use lib.Seq.{drop-cons}
 use lib.Dec.{eqb}
 use borrow.Author.Tests.{lt-ltb, le-ltb, le-leb, lt-leb, eq-eqb, ne-eqb}
-use Rattle.diagram.specs.Diagram.{varOf, lowOf, highOf, size, vars, root, tests, step, walk, holds, Ordered, Accepted}
-use Rattle.diagram.specs.Reading.{pass, eval}
+use Rattle.diagram.specs.Diagram.{varOf, lowOf, highOf, size, vars, root, step, walk, holds, Ordered, Accepted}
+use Rattle.diagram.specs.Reading.{tests, pass, eval}
 
 -- The first n nodes of w over v variables: terminals at v, other nodes below v with both children at larger variables.
 pub record Layer (w : List ℕ) (v n p : ℕ) : Type 0 where

@@ -1,10 +1,10 @@
 -- What a diagram is (document 01, "What a diagram is"). `w` is the list of its words.
 use Prim.Native.Nat.{ℕ, zero, suc, _+_, _-_, _*_, _/_, _≤_, _<_}
 use mathlib.Core.Path.{_≡_}
-use mathlib.Core.Bool.{Bool, false, cond, _&&_}
+use mathlib.Core.Bool.{Bool, false, cond}
 use mathlib.Core.List.{List}
 use lib.ListN.{length, getD}
-use lib.Dec.{leb, ltb, eqb}
+use lib.Dec.{ltb, eqb}
 use Rattle.diagram.specs.Limits.{maxNodes, maxVariables}
 
 -- Three words for a node: variable, low link, high link.
@@ -26,10 +26,6 @@ vars w = varOf w 0
 
 abbrev pub root : List ℕ → ℕ
 root w = size w - 1
-
--- Node p is no terminal and tests variable i.
-unfoldable pub tests : List ℕ → ℕ → ℕ → Bool
-tests w i p = leb 2 p && eqb (varOf w p) i
 
 -- A valuation is a list of bits, one for each variable. One step of its path: low for 0, high for 1; at a terminal,
 -- node 0 or 1, the path has ended.

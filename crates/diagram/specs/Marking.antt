@@ -1,6 +1,6 @@
 -- What the search for reachable nodes keeps in the working room. The marks of the n nodes stand at [0, n), a stack of
 -- nodes whose links have still to be followed at [n, 2n). Auxiliary: no promise to a caller names these.
-use Prim.Native.Nat.{ℕ, _+_, _*_, _≤_, _<_}
+use Prim.Native.Nat.{ℕ, zero, suc, _+_, _*_, _≤_, _<_}
 use mathlib.Core.Path.{_≡_}
 use mathlib.Core.Bool.{Bool, true, cond, not}
 use mathlib.Core.List.{List}
@@ -10,7 +10,11 @@ use lib.Dec.{eqb}
 use Rattle.diagram.specs.Limits.{maxNodes}
 use Rattle.diagram.specs.Diagram.{lowOf, highOf, size, root, Reach}
 use Rattle.diagram.specs.Verdict.{reaches, isAbove}
-use Rattle.diagram.specs.Valuations.{count}
+
+-- How many numbers below n pass a test.
+unfoldable pub count : ℕ → (ℕ → Bool) → ℕ
+count zero test = zero
+count (suc n) test = cond (test n) (suc (count n test)) (count n test)
 
 -- The nodes that have no mark yet.
 abbrev pub zeros : ℕ → List ℕ → ℕ

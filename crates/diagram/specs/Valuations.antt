@@ -7,11 +7,6 @@ use lib.Dec.{eqb}
 use Rattle.diagram.specs.Diagram.{vars, root, walk, holds}
 use Rattle.diagram.specs.Verdict.{any}
 
--- How many numbers below n pass a test.
-unfoldable pub count : ℕ → (ℕ → Bool) → ℕ
-count zero test = zero
-count (suc n) test = cond (test n) (suc (count n test)) (count n test)
-
 -- How many of the 2^k lists of k bits pass a test: those that begin with 0, and those that begin with 1.
 unfoldable pub tally : ℕ → (List Bool → Bool) → ℕ
 tally zero test = cond (test []) 1 0

@@ -14,7 +14,7 @@ use Rattle.diagram.specs.Valuations.{countOf}
 use Rattle.diagram.proofs.Tests.{by-eq}
 use Rattle.diagram.proofs.Reading.{by-two, accepted-ordered, path-ends, root-in}
 use Rattle.diagram.proofs.Tally.{tally-same, tally-not}
-use Rattle.negation.specs.Negation.{exchanged, negated}
+use Rattle.negation.specs.Negation.{exchanged, negated, Opposites}
 use Rattle.negation.proofs.Words.{exchanged-low, exchanged-high, ends, negated-false, negated-true, front, more-length, word-end, word-var, word-link, by-size}
 
 pub exchanged-twice : (x : ℕ) → exchanged (exchanged x) ≡ x
@@ -289,3 +289,6 @@ module _ (w : List ℕ) (a : Accepted w) where
       (λ e. e)
       (λ e. let x : size (vars w ∷ 0 ∷ 0 ∷ []) ≡ 2 = rw (negated-true w e) at h in absurd (omega arith))
       (λ m. omega (arith, same-size w f m))
+
+pub opposites : Opposites
+opposites = record { variables = negated-vars; opposite = negated-holds; accepted = negated-accepted; twice = negated-twice }

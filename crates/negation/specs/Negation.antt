@@ -1,12 +1,11 @@
--- Negation (document 01, port 5): constants exchange; else links 0 and 1 exchange and every node keeps its place. That the
--- result holds exactly where the diagram doesn't, is accepted again and negates to the diagram is in proofs/Meaning.antt.
+-- Negation (document 01, port 5): constants exchange; else links 0 and 1 exchange and every node keeps its place.
 use Prim.Native.Nat.{ℕ, _-_}
 use mathlib.Core.Path.{_≡_}
-use mathlib.Core.Bool.{cond}
+use mathlib.Core.Bool.{Bool, not, cond}
 use mathlib.Core.List.{List, [], _∷_, _++_}
 use lib.ListN.{length, take, drop}
 use lib.Dec.{ltb, eqb}
-use Rattle.diagram.specs.Diagram.{size, vars, Formed}
+use Rattle.diagram.specs.Diagram.{size, vars, holds, Formed, Accepted}
 use Rattle.diagram.specs.Verdict.{verdictOf, ifAccepted, Checked}
 use Rattle.diagram.specs.declared.verdict.Verdict.{Verdict}
 use Rattle.diagram.specs.declared.verdict.Output.the-variants.{Diagram}
@@ -38,6 +37,14 @@ pub record Negates (w before after out out′ : List ℕ) (verdict : Verdict) (c
   pub checked : Checked w (Diagram (length out)) before after verdict
   pub nodes : count ≡ ifAccepted (verdictOf w (Diagram (length out)) (length before)) (size (negated w)) 0
   pub result : out′ ≡ ifAccepted (verdictOf w (Diagram (length out)) (length before)) (over (negated w) out) out
+
+-- What is promised of the result (`opposites` of proofs/Meaning.antt): over the same variables it holds exactly where the
+-- diagram doesn't, it is accepted again, and it negates to the diagram's own words.
+pub record Opposites : Type 0 where
+  pub variables : (w : List ℕ) → Accepted w → vars (negated w) ≡ vars w
+  pub opposite : (w : List ℕ) → Accepted w → (bs : List Bool) → holds (negated w) bs ≡ not (holds w bs)
+  pub accepted : (w : List ℕ) → Accepted w → Accepted (negated w)
+  pub twice : (w : List ℕ) → Accepted w → negated (negated w) ≡ w
 
 -- For the code inside, which no promise to a caller names: how many nodes the result has, and what it is made from.
 unfoldable pub nodesOf : ℕ → ℕ

@@ -2,7 +2,7 @@
 -- proofs/Singletons.antt says of `is_valuation`, all of specs/Clauses.antt.
 use Prim.Native.Nat.{ℕ, zero, suc, _+_, _-_, _≤_, _<_}
 use mathlib.Core.Path.{_≡_, refl, sym, ap, _∙_, subst}
-use mathlib.Core.Logic.{_≢_, ⊎-elim}
+use mathlib.Core.Logic.{⊎-elim}
 use mathlib.Core.Bool.{Bool, true, false, cond, _&&_}
 use mathlib.Core.List.{List, [], _∷_, map}
 use native.Mathlib.Omega.{arith}
@@ -14,6 +14,7 @@ use Rattle.diagram.specs.Reading.{pass, eval}
 use Rattle.diagram.proofs.Tests.{by-eq, not-both}
 use Rattle.diagram.proofs.Reading.{layered, root-in, by-two, at-end, at-level, var-most, pass-tests, pass-skips, eval-nil, eval-cons, eval-ends, holds-is-eval}
 use Rattle.reduction.specs.Reduce.{reduce}
+use Rattle.reduction.specs.Demand3.{Lean, Distinct}
 use Rattle.reduction.proofs.Canonical.{demand3}
 use Rattle.queries.specs.Queries.{onlyChild, along, isClause, isValuation}
 use Rattle.queries.specs.Clauses.{Literal, one, nought, either, agrees, conjunction, Clause, Clauses}
@@ -182,8 +183,7 @@ module _ (w : List ℕ) (o : Ordered w) where
       (λ x. x ∙ sym (eqb-true q 1 (sym e ∙ eq-eqb p 1 x)))
       (λ n. by-eq q 1 (λ x. absurd (n (eqb-true p 1 (e ∙ eq-eqb q 1 x)))) (λ m. omega arith))
 
-  module _ (lean : (p : ℕ) → 2 ≤ p → p < size w → lowOf w p ≢ highOf w p)
-      (distinct : (p q : ℕ) → p < size w → q < size w → varOf w p ≡ varOf w q → lowOf w p ≡ lowOf w q → highOf w p ≡ highOf w q → p ≡ q) where
+  module _ (lean : Lean w) (distinct : Distinct w) where
     -- two nodes that stand for one function from variable i on are one node
     abbrev Alike : ℕ → ℕ → ℕ → ℕ → Type 0
     Alike j i p q = (bs : List Bool) → length bs ≡ j → eval w i p bs ≡ eval w i q bs
@@ -314,18 +314,16 @@ module _ (w : List ℕ) (o : Ordered w) where
 -- ---- on an array that reducing leaves as it is
 
 module _ (w : List ℕ) (o : Ordered w) (r : reduce w ≡ w) where
-  reduced-lean : (p : ℕ) → 2 ≤ p → p < size w → lowOf w p ≢ highOf w p
-  reduced-lean = subst (λ (x : List ℕ). (p : ℕ) → 2 ≤ p → p < size x → lowOf x p ≢ highOf x p) r (demand3 .lean w o)
+  is-lean : Lean w
+  is-lean = subst Lean r (demand3 .lean w o)
 
-  reduced-distinct : (p q : ℕ) → p < size w → q < size w → varOf w p ≡ varOf w q → lowOf w p ≡ lowOf w q → highOf w p ≡ highOf w q → p ≡ q
-  reduced-distinct =
-      subst (λ (x : List ℕ). (p q : ℕ) → p < size x → q < size x → varOf x p ≡ varOf x q → lowOf x p ≡ lowOf x q → highOf x p ≡ highOf x q → p ≡ q) r
-      (demand3 .distinct w o)
+  is-distinct : Distinct w
+  is-distinct = subst Distinct r (demand3 .distinct w o)
 
 pub clauses : Clauses
 clauses = record {
   clause-yes = clause-right;
   valuation-yes = valuation-count;
-  clause-no = λ w o r e c. not-both (isClause w) (clause-found w o (reduced-lean w o r) (reduced-distinct w o r) c) e;
-  valuation-no = λ w o r e c. not-both (isValuation w) (count-valuation w o (reduced-lean w o r) c) e;
+  clause-no = λ w o r e c. not-both (isClause w) (clause-found w o (is-lean w o r) (is-distinct w o r) c) e;
+  valuation-no = λ w o r e c. not-both (isValuation w) (count-valuation w o (is-lean w o r) c) e;
 }

@@ -10,10 +10,10 @@ use lib.ListN.{length, getD, set, take, drop, replicate, length-set, length-appe
 use lib.Seq.{getD-set-same, getD-set-other, drop-set-lt, drop-at, getD-at, getD-take, ext-getD, length-take-le}
 use borrow.Author.Tests.{le-leb, lt-leb, eq-eqb, ne-eqb}
 use Rattle.diagram.specs.Diagram.{varOf, size, vars, Formed}
-use Rattle.diagram.specs.Diagram.{tests}
-use Rattle.diagram.specs.Valuations.{count}
+use Rattle.diagram.specs.Reading.{tests}
+use Rattle.diagram.specs.Marking.{count}
 use Rattle.diagram.proofs.Count.{count-hit, count-miss, count-most}
-use Rattle.queries.specs.Queries.{nodesAt, table}
+use Rattle.queries.specs.Queries.{testing, nodesAt, table}
 
 -- ---- tables
 
@@ -51,6 +51,12 @@ count-none t = refl
 count-ends : (w : List ℕ) (c k : ℕ) → k ≤ 2 → count k (tests w c) ≡ 0
 count-ends w c zero h = count-none (tests w c)
 count-ends w c (suc k) h = count-miss k (tests w c) (tests-end w c k (omega arith)) ∙ count-ends w c k (omega arith)
+
+-- the definition, by the diagram's own test
+testing-count : (w : List ℕ) (c n : ℕ) → testing w c n ≡ count n (tests w c)
+unfolding testing count tests
+testing-count w c zero = refl
+testing-count w c (suc n) = rw (testing-count w c n) refl
 
 -- ---- the loop
 
@@ -125,8 +131,8 @@ module _ (w e d : List ℕ) (v : ℕ) (ev : v ≡ vars w) (fits : v ≤ length e
 
         counted : (c : ℕ) → count p (tests w c) ≡ nodesAt w c
         counted c = elim (ℕ-discrete p (size w)) [
-          | yes e′ ↦ ap (λ (k : ℕ). count k (tests w c)) e′
-          | no ne ↦ count-ends w c p (omega (arith, s .upto)) ∙ sym (count-ends w c (size w) (omega (arith, s .upto)))
+          | yes e′ ↦ ap (λ (k : ℕ). count k (tests w c)) e′ ∙ sym (testing-count w c (size w))
+          | no ne ↦ count-ends w c p (omega (arith, s .upto)) ∙ sym (testing-count w c (size w) ∙ count-ends w c (size w) (omega (arith, s .upto)))
         ]
 
         front : take (vars w) out ≡ table (vars w) (nodesAt w)

@@ -17,6 +17,7 @@ use Rattle.diagram.proofs.Tests.{by-eq, and-both, both-and}
 use Rattle.diagram.proofs.Reading.{layered, root-in, by-two, at-end}
 use Rattle.counts.specs.Worth.{worthOf, doublings}
 use Rattle.counts.proofs.Nodes.{worth-end, worth-node, total-valuations}
+use Rattle.reduction.specs.Demand3.{Lean}
 use Rattle.queries.specs.Queries.{onlyChild, along, every, isClause, isValuation}
 use Rattle.queries.proofs.SoleWalk.{every-at, every-all, only-low, only-high, only-none, only-in, along-start, along-node, along-inside}
 
@@ -98,7 +99,7 @@ module _ (w : List ℕ) (o : Ordered w) where
 
   -- ---- on an array with no low = high
 
-  module _ (lean : (p : ℕ) → 2 ≤ p → p < size w → lowOf w p ≢ highOf w p) where
+  module _ (lean : Lean w) where
     -- only node 0 is worth nothing
     worthless : (k p : ℕ) → p < size w → vars w ≤ varOf w p + k → worth p ≡ 0 → p ≡ 0
     worthless zero p h f e =

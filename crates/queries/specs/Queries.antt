@@ -4,15 +4,13 @@ use mathlib.Core.Path.{_≡_}
 use mathlib.Core.Bool.{Bool, true, cond, _&&_}
 use mathlib.Core.List.{List, [], _∷_, _++_}
 use lib.ListN.{length, drop}
-use lib.Dec.{ltb, eqb}
+use lib.Dec.{leb, ltb, eqb}
 use Rattle.diagram.specs.Diagram.{varOf, lowOf, highOf, size, vars, root}
-use Rattle.diagram.specs.Diagram.{tests}
-use Rattle.diagram.specs.Valuations.{count}
 use Rattle.diagram.specs.Verdict.{verdictOf, ifAccepted, Checked}
 use Rattle.diagram.specs.declared.verdict.Verdict.{Verdict}
 use Rattle.diagram.specs.declared.verdict.Output.the-variants.{Nothing, PerVariable}
 
--- Where one link of a node goes to node 0, the other; where neither does, node 0.
+-- Where one link of a node goes to node 0, the other; where neither does, node 0, so that a walk ends there with a no.
 unfoldable pub onlyChild : List ℕ → ℕ → ℕ
 onlyChild w p = cond (eqb (lowOf w p) 0) (highOf w p) (cond (eqb (highOf w p) 0) (lowOf w p) 0)
 
@@ -35,9 +33,14 @@ isClause w = eqb (along w (vars w)) 1
 abbrev pub isValuation : List ℕ → Bool
 isValuation w = isClause w && every (vars w) (λ i. eqb (varOf w (along w i)) i)
 
--- How many nodes test a variable; for each of the first k variables.
+-- How many of the first n nodes test a variable, of which terminals test none; how many of all; and that for each of the
+-- first k variables.
+unfoldable pub testing : List ℕ → ℕ → ℕ → ℕ
+testing w c zero = zero
+testing w c (suc p) = cond (leb 2 p && eqb (varOf w p) c) (suc (testing w c p)) (testing w c p)
+
 abbrev pub nodesAt : List ℕ → ℕ → ℕ
-nodesAt w c = count (size w) (tests w c)
+nodesAt w c = testing w c (size w)
 
 unfoldable pub table : ℕ → (ℕ → ℕ) → List ℕ
 table zero f = []

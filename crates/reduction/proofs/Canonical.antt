@@ -22,6 +22,7 @@ use Rattle.reduction.proofs.Reached.{canon-last, canon-reach}
 use Rattle.reduction.proofs.Numbering.{canon-numbers}
 use Rattle.reduction.proofs.Graph.{own-terminal, reduce-own}
 use Rattle.reduction.proofs.Count.{count}
+use Rattle.reduction.proofs.Only.{reduce-only}
 use Rattle.reduction.proofs.Fewest.{Closed, own-fits, store-fits}
 
 -- ---- a sound store whose last node is the root and reaches all is an accepted diagram
@@ -338,6 +339,7 @@ demand3 = record {
   fewest = reduce-fewest;
   numbered = reduce-numbered;
   after-children = reduce-after;
+  only = reduce-only;
   false-one = reduce-never;
   true-two = reduce-always;
 }

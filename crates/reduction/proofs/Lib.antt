@@ -7,6 +7,7 @@
 --     Graph         building a node of a diagram: the recursion that code follows
 --     Count         counting marks
 --     Fewest        the store has no more nodes than the diagram
+--     Only          no other array is reduced
 --     Canonical     what is promised of reduction
 --     Chains        look-up by chains of nodes with the same key
 --     Tables        the store's words and the memo as tables
@@ -23,6 +24,7 @@ pub mod Numbering
 pub mod Graph
 pub mod Count
 pub mod Fewest
+pub mod Only
 pub mod Canonical
 pub mod Chains
 pub mod Tables

@@ -8,8 +8,8 @@ use mathlib.Core.List.{List, [], _∷_, _++_}
 use native.Mathlib.Omega.{arith}
 use native.Mathlib.Decide.{decLt}
 use lib.ListN.{length}
-use Rattle.diagram.specs.Diagram.{varOf, tests}
-use Rattle.diagram.specs.Reading.{pass, eval}
+use Rattle.diagram.specs.Diagram.{varOf}
+use Rattle.diagram.specs.Reading.{tests, pass, eval}
 use Rattle.diagram.proofs.Reading.{Layered, by-two, pass-tests, pass-skips, pass-in, eval-nil, eval-cons}
 use Rattle.reduction.specs.Reduce.{Node, node, words, find, Built, built, join, half, canon, terminals}
 use Rattle.reduction.specs.Build.{at, Whole, Sound, Ready}
