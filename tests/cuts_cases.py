@@ -8,8 +8,10 @@
 Refusals, and what is left in output and room, come from 01 alone; nodes, trials and words from the Rust text
 (bench/rust_text/examples/stored_cuts.rs, which says how trials are counted). The reading cuts nodes of dictionaries and
 reduces by recursion; weights come from chances (weights_cases.py)."""
+import glob
 import os
 import random
+import re
 import subprocess
 import sys
 
@@ -281,6 +283,16 @@ def by_hand():
         yield exact(letter, count_words(target), terminals(2) + [1, 0, 0, 0, 2, 2])
 
 
+def of_edits():
+    """The smallest requests that the programs of the must-fail edits answer wrongly, as the edits' own lines say them."""
+    said = re.compile(r'wrong on: (under|over) (by|to size|to count) \[?([0-9, ]*)\]? of ([0-9 ]+):')
+    for name in sorted(glob.glob(os.path.join(HERE, '..', 'crates', '*', 'must-fail', '*.edit'))):
+        for side, kind, target, words in said.findall(open(name).read()):
+            target = [int(x) for x in target.replace(',', ' ').split()]
+            letter = {'by': 'uo', 'to size': 'st', 'to count': 'cd'}[kind][side == 'over']
+            yield exact(letter, count_words(*target) if letter in 'cd' else target, [int(x) for x in words.split()])
+
+
 def lists(rng, n):
     """Lists of non-terminals, now and then with the root, repeats or a terminal."""
     yield []
@@ -339,7 +351,7 @@ def requests(rng, words, targets, sizes, some):
 def cases():
     """Each request once."""
     seen = set()
-    for case in [*by_hand(), *at_random()]:
+    for case in [*by_hand(), *of_edits(), *at_random()]:
         line = request(*case)
         if case[0] in LETTERS and line not in seen:
             seen.add(line)

@@ -67,7 +67,7 @@ pub record UnderCount (w : List ℕ) (k : ℕ) (a : Answer) : Type 0 where
   pub same : 0 < k → countOf w ≤ k → a ≡ answer w 0
   pub search : 0 < k → k < countOf w → CountRules w k 0 (countOf w - k) 0 a
 
--- From above: k at or below the count gives the input words; all valuations that are not held already give true; otherwise
+-- From above: k at or below the count gives the input words; k = 2^v, where it is above the count, gives true; otherwise
 -- k − count is to remove from the negation, whose target is its count less that.
 pub record OverCount (w : List ℕ) (k : ℕ) (a : Answer) : Type 0 where
   pub same : k ≤ countOf w → a ≡ answer w 0
