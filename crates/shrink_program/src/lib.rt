@@ -28,14 +28,6 @@ fn blank_input() -> [u8; INPUT] {
     [0u8; INPUT]
 }
 
-fn blank_file() -> [u8; FILE] {
-    [0u8; FILE]
-}
-
-fn blank_text() -> [u8; TEXT] {
-    [0u8; TEXT]
-}
-
 fn blank_word() -> [u8; WORD] {
     [0u8; WORD]
 }
@@ -63,8 +55,8 @@ fn deliver(file: &[u8], text: &[u8], ends: Ends) {
 fn run(count: usize, direction: &[u8], kind: &[u8], number: &[u8], bytes: &[u8]) -> Ends
     ensures { λ r. ⌜ Answered count (now (direction .entry)) (now (kind .entry)) (now (number .entry)) (now (bytes .entry)) (r .file) (r .text) ⌝ }
 {
-    let mut file = blank_file();
-    let mut text = blank_text();
+    let mut file = [0u8; FILE];
+    let mut text = [0u8; TEXT];
     let ends = answer(
         count, direction, kind, number, bytes, &mut file, &mut text,
     );
