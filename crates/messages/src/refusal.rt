@@ -35,18 +35,42 @@ fn write_phrase(out: &mut [u8], at: usize, number: u32) -> usize
 {
     match number {
         4 => write(out, at, b"the output is too short"),
-        6 => write(out, at, b"is not the terminal that stands there in a diagram, with node 0's variable count"),
+        6 => write(
+            out,
+            at,
+            b"is not the terminal that stands there in a diagram, with node 0's variable count",
+        ),
         7 => write(out, at, b"there are more than 255 variables"),
-        8 => write(out, at, b"has a variable that is not below the variable count"),
+        8 => write(
+            out,
+            at,
+            b"has a variable that is not below the variable count",
+        ),
         9 => write(out, at, b"has a low link past the nodes"),
         10 => write(out, at, b"has a high link past the nodes"),
         11 => write(out, at, b"has a child that is not at a larger variable"),
         12 => write(out, at, b"can't be reached from the root"),
-        16 => write(out, at, b"the count to reach is above the number of all valuations"),
-        19 => write(out, at, b"a constant can't be cut to a count between 0 and the number of all valuations"),
-        21 => write(out, at, b"a block is short or missing, or bytes stand after the last one"),
+        16 => write(
+            out,
+            at,
+            b"the count to reach is above the number of all valuations",
+        ),
+        19 => write(
+            out,
+            at,
+            b"a constant can't be cut to a count between 0 and the number of all valuations",
+        ),
+        21 => write(
+            out,
+            at,
+            b"a block is short or missing, or bytes stand after the last one",
+        ),
         22 => write(out, at, b"a check sum is wrong"),
-        23 => write(out, at, b"a block number, a node count or the order of blocks is wrong"),
+        23 => write(
+            out,
+            at,
+            b"a block number, a node count or the order of blocks is wrong",
+        ),
         24 => write(out, at, b"unused bytes are not zero"),
         25 => write(out, at, b"there are more than 120 nodes"),
         _ => write(out, at, b"the input is refused"),

@@ -6,17 +6,29 @@ ghost use Rattle.messages.specs.Texts.{helpText, unknownText, whichText}
 pub fn write_help(out: &mut [u8]) -> usize
     ensures { λ r. ⌜ Wrote helpText (now (out .entry)) 0 (now (out .exit)) r ⌝ }
 {
-    write(out, 0, b"shrink keep size N       at most N nodes: cases are added until it fits\nshrink keep cases N      at least N cases\nshrink keep hex N        at least N cases, N in hexadecimal as weigh prints it\nshrink suppress size N   at most N nodes: cases are lost until it fits\nshrink suppress cases N  at most N cases\nshrink suppress hex N    at most N cases, N in hexadecimal as weigh prints it\nReads a block file on standard input and writes it cut to fit to standard output, the summary to standard error.\nkeep only adds cases, suppress only loses them. Numbers are decimal but for hex, with no zeros in front.\n")
+    write(
+        out,
+        0,
+        b"shrink keep size N       at most N nodes: cases are added until it fits\nshrink keep cases N      at least N cases\nshrink keep hex N        at least N cases, N in hexadecimal as weigh prints it\nshrink suppress size N   at most N nodes: cases are lost until it fits\nshrink suppress cases N  at most N cases\nshrink suppress hex N    at most N cases, N in hexadecimal as weigh prints it\nReads a block file on standard input and writes it cut to fit to standard output, the summary to standard error.\nkeep only adds cases, suppress only loses them. Numbers are decimal but for hex, with no zeros in front.\n",
+    )
 }
 
 pub fn write_unknown(out: &mut [u8]) -> usize
     ensures { λ r. ⌜ Wrote unknownText (now (out .entry)) 0 (now (out .exit)) r ⌝ }
 {
-    write(out, 0, b"shrink: the words are keep or suppress, size or cases or hex, and a number; shrink alone prints its help\n")
+    write(
+        out,
+        0,
+        b"shrink: the words are keep or suppress, size or cases or hex, and a number; shrink alone prints its help\n",
+    )
 }
 
 pub fn write_which(out: &mut [u8]) -> usize
     ensures { λ r. ⌜ Wrote whichText (now (out .entry)) 0 (now (out .exit)) r ⌝ }
 {
-    write(out, 0, b"shrink: count does not say which base its number is in: write cases for decimal, hex for hexadecimal\n")
+    write(
+        out,
+        0,
+        b"shrink: count does not say which base its number is in: write cases for decimal, hex for hexadecimal\n",
+    )
 }

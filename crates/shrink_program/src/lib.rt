@@ -57,9 +57,7 @@ fn run(count: usize, direction: &[u8], kind: &[u8], number: &[u8], bytes: &[u8])
 {
     let mut file = [0u8; FILE];
     let mut text = [0u8; TEXT];
-    let ends = answer(
-        count, direction, kind, number, bytes, &mut file, &mut text,
-    );
+    let ends = answer(count, direction, kind, number, bytes, &mut file, &mut text);
     deliver(&file, &text, ends);
     ends
 }

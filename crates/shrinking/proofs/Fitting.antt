@@ -137,10 +137,9 @@ ends-whole m s {file} {left} {text} {text′} {end} {text-end} lent roomy h =
     let g : Shrinks d file left text text′ end text-end = rw lent at h in
     let l : 0 + length (textBytes d) ≤ length text = omega (arith, text-fits m s fileBuffer) in
     let e : length (textBytes d) ≡ text-end = omega (arith, wrote-place (g .told) l) in
-    let f : text′ ≡ textBytes d ++ drop (0 + length (textBytes d)) text = wrote-fits (g .told) l in
-    (
+    let f : text′ ≡ textBytes d ++ drop (0 + length (textBytes d)) text = wrote-fits (g .told) l in (
       g .stored-end,
       sym e,
       ap (take end) (g .stored) ∙ take-at (fileBytes d) (drop (length (fileBytes d)) file) end (sym (g .stored-end)),
-      ap (take text-end) f ∙ take-at (textBytes d) (drop (0 + length (textBytes d)) text) text-end e
+      ap (take text-end) f ∙ take-at (textBytes d) (drop (0 + length (textBytes d)) text) text-end e,
     )

@@ -8,8 +8,8 @@ use blocks::layout::BLOCK;
 use blocks::layout::MOST;
 use blocks::layout::NODES;
 use blocks::stored::Stored;
-use diagram::verdict::Verdict;
 use diagram::limits::ROOM_PER_NODE;
+use diagram::verdict::Verdict;
 use messages::refusal::write_refusal;
 use request::Target;
 ghost use mathlib.Core.Path.{_≡_};
@@ -60,7 +60,12 @@ fn hand_out(
 }
 
 // Cuts a diagram as requested.
-pub(crate) fn shrink_diagram(words: &[u32], target: Target, file: &mut [u8], text: &mut [u8]) -> Ends
+pub(crate) fn shrink_diagram(
+    words: &[u32],
+    target: Target,
+    file: &mut [u8],
+    text: &mut [u8],
+) -> Ends
     ensures { λ r. ⌜ Shrinks (diagramDone (target .keep) (aimOf target) (now (words .entry)) (length (now (file .entry)))) (now (file .entry)) (now (file .exit)) (now (text .entry)) (now (text .exit)) (r .file) (r .text) ⌝ }
 {
     let mut output = [0u32; WORDS];
