@@ -42,32 +42,40 @@ def writer(words, lent):
     return ('nodes', n), b''.join(write(words))
 
 
-def reader(data, output):
-    """(answer, output afterwards): block by block, each tested in document 01's order."""
+def one(b, due, stated, output):
+    """(answer, output afterwards) for the block due, tested in document 01's order; `stated` is what block 0 stated."""
     output = list(output)
+    b = b[:512]
+    if len(b) < 512:
+        return ('refused', 21, due), output
+    if sums(b[:508]) != b[508:]:
+        return ('refused', 22, due), output
+    number, held = struct.unpack('<HH', b[:4])
+    total, = struct.unpack('<I', b[504:508])
+    if number != due or total == 0 or (due > 0 and total != stated) or held == 0 or held != min(50, total - 50 * due):
+        return ('refused', 23, due), output
+    if total > 120:
+        return ('refused', 25, due), output
+    if any(b[4 + 10 * held:504]):
+        return ('refused', 24, due), output
+    if 150 * due + 3 * held > len(output):
+        return ('refused', 4, due), output
+    for i in range(held):
+        at = 150 * due + 3 * i
+        output[at:at + 3] = struct.unpack('<HII', b[4 + 10 * i:14 + 10 * i])
+    return ('nodes', total), output
+
+
+def reader(data, output):
+    """(answer, output afterwards): block by block."""
     due, stated = 0, None
     while True:
-        b = data[512 * due:512 * due + 512]
-        if len(b) < 512:
-            return ('refused', 21, due), output
-        if sums(b[:508]) != b[508:]:
-            return ('refused', 22, due), output
-        number, held = struct.unpack('<HH', b[:4])
-        total, = struct.unpack('<I', b[504:508])
-        if number != due or total == 0 or (stated is not None and total != stated) or held != min(50, total - 50 * due):
-            return ('refused', 23, due), output
-        if total > 120:
-            return ('refused', 25, due), output
-        if any(b[4 + 10 * held:504]):
-            return ('refused', 24, due), output
-        if 150 * due + 3 * held > len(output):
-            return ('refused', 4, due), output
-        for i in range(held):
-            at = 150 * due + 3 * i
-            output[at:at + 3] = struct.unpack('<HII', b[4 + 10 * i:14 + 10 * i])
-        stated, due = total, due + 1
-        if 50 * due >= total:
+        answer, output = one(data[512 * due:], due, stated, output)
+        if answer[0] == 'refused':
+            return answer, output
+        stated, due = answer[1], due + 1
+        if 50 * due >= stated:
             break
     if len(data) > 512 * due:
         return ('refused', 21, due), output
-    return ('nodes', total), output
+    return ('nodes', stated), output

@@ -100,6 +100,32 @@ def files():
     yield wide, 120
     two = [many[0][:504] + (100).to_bytes(4, 'little')]
     yield resummed(two[0]), 400
+    yield a[0] + resummed(changed(a[1], 0, 0)), 153                 # a smaller block number, all else right
+    yield a[0] + block.write([1, 2, 3] * 52)[1], 156                # a larger total, which block 1 would hold in its own file
+    yield block.block(0, 50, block.split([1, 2, 3] * 50), 2 ** 24 + 5), 400     # byte 507 counts in both sums
+    # two tests fail at once, and the first of them is said
+    yield changed(one, 508, one[508] ^ 1), 0                        # 22 and 4
+    yield b''.join(many), 0                                         # 25 and 4
+    yield resummed(changed(one, 503, 1)), 2                         # 24 and 4
+    yield resummed(changed(many[0], 2, 49)), 0                      # 23, 25 and 4
+    yield resummed(changed(changed(one, 2, 2), 503, 1)), 0          # 23, 24 and 4
+
+
+def single_blocks():
+    """A block alone: its bytes, its number, what block 0 stated, and the length of the output."""
+    many, right = block.write([1, 2, 3] * 121), block.write(some(120))
+    for number in (1, 2):
+        yield many[number], number, 121, 400                        # 25 at a later block
+        yield right[number], number, 120, 360
+        yield right[number], number, 119, 360
+        yield right[number], number, 120, 150 * number
+        yield right[number], 0, 120, 360
+        yield right[number][:511], number, 120, 360
+        yield changed(right[number], 511, right[number][511] ^ 1), number, 120, 0
+    yield resummed(changed(many[2], 503, 1)), 2, 121, 0             # 25, 24 and 4
+    yield resummed(changed(right[2], 503, 1)), 2, 120, 0            # 24 and 4
+    yield resummed(changed(right[2], 504, 121)), 2, 121, 400        # 23 and 25
+    yield right[0], 0, 7, 360                                       # block 0 has nothing to agree with
 
 
 def words_to_write():
@@ -146,6 +172,10 @@ def main():
     for data, lent in files():
         answer, output = block.reader(data, [9] * lent)
         cases.append([0, lent, 9, *data])
+        answers.append(' '.join([said(answer), *map(str, output)]) + '\n')
+    for data, number, stated, lent in single_blocks():
+        answer, output = block.one(data, number, stated, [9] * lent)
+        cases.append([6, lent, 9, number, stated, *data])
         answers.append(' '.join([said(answer), *map(str, output)]) + '\n')
     for words, lent in words_to_write():
         answer, data = block.writer(words, lent)

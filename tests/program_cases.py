@@ -1,4 +1,4 @@
-"""Writes tests/programs: for each case NAME.call (the program and its words), NAME.in, NAME.out and NAME.err, which
+"""Writes tests/programs: for each case NAME.call (the program and its words, one to a line), NAME.in, NAME.out and NAME.err, which
 tests/programs.sh holds the built programs to. Block files by block.py, reports by blocks_cases.py, cuts by cuts_cases.py:
 readings of document 01 that share nothing with the code.
 
@@ -12,14 +12,25 @@ from diagram_cases import D
 from reading import nodes
 
 FOLDER = os.path.join(os.path.dirname(os.path.abspath(__file__)), 'programs')
-UNKNOWN = b'shrink: the words are keep or suppress, size or count, and a number; shrink alone prints its help\n'
-HELP = b"""shrink keep size NODES
-shrink keep count CASES
-shrink suppress size NODES
-shrink suppress count CASES
-Reads a block file, writes it cut to fit. keep only adds cases, suppress only loses them.
-NODES is decimal, CASES lower-case hexadecimal, no zeros in front. The summary goes to standard error.
+UNKNOWN = b'shrink: the words are keep or suppress, size or cases or hex, and a number; shrink alone prints its help\n'
+WHICH = b'shrink: count does not say which base its number is in: write cases for decimal, hex for hexadecimal\n'
+HELP = b"""shrink keep size N       at most N nodes: cases are added until it fits
+shrink keep cases N      at least N cases
+shrink keep hex N        at least N cases, N in hexadecimal as weigh prints it
+shrink suppress size N   at most N nodes: cases are lost until it fits
+shrink suppress cases N  at most N cases
+shrink suppress hex N    at most N cases, N in hexadecimal as weigh prints it
+Reads a block file on standard input and writes it cut to fit to standard output, the summary to standard error.
+keep only adds cases, suppress only loses them. Numbers are decimal but for hex, with no zeros in front.
 """
+SENTENCES = {
+    6: "node %d is not the terminal that stands there in a diagram, with node 0's variable count", 7: 'there are more than 255 variables',
+    8: 'node %d has a variable that is not below the variable count', 9: 'node %d has a low link past the nodes',
+    10: 'node %d has a high link past the nodes', 11: 'node %d has a child that is not at a larger variable', 12: "node %d can't be reached from the root",
+    16: 'the count to reach is above the number of all valuations', 19: "a constant can't be cut to a count between 0 and the number of all valuations",
+    21: 'a block is short or missing, or bytes stand after the last one', 22: 'a check sum is wrong',
+    23: 'a block number, a node count or the order of blocks is wrong', 24: 'unused bytes are not zero', 25: 'there are more than 120 nodes',
+}
 FALSE, TRUE = [3, 0, 0], [3, 0, 0, 3, 1, 1]
 
 
@@ -27,22 +38,37 @@ def file_of(words):
     return b''.join(block.write(words))
 
 
+def refused(number, place):
+    sentence = SENTENCES[number]
+    return b'', ('refused %d at %d: %s\n' % (number, place, sentence % place if '%d' in sentence else sentence)).encode()
+
+
+def twice(n):
+    return '%d (hex %x)' % (n, n)
+
+
 def shrunk(direction, kind, target, data):
     """Standard output and standard error."""
     answer, output = block.reader(data, [0] * 360)
     if answer[0] == 'refused':
-        return b'', b'refused %d at %d\n' % answer[1:]
+        return refused(*answer[1:])
     words = output[:3 * answer[1]]
-    letter = {('suppress', 'size'): 's', ('keep', 'size'): 't', ('suppress', 'count'): 'c', ('keep', 'count'): 'd'}[direction, kind]
-    wanted = [target] if kind == 'size' else count_words(target)
+    counted = kind != 'size'
+    letter = {('suppress', False): 's', ('keep', False): 't', ('suppress', True): 'c', ('keep', True): 'd'}[direction, counted]
+    wanted = count_words(target) if counted else [target]
     said = refusal(letter, wanted, words, 64 * 120, 360)
     if said[0] == 'refused':
-        return b'', b'refused %d at %d\n' % said[1:]
+        return refused(*said[1:])
     made, trials = cuts(letter, wanted, words)
     old, new = count(nodes(words)), count(made)
-    changed_by = ('added', new - old) if direction == 'keep' else ('lost', old - new)
-    text = 'nodes %d to %d\ncount %x to %x\n%s %x\ntrials %d\n' % ((len(words) // 3, len(made), old, new) + changed_by + (trials,))
-    return file_of(flat(made)), text.encode()
+    most = 'at least' if counted and direction == 'keep' else 'at most'
+    lines = ['target %s %d cases (hex %x)' % (most, target, target) if counted else 'target %s %d nodes' % (most, target)]
+    if (new < target if most == 'at least' else new > target) if counted else len(made) > target:
+        assert not counted
+        lines.append('target not met: %d nodes' % len(made))
+    lines += ['nodes %d to %d' % (len(words) // 3, len(made)), 'cases %s to %s' % (twice(old), twice(new)),
+              ('added ' if direction == 'keep' else 'lost ') + twice(new - old if direction == 'keep' else old - new), 'trials %d' % trials]
+    return file_of(flat(made)), ('\n'.join(lines) + '\n').encode()
 
 
 def weighed():
@@ -55,15 +81,58 @@ def weighed():
     }
 
 
+def wide():
+    """A diagram over 255 variables that holds for half of all valuations: x254."""
+    return [255, 0, 0, 255, 1, 1, 254, 0, 1]
+
+
+def broken():
+    """A file for each refusal that can come up, and the words of a request."""
+    d, big = file_of(D), file_of(chain(120))
+    ends = TRUE
+    diagrams = {6: [3, 0, 0, 3, 1, 2], 7: [256, 0, 0, 256, 1, 1], 8: ends + [3, 0, 1], 9: ends + [0, 3, 1], 10: ends + [0, 0, 3], 11: ends + [0, 2, 1],
+                12: ends + [2, 0, 1, 1, 0, 1]}
+    for number, words in diagrams.items():
+        yield number, 'keep', 'size', 4, file_of(words)
+    yield 16, 'keep', 'cases', 9, d
+    yield 19, 'suppress', 'cases', 4, file_of(TRUE)
+    yield 19, 'keep', 'hex', 4, file_of(FALSE)
+    yield 21, 'keep', 'size', 4, b''
+    yield 21, 'suppress', 'size', 4, d[:511]
+    yield 21, 'keep', 'size', 4, d + b'\0'
+    yield 21, 'keep', 'size', 4, big + bytes(512)
+    yield 22, 'suppress', 'cases', 1, changed(d, 508, 0)
+    yield 22, 'keep', 'size', 4, big[:512] + changed(big[512:1024], 9, 7) + big[1024:]
+    yield 23, 'keep', 'size', 4, resummed(changed(d, 0, 1))
+    yield 24, 'keep', 'size', 4, resummed(changed(d, 503, 1))
+    yield 25, 'keep', 'size', 4, b''.join(block.write(chain(121)))
+
+
 def asked():
-    """The words of a request, and the file: those that are understood, and the others."""
+    """The words of a request, and the file: those that are understood, and the others with what is said."""
     d = file_of(D)
-    requests = [(a, b, t, d) for a in ('keep', 'suppress') for b, ts in (('size', (0, 1, 2, 3, 4, 5, 40)), ('count', (0, 1, 4, 5, 6, 8, 9))) for t in ts]
+    requests = [(a, 'size', t, d) for a in ('keep', 'suppress') for t in (0, 1, 2, 3, 4, 5, 40, 2 ** 32 - 1)]
+    requests += [(a, b, t, d) for a in ('keep', 'suppress') for b in ('cases', 'hex') for t in (0, 1, 4, 5, 6, 8, 10)]
     requests += [(a, 'size', 40, file_of(chain(n))) for a in ('keep', 'suppress') for n in (50, 100, 120)]
-    requests += [('keep', 'count', 2 ** 64, file_of(chain(120))), ('suppress', 'count', 4, file_of(TRUE)), ('keep', 'count', 4, file_of(FALSE)), ('keep', 'size', 1, file_of(FALSE))]
-    requests += [('keep', 'size', 4, b''), ('suppress', 'count', 1, changed(d, 508, 0)), ('keep', 'size', 4, d + b'\0'), ('suppress', 'size', 4, file_of([3, 0, 0, 3, 1, 2]))]
-    others = ['', 'keep', 'keep size', 'keep size 4 5', 'grow size 4', 'suppress sise 4', 'keep size 04', 'keep size -1', 'keep size 1f', 'keep size 4294967296', 'keep count 1F', 'keep count 0x6',
-              'suppress count 00', 'Keep size 4', 'keep count 1' + 64 * '0']
+    requests += [('keep', b, 2 ** 64, file_of(chain(120))) for b in ('cases', 'hex')]
+    requests += [(a, b, t, file_of(wide())) for a in ('keep', 'suppress') for b in ('cases', 'hex') for t in (2 ** 253 + 1, 2 ** 254 + 2 ** 128 + 7, 2 ** 255)]
+    requests += [('keep', 'size', 1, file_of(FALSE)), ('keep', 'size', 0, file_of(FALSE)), ('suppress', 'size', 0, file_of(FALSE))]
+    seen = set()
+    for number, *request in broken():
+        seen.add(number)
+        assert shrunk(*request)[1].startswith(b'refused %d at ' % number), (number, shrunk(*request))
+        requests.append(tuple(request))
+    assert seen == set(SENTENCES)
+    others = [([], HELP)]
+    others += [(w.split(), UNKNOWN) for w in (
+        'keep', 'keep size', 'keep size 4 5', 'grow size 4', 'suppress sise 4', 'keep size 04', 'keep size -1', 'keep size 1f', 'keep size 4294967296',
+        'keep hex 1F', 'keep hex 0x6', 'suppress hex 00', 'Keep size 4', 'keep hex 1' + 64 * '0', 'keep cases 1f', 'keep cases 06', 'keep cases ' + str(2 ** 256),
+        'suppress cases +5', 'keep keep 4', 'size keep 4')]
+    others += [(w, UNKNOWN) for w in (['', 'size', '4'], ['keep', '', '4'], ['keep', 'size', ''], ['', '', ''], ['keep', 'cases', ''], ['keep', 'size', ' 4'], [''])]
+    # words longer than the program looks at, also where their first bytes would be taken
+    others += [(w, UNKNOWN) for w in (['keep', 'size', 81 * '4'], ['keep', 'cases', 79 * '0' + '55'], ['keep' + 100 * 'p', 'size', '4'], ['keep', 'size' + 77 * 'e', '4'], ['keep', 'size', 4000 * '1'])]
+    others += [(w.split(), WHICH) for w in ('keep count 6', 'suppress count 1f', 'keep count x')]
+    others += [(['keep', 'count', ''], WHICH), ('grow count 6'.split(), UNKNOWN), ('keep count'.split(), UNKNOWN)]
     return requests, others
 
 
@@ -71,15 +140,15 @@ def main():
     os.makedirs(FOLDER, exist_ok=True)
     for old in os.listdir(FOLDER):
         os.remove(os.path.join(FOLDER, old))
-    cases = [(name, 'weigh', data, report(data).encode(), b'') for name, data in weighed().items()]
+    cases = [(name, ['weigh'], data, report(data).encode(), b'') for name, data in weighed().items()]
     requests, others = asked()
     for i, (direction, kind, target, data) in enumerate(requests):
-        words = 'shrink %s %s %s' % (direction, kind, target if kind == 'size' else '%x' % target)
-        cases.append(('shrink-%02d-%s-%s' % (i, direction, kind), words, data) + shrunk(direction, kind, target, data))
-    for i, words in enumerate(others):
-        cases.append(('shrink-words-%02d' % i, ('shrink ' + words).strip(), file_of(D), b'' if words else HELP, UNKNOWN if words else b''))
+        words = ['shrink', direction, kind, '%x' % target if kind == 'hex' else '%d' % target]
+        cases.append(('shrink-%03d-%s-%s' % (i, direction, kind), words, data) + shrunk(direction, kind, target, data))
+    for i, (words, said) in enumerate(others):
+        cases.append(('shrink-words-%02d' % i, ['shrink'] + words, file_of(D), b'', said))
     for name, call, data, out, err in cases:
-        for end, text in (('call', call.encode() + b'\n'), ('in', data), ('out', out), ('err', err)):
+        for end, text in (('call', ''.join(word + '\n' for word in call).encode()), ('in', data), ('out', out), ('err', err)):
             with open(os.path.join(FOLDER, name + '.' + end), 'wb') as f:
                 f.write(text)
     print(len(cases), 'cases')

@@ -8,14 +8,25 @@ made=$(mktemp -d) || exit 2
 passed=0 failed=0
 for call in *.call; do
     name=${call%.call}
-    read -r program words < "$call"
-    # shellcheck disable=SC2086
-    "$programs/$program" $words < "$name.in" > "$made/out" 2> "$made/err"
+    mapfile -t words < "$call"
+    "$programs/${words[0]}" "${words[@]:1}" < "$name.in" > "$made/out" 2> "$made/err"
     if cmp -s "$made/out" "$name.out" && cmp -s "$made/err" "$name.err"; then
         passed=$((passed + 1))
     else
         failed=$((failed + 1))
-        echo "programs: $name: $(cat "$call"): not what tests/programs has"
+        echo "programs: $name: ${words[*]}: not what tests/programs has"
+    fi
+done
+# Words that ask for no cut are answered without waiting for an input: here none ever comes.
+mkfifo "$made/never" || exit 2
+for call in 'shrink' 'shrink keep count 6' 'shrink keep'; do
+    # shellcheck disable=SC2086
+    timeout 5 "$programs/"$call <> "$made/never" > "$made/out" 2> "$made/err"
+    if [ ! -s "$made/out" ] && [ -s "$made/err" ]; then
+        passed=$((passed + 1))
+    else
+        failed=$((failed + 1))
+        echo "programs: $call: it waits for an input, or writes a file"
     fi
 done
 # Where standard output takes nothing, the one line that says so.

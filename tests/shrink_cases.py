@@ -19,6 +19,6 @@ def case(crate, words, answer):
 # C8: over to size 4.
 case('shrink', ['keep', 'size', '4'], C5)
 # As C9, under to count 4: the first cut has count 2.
-case('shrink_suppress_run', ['suppress', 'count', '2'], C4)
+case('shrink_suppress_run', ['suppress', 'cases', '4'], C4)
 # A zero in front.
 case('shrink_refused_run', ['keep', 'size', '04'], [])

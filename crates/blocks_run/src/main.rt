@@ -5,9 +5,11 @@
 //     2  the report of the bytes
 //     3  take the bytes for a decimal number of 32 bits and print it back, 4 for a hexadecimal one of all words, 5 for a
 //        decimal one of all words, and after it its two lowest words as one number
+//     6  read one block, as 0: the first two bytes are its number and the nodes that block 0 stated
 // Both files are made by tests/blocks_cases.py, from a reading of document 01 that shares nothing with this code.
 use block_file::read::read_file;
 use block_file::write::write_file;
+use blocks::read::read_block;
 use blocks::stored::Stored;
 use cases::fill;
 use cases::least;
@@ -112,6 +114,24 @@ fn read_case(bytes: &[u8], lent: usize, filling: u32) {
     read_to(&mut output[..end], bytes, filling);
 }
 
+fn block_to(output: &mut [u32], block: &[u8], number: usize, stated: usize, filling: u32) {
+    fill(output, filling);
+    let stored = read_block(block, number, stated, output);
+    say_stored(stored);
+    say_words(output);
+}
+
+fn block_case(bytes: &[u8], lent: usize, filling: u32) {
+    if bytes.len() < 2 {
+        return;
+    }
+    let number = bytes[0] as usize;
+    let stated = bytes[1] as usize;
+    let mut output = blank_output();
+    let end = least(lent, OUTPUT);
+    block_to(&mut output[..end], &bytes[2..], number, stated, filling);
+}
+
 fn write_to(file: &mut [u8], words: &[u32], filling: u32) {
     fill_bytes(file, (filling % 256) as u8);
     let stored = write_file(words, file);
@@ -197,6 +217,9 @@ fn run_bytes(kind: u32, bytes: &[u8], lent: usize, filling: u32) {
     }
     if kind == 5 {
         natural_case(bytes);
+    }
+    if kind == 6 {
+        block_case(bytes, lent, filling);
     }
 }
 

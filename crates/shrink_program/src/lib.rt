@@ -1,31 +1,31 @@
-// `shrink keep size 40`, `shrink suppress count 1f00`: a block file on standard input, cut to fit, on standard output.
-// The summary or the one line of a refusal goes to standard error. Without words it prints its help.
+// `shrink keep size 40`, `shrink suppress cases 7936`: a block file on standard input, cut to fit, on standard output. The
+// summary, the one line of a refusal and the help go to standard error. What is written is decided by `answer` of
+// crates/shrinking alone: here the words are fetched, the input is read, and both channels are written.
+use blocks::layout::BLOCK;
+use blocks::layout::MOST;
+use blocks::layout::NODES;
 use libc::STDERR_FILENO;
 use libc::STDOUT_FILENO;
-use request::Request;
-use request::ask;
-use shrinking::job::shrink;
+use shrinking::Ends;
+use shrinking::answer::answer;
+use shrinking::answer::wants_input;
+ghost use Prim.Native.Nat.{_≤_};
+ghost use lib.ListN.{length};
+ghost use Rattle.shrink_program.specs.Program.{Answered, Ran};
 
-// At most three blocks, and a little more to see whether bytes stand after them.
-const INPUT: usize = 2048;
+// The blocks that a file may have, and one more to see whether bytes stand after them.
+const INPUT: usize = FILE + BLOCK;
 
-const FILE: usize = 1536;
+const FILE: usize = BLOCK * ((MOST + NODES - 1) / NODES);
 
-const TEXT: usize = 512;
+// The longest summary has eight decimal numbers of at most ten digits a word, four hexadecimal ones of eight, and 111 bytes.
+const TEXT: usize = 128 * naturals::WORDS;
 
-// A count has at most 64 digits; a longer word is none of ours and is read as an empty one.
-const WORD: usize = 80;
+// No word that is taken is longer. A longer one is read as an empty one, which is never taken.
+const WORD: usize = 10 * naturals::WORDS;
 
 fn blank_input() -> [u8; INPUT] {
     [0u8; INPUT]
-}
-
-fn blank_file() -> [u8; FILE] {
-    [0u8; FILE]
-}
-
-fn blank_text() -> [u8; TEXT] {
-    [0u8; TEXT]
 }
 
 fn blank_word() -> [u8; WORD] {
@@ -40,76 +40,66 @@ fn show(channel: i32, bytes: &[u8], end: usize) -> bool {
     io::write_all(channel, &bytes[..end])
 }
 
-fn help() {
-    io::write_all(
-        STDOUT_FILENO,
-        b"shrink keep size NODES\nshrink keep count CASES\nshrink suppress size NODES\nshrink suppress count CASES\n",
-    );
-    io::write_all(
-        STDOUT_FILENO,
-        b"Reads a block file, writes it cut to fit. keep only adds cases, suppress only loses them.\nNODES is decimal, CASES lower-case hexadecimal, no zeros in front. The summary goes to standard error.\n",
-    );
-}
-
-fn unknown() {
-    io::write_all(
-        STDERR_FILENO,
-        b"shrink: the words are keep or suppress, size or count, and a number; shrink alone prints its help\n",
-    );
-}
-
-fn unwritten() {
-    io::write_all(
-        STDERR_FILENO,
-        b"shrink: standard output could not be written\n",
-    );
-}
-
 // The summary says what was cut, so it is given only where the file is.
-fn run(bytes: &[u8], request: Request) {
-    let mut file = blank_file();
-    let mut text = blank_text();
-    let ends = shrink(bytes, request, &mut file, &mut text);
-    if !show(STDOUT_FILENO, &file, ends.file) {
-        unwritten();
+fn deliver(file: &[u8], text: &[u8], ends: Ends) {
+    if !show(STDOUT_FILENO, file, ends.file) {
+        io::write_all(
+            STDERR_FILENO,
+            b"shrink: standard output could not be written\n",
+        );
         return;
     }
-    show(STDERR_FILENO, &text, ends.text);
+    show(STDERR_FILENO, text, ends.text);
 }
 
-fn read_and_run(request: Request) {
+fn run(count: usize, direction: &[u8], kind: &[u8], number: &[u8], bytes: &[u8]) -> Ends
+    ensures { λ r. ⌜ Answered count (now (direction .entry)) (now (kind .entry)) (now (number .entry)) (now (bytes .entry)) (r .file) (r .text) ⌝ }
+{
+    let mut file = [0u8; FILE];
+    let mut text = [0u8; TEXT];
+    let ends = answer(count, direction, kind, number, bytes, &mut file, &mut text);
+    deliver(&file, &text, ends);
+    ends
+}
+
+// Nothing is read where the words ask for no cut.
+fn read_input(wanted: bool, bytes: &mut [u8]) -> usize
+    ensures { λ r. ⌜ r ≤ length (now (bytes .exit)) ⌝ }
+{
+    if wanted {
+        return io::read_full(0, bytes);
+    }
+    0
+}
+
+// The words after the program's own name.
+fn word_count() -> usize {
+    let words = os::arg_count();
+    if words == 0 {
+        return 0;
+    }
+    words - 1
+}
+
+fn read_and_run(direction: &[u8], kind: &[u8], number: &[u8]) -> Ends
+    ensures { λ r. ⌜ Ran (r .file) (r .text) ⌝ }
+{
     let mut bytes = blank_input();
-    let length = io::read_full(0, &mut bytes);
-    run(&bytes[..length], request);
+    let count = word_count();
+    let wanted = wants_input(count, direction, kind, number);
+    let length = read_input(wanted, &mut bytes);
+    run(count, direction, kind, number, &bytes[..length])
 }
 
-fn asked() -> Request {
+// The whole program, for its crate and for the test programs. It answers how many bytes it had for each channel.
+pub fn run_program() -> Ends
+    ensures { λ r. ⌜ Ran (r .file) (r .text) ⌝ }
+{
     let mut direction = blank_word();
     let mut kind = blank_word();
     let mut number = blank_word();
     let first = os::arg(1, &mut direction);
     let second = os::arg(2, &mut kind);
     let third = os::arg(3, &mut number);
-    ask(&direction[..first], &kind[..second], &number[..third])
-}
-
-fn obey() {
-    let request = asked();
-    if request.valid {
-        read_and_run(request);
-    } else {
-        unknown();
-    }
-}
-
-// The whole program, for its crate and for the test programs.
-pub fn run_program() {
-    let words = os::arg_count();
-    if words <= 1 {
-        help();
-    } else if words == 4 {
-        obey();
-    } else {
-        unknown();
-    }
+    read_and_run(&direction[..first], &kind[..second], &number[..third])
 }

@@ -16,7 +16,7 @@ use Rattle.targets.specs.Targets.{sizeVerdict, underCountVerdict, overCountVerd
 use Rattle.request.specs.Request.{Aim, nodes, cases}
 use Rattle.shrinking.specs.Shrinking.{wanted, wantedVerdict}
 
-then-first : (x y : Outcome) {n v : ℕ} → andThen x y ≡ accepted n v → (m : ℕ) × (u : ℕ) × (x ≡ accepted m u) × (y ≡ accepted n v)
+pub then-first : (x y : Outcome) {n v : ℕ} → andThen x y ≡ accepted n v → (m : ℕ) × (u : ℕ) × (x ≡ accepted m u) × (y ≡ accepted n v)
 then-first (accepted m u) y e = (m, u, refl, e)
 then-first (refused k p) y e = let z : _≡_ {A = ℕ} 0 1 = cc in absurd (omega arith)
 
@@ -25,11 +25,11 @@ unfolding row
 row-left k true p o e = let z : _≡_ {A = ℕ} 0 1 = cc in absurd (omega arith)
 row-left k false p o e = refl
 
-under-is : (w : List ℕ) (k : ℕ) {n v : ℕ} → underCountOf w k ≡ accepted n v → underCountOf w k ≡ accepted (size w) (vars w)
+pub under-is : (w : List ℕ) (k : ℕ) {n v : ℕ} → underCountOf w k ≡ accepted n v → underCountOf w k ≡ accepted (size w) (vars w)
 unfolding underCountOf
 under-is w k e = row-left _ _ _ _ e
 
-over-is : (w : List ℕ) (k : ℕ) {n v : ℕ} → overCountOf w k ≡ accepted n v → overCountOf w k ≡ accepted (size w) (vars w)
+pub over-is : (w : List ℕ) (k : ℕ) {n v : ℕ} → overCountOf w k ≡ accepted n v → overCountOf w k ≡ accepted (size w) (vars w)
 unfolding overCountOf
 over-is w k e = let f = row-left _ _ _ _ e in f ∙ row-left _ _ _ _ (sym f ∙ e)
 

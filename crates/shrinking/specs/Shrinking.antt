@@ -5,14 +5,15 @@ use mathlib.Core.Path.{_≡_}
 use mathlib.Core.Bool.{Bool, true, false}
 use mathlib.Core.List.{List, [], _++_}
 use lib.ListN.{length, take, drop, replicate}
+use Rattle.naturals.specs.Natural.{wordCount}
 use Rattle.diagram.specs.Limits.{roomPerNode}
 use Rattle.diagram.specs.Diagram.{size}
 use Rattle.diagram.specs.Valuations.{countOf}
 use Rattle.diagram.specs.Verdict.{Outcome, accepted, refused as rejected}
 use Rattle.approximation.specs.Search.{Answer, underToSize, overToSize, underToCount, overToCount}
 use Rattle.targets.specs.Targets.{sizeVerdict, underCountVerdict, overCountVerdict}
-use Rattle.blocks.specs.Block.{maxStored, Outcome as Stored, nodes as stored, refused as unread}
-use Rattle.block_file.specs.File.{Reading, reading, readFile, writeOutcome, fileOf}
+use Rattle.blocks.specs.Block.{blockBytes, maxStored, Outcome as Stored, nodes as stored, refused as unread}
+use Rattle.block_file.specs.File.{blockCount, Reading, reading, readFile, writeOutcome, fileOf}
 use Rattle.writing.specs.Writing.{Wrote}
 use Rattle.request.specs.Request.{Aim, nodes, cases, Meaning, help, unknown, which, cut}
 use Rattle.messages.specs.Texts.{helpText, unknownText, whichText, refusalText, targetText, missedText, sizesText, countsText, changeText, trialsText}
@@ -69,6 +70,13 @@ done unknown s lent = told unknownText
 done which s lent = told whichText
 done (cut keep aim) s lent = ifRead keep aim lent (readFile s blank)
 
+-- Whether the input is looked at: only for a cut.
+abbrev pub looks : Meaning → Bool
+looks help = false
+looks unknown = false
+looks which = false
+looks (cut keep aim) = true
+
 -- ---- what is written of it
 
 unfoldable pub summary : Bool → Aim → List ℕ → List ℕ → ℕ → List ℕ
@@ -89,6 +97,13 @@ abbrev pub textBytes : Done → List ℕ
 textBytes (told t) = t
 textBytes (refused number place) = refusalText number place
 textBytes (shrunk keep aim w a trials) = summary keep aim w a trials
+
+-- The buffers of the program: each holds every answer (proofs/Fitting.antt).
+abbrev pub fileBuffer : ℕ
+fileBuffer = blockBytes * blockCount maxStored
+
+abbrev pub textBuffer : ℕ
+textBuffer = 128 * wordCount
 
 -- The file begins with its bytes and is as it was beyond them; the text is what is said.
 pub record Shrinks (d : Done) (file file-left text text-left : List ℕ) (file-end text-end : ℕ) : Type 0 where

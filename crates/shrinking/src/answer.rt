@@ -7,9 +7,10 @@ use messages::words::write_which;
 use request::Asked;
 use request::Request;
 use request::ask;
+ghost use mathlib.Core.Path.{_≡_};
 ghost use lib.ListN.{length};
 ghost use Rattle.request.specs.Request.{meant, requestOf};
-ghost use Rattle.shrinking.specs.Shrinking.{done, Shrinks};
+ghost use Rattle.shrinking.specs.Shrinking.{looks, done, Shrinks};
 
 // Only a cut writes bytes of a file.
 fn obey(request: Request, bytes: &[u8], file: &mut [u8], text: &mut [u8]) -> Ends
@@ -31,6 +32,20 @@ fn obey(request: Request, bytes: &[u8], file: &mut [u8], text: &mut [u8]) -> End
             Ends { file: 0, text: end }
         }
         Asked::Cut => shrink(bytes, target, file, text),
+    }
+}
+
+// Whether the words ask for a cut: else the input is not looked at.
+pub fn wants_input(count: usize, direction: &[u8], kind: &[u8], number: &[u8]) -> bool
+    ensures { λ r. ⌜ r ≡ looks (requestOf count (now (direction .entry)) (now (kind .entry)) (now (number .entry))) ⌝ }
+{
+    let request = ask(count, direction, kind, number);
+    let asked = request.asked;
+    match asked {
+        Asked::Cut => true,
+        Asked::Help => false,
+        Asked::Unknown => false,
+        Asked::Which => false,
     }
 }
 

@@ -1,0 +1,82 @@
+-- How long what is said can be.
+use Prim.Native.Nat.{ℕ, _+_, _-_, _*_, _≤_}
+use mathlib.Core.Path.{_≡_, refl}
+use mathlib.Core.Bool.{Bool, true, false, cond}
+use mathlib.Core.List.{List, [], _∷_, _++_}
+use native.Mathlib.Omega.{arith}
+use lib.ListN.{length, length-append}
+use lib.Dec.{ltb, eqb}
+use Rattle.writing.specs.Writing.{bytes}
+use Rattle.text.specs.Digits.{decimalDigits, hexadecimalDigits, decimal, hexadecimal}
+use Rattle.text.proofs.Numerals.{decimal-length, hexadecimal-length}
+use Rattle.report.specs.Report.{refusedAt, feed}
+use Rattle.request.specs.Request.{Aim, nodes, cases}
+use Rattle.messages.specs.Texts.{subject, ofNode, phrase, refusalText, twice, targetText, missedText, sizesText, countsText, changeText, trialsText}
+
+of-both : (k : ℕ) (b : Bool) (x y : List ℕ) → length x ≤ k → length y ≤ k → length (cond b x y) ≤ k
+of-both k true x y h g = h
+of-both k false x y h g = g
+
+phrase-length : (number : ℕ) → length (phrase number) ≤ 80
+unfolding phrase
+phrase-length number =
+    of-both 80 (eqb number 4) _ _ (omega arith)
+    (of-both 80 (eqb number 6) _ _ (omega arith)
+    (of-both 80 (eqb number 7) _ _ (omega arith)
+    (of-both 80 (eqb number 8) _ _ (omega arith)
+    (of-both 80 (eqb number 9) _ _ (omega arith)
+    (of-both 80 (eqb number 10) _ _ (omega arith)
+    (of-both 80 (eqb number 11) _ _ (omega arith)
+    (of-both 80 (eqb number 12) _ _ (omega arith)
+    (of-both 80 (eqb number 16) _ _ (omega arith)
+    (of-both 80 (eqb number 19) _ _ (omega arith)
+    (of-both 80 (eqb number 21) _ _ (omega arith)
+    (of-both 80 (eqb number 22) _ _ (omega arith)
+    (of-both 80 (eqb number 23) _ _ (omega arith)
+    (of-both 80 (eqb number 24) _ _ (omega arith)
+    (of-both 80 (eqb number 25) _ _ (omega arith)
+    (omega arith)))))))))))))))
+
+subject-length : (number place : ℕ) → length (subject number place) ≤ 6 + decimalDigits
+unfolding subject
+subject-length number place =
+    of-both (6 + decimalDigits) (ofNode number) (bytes "node " ++ decimal place ++ bytes " ") [] (simp length-append (omega (arith, decimal-length place))) (omega arith)
+
+pub refusal-length : (number place : ℕ) → length (refusalText number place) ≤ 101 + 3 * decimalDigits
+unfolding refusalText refusedAt
+refusal-length number place =
+    simp length-append (omega (arith, decimal-length number, decimal-length place, subject-length number place, phrase-length number))
+
+twice-length : (label : List ℕ) (n : ℕ) (middle : List ℕ) → length (twice label n middle) ≤ length label + length middle + 1 + decimalDigits + hexadecimalDigits
+unfolding twice
+twice-length label n middle = simp length-append (omega (arith, decimal-length n, hexadecimal-length n))
+
+pub target-length : (keep : Bool) (aim : Aim) → length (targetText keep aim) ≤ 30 + decimalDigits + hexadecimalDigits
+unfolding targetText
+target-length keep (nodes t) = simp length-append (omega (arith, decimal-length t))
+target-length true (cases k) = simp length-append (omega (arith, twice-length (bytes "target at least ") k (bytes " cases (hex ")))
+target-length false (cases k) = simp length-append (omega (arith, twice-length (bytes "target at most ") k (bytes " cases (hex ")))
+
+pub missed-length : (aim : Aim) (after : ℕ) → length (missedText aim after) ≤ 23 + decimalDigits
+unfolding missedText
+missed-length (nodes t) after =
+    of-both (23 + decimalDigits) (ltb t after) (bytes "target not met: " ++ decimal after ++ bytes " nodes\n") [] (simp length-append (omega (arith, decimal-length after))) (omega arith)
+missed-length (cases k) after = omega arith
+
+pub sizes-length : (before after : ℕ) → length (sizesText before after) ≤ 11 + 2 * decimalDigits
+unfolding sizesText
+sizes-length before after = simp length-append (omega (arith, decimal-length before, decimal-length after))
+
+pub counts-length : (before after : ℕ) → length (countsText before after) ≤ 25 + 2 * decimalDigits + 2 * hexadecimalDigits
+unfolding countsText
+counts-length before after =
+    simp length-append (omega (arith, twice-length (bytes "cases ") before (bytes " (hex "), twice-length (bytes " to ") after (bytes " (hex ")))
+
+pub change-length : (keep : Bool) (before after : ℕ) → length (changeText keep before after) ≤ 14 + decimalDigits + hexadecimalDigits
+unfolding changeText
+change-length true before after = simp length-append (omega (arith, twice-length (bytes "added ") (after - before) (bytes " (hex ")))
+change-length false before after = simp length-append (omega (arith, twice-length (bytes "lost ") (before - after) (bytes " (hex ")))
+
+pub trials-length : (trials : ℕ) → length (trialsText trials) ≤ 8 + decimalDigits
+unfolding trialsText
+trials-length trials = simp length-append (omega (arith, decimal-length trials))
