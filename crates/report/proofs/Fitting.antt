@@ -15,10 +15,12 @@ use Rattle.weights.specs.Weighed.{weightsVerdict}
 use Rattle.blocks.specs.Block.{nodes, refused as unread}
 use Rattle.block_file.specs.File.{Reading, reading, readFile}
 use Rattle.block_file.proofs.Steps.{read-few}
+use Rattle.block_file.proofs.Enough.{front-enough}
 use Rattle.text.specs.Digits.{decimalDigits, hexadecimalDigits, decimal}
 use Rattle.text.proofs.Numerals.{decimal-length, decimal-short, hexadecimal-length}
 use Rattle.writing.specs.Writing.{Wrote}
 use Rattle.writing.proofs.Laws.{wrote-length, wrote-fits, wrote-place}
+use Rattle.report.specs.Reported.{Reported}
 use Rattle.report.specs.Report.{refusedAt, refusal, line, lines, head, weighedReport, diagramReport, storedReport, reportOf}
 
 -- What is weighed was accepted, so its numbers are small: variables are at most 255 and nodes at most 4,096.
@@ -88,3 +90,11 @@ report-whole s {before} {after} {end} h w =
     let e : length (reportOf s) ≡ end = omega (arith, wrote-place w l) in
     let f : after ≡ reportOf s ++ drop (0 + length (reportOf s)) before = wrote-fits w l in
     (omega (arith, wrote-length w), ap (take end) f ∙ take-at (reportOf s) (drop (0 + length (reportOf s)) before) end e)
+
+pub reported : Reported
+unfolding reportOf
+reported =
+    record {
+      fits = λ s. omega (arith, report-length s);
+      front-enough = λ s k h. ap storedReport (front-enough s (replicate 360 0) k h);
+    }

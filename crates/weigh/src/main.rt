@@ -1,12 +1,15 @@
 // Reads a block file on standard input and prints the count of its diagram and the weight of each node, or the one line
 // of its refusal. At most three blocks are read, and a little more to see whether bytes stand after them.
+use blocks::layout::BLOCK;
+use blocks::layout::MOST;
+use blocks::layout::NODES;
 use libc::STDERR_FILENO;
 use libc::STDOUT_FILENO;
 use report::weigh::report;
 
-const INPUT: usize = 2048;
+const INPUT: usize = BLOCK * ((MOST + NODES - 1) / NODES) + BLOCK;
 
-// Three lines and one for each of 120 nodes, none longer than 124 bytes, fit.
+// Every report fits: `fits` of crates/report/specs/Reported.antt.
 const TEXT: usize = 16384;
 
 fn blank_input() -> [u8; INPUT] {
