@@ -61,7 +61,7 @@ targetText keep (nodes t) = bytes "target at most " ++ decimal t ++ bytes " node
 targetText true (cases k) = twice (bytes "target at least ") k (bytes " cases (hex ") ++ feed
 targetText false (cases k) = twice (bytes "target at most ") k (bytes " cases (hex ") ++ feed
 
--- A number of cases is always met (`cases-met` of specs/Supervised.antt), a number of nodes from 2 on.
+-- A number of cases is always met (`cases-kept` and `cases-left` of crates/shrinking/specs/Supervised.antt), so only nodes are compared.
 unfoldable pub missedText : Aim → ℕ → List ℕ
 missedText (nodes t) after = cond (ltb t after) (bytes "target not met: " ++ decimal after ++ bytes " nodes\n") []
 missedText (cases k) after = []
