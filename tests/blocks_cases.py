@@ -15,6 +15,22 @@ LENT, ROOM = 960, 7680
 WORDS = int(sys.argv[1]) if len(sys.argv) > 1 else 8
 LIMIT = 1 << (32 * WORDS)
 random.seed(23)
+# What shrink says of each number that it can meet; 4 only where its caller lends a short buffer, which the program does not.
+SENTENCES = {
+    4: 'the output is too short',
+    6: "node %d is not the terminal that stands there in a diagram, with node 0's variable count", 7: 'there are more than 255 variables',
+    8: 'node %d has a variable that is not below the variable count', 9: 'node %d has a low link past the nodes',
+    10: 'node %d has a high link past the nodes', 11: 'node %d has a child that is not at a larger variable', 12: "node %d can't be reached from the root",
+    16: 'the count to reach is above the number of all valuations', 19: "a constant can't be cut to a count between 0 and the number of all valuations",
+    21: 'a block is short or missing, or bytes stand after the last one', 22: 'a check sum is wrong',
+    23: 'a block number, a node count or the order of blocks is wrong', 24: 'unused bytes are not zero', 25: 'there are more than 120 nodes',
+}
+
+
+def refused_line(number, place):
+    sentence = SENTENCES.get(number, 'the input is refused')
+    return 'refused %d at %d: %s\n' % (number, place, sentence % place if '%d' in sentence else sentence)
+
 
 
 def said(answer):
@@ -185,6 +201,12 @@ def main():
     for data in reported():
         cases.append([2, 0, 0, *data])
         answers.append(report(data))
+    for number in list(range(28)) + [2 ** 32 - 1]:
+        cases.append([7, 4095, number])
+        answers.append(refused_line(number, 4095))
+    for size, after in ((0, 1), (0, 2), (1, 1), (1, 2), (2, 1), (4, 4), (4, 5), (2 ** 32 - 1, 120)):
+        cases.append([8, after, size])
+        answers.append('target not met: %d nodes\n' % after if after > size else '')
     for kind, text, answer in texts():
         cases.append([kind, 0, 0, *text.encode()])
         answers.append(answer + '\n')

@@ -6,7 +6,7 @@ readings of document 01 that share nothing with the code.
 import os
 
 import block
-from blocks_cases import chain, changed, report, resummed
+from blocks_cases import SENTENCES, chain, changed, refused_line, report, resummed
 from cuts_cases import count, count_words, cuts, flat, refusal
 from diagram_cases import D
 from reading import nodes
@@ -23,14 +23,6 @@ shrink suppress hex N    at most N cases, N in hexadecimal as weigh prints it
 Reads a block file on standard input and writes it cut to fit to standard output, the summary to standard error.
 keep only adds cases, suppress only loses them. Numbers are decimal but for hex, with no zeros in front.
 """
-SENTENCES = {
-    6: "node %d is not the terminal that stands there in a diagram, with node 0's variable count", 7: 'there are more than 255 variables',
-    8: 'node %d has a variable that is not below the variable count', 9: 'node %d has a low link past the nodes',
-    10: 'node %d has a high link past the nodes', 11: 'node %d has a child that is not at a larger variable', 12: "node %d can't be reached from the root",
-    16: 'the count to reach is above the number of all valuations', 19: "a constant can't be cut to a count between 0 and the number of all valuations",
-    21: 'a block is short or missing, or bytes stand after the last one', 22: 'a check sum is wrong',
-    23: 'a block number, a node count or the order of blocks is wrong', 24: 'unused bytes are not zero', 25: 'there are more than 120 nodes',
-}
 FALSE, TRUE = [3, 0, 0], [3, 0, 0, 3, 1, 1]
 
 
@@ -39,8 +31,7 @@ def file_of(words):
 
 
 def refused(number, place):
-    sentence = SENTENCES[number]
-    return b'', ('refused %d at %d: %s\n' % (number, place, sentence % place if '%d' in sentence else sentence)).encode()
+    return b'', refused_line(number, place).encode()
 
 
 def twice(n):
@@ -122,7 +113,7 @@ def asked():
         seen.add(number)
         assert shrunk(*request)[1].startswith(b'refused %d at ' % number), (number, shrunk(*request))
         requests.append(tuple(request))
-    assert seen == set(SENTENCES)
+    assert seen == set(SENTENCES) - {4}
     others = [([], HELP)]
     others += [(w.split(), UNKNOWN) for w in (
         'keep', 'keep size', 'keep size 4 5', 'grow size 4', 'suppress sise 4', 'keep size 04', 'keep size -1', 'keep size 1f', 'keep size 4294967296',
