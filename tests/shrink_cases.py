@@ -1,4 +1,4 @@
-"""Writes stdin, args and stdout of crates/shrink, shrink_suppress_run and shrink_refused_run: a diagram, a request, and the file of the nodes that document 01 works out by hand or that cuts_cases.py cuts to."""
+"""Writes stdin, args and stdout of crates/shrink, shrink_suppress_run, shrink_refused_run and shrink_damaged_run: a diagram, a request, and the file of the nodes that document 01 works out by hand or that cuts_cases.py cuts to."""
 import os
 
 import block
@@ -26,3 +26,7 @@ case('shrink', ['keep', 'size', '4'], C5)
 case('shrink_suppress_run', ['suppress', 'cases', '12'], flat(cuts('c', count_words(12), OR4)[0]), OR4)
 # A zero in front.
 case('shrink_refused_run', ['keep', 'size', '04'], [])
+# A file with a wrong sum: no byte may come out of it.
+case('shrink_damaged_run', ['keep', 'size', '4'], [])
+with open(os.path.join(TOP, 'examples', 'damaged.block'), 'rb') as damaged, open(os.path.join(TOP, 'crates', 'shrink_damaged_run', 'stdin'), 'wb') as file:
+    file.write(damaged.read())
