@@ -1,17 +1,16 @@
 // The search for a count (document 01, "The evening's cut"): nodes are taken by priority until their weights cover what is to
 // be removed, and all that are taken are cut; while the count is still too large, the walk goes on where it stopped. The
 // answer stands in the working room.
-pub mod amounts;
 pub mod counting;
 mod rounds;
 
-use amounts::at_most;
 use cuts::cut::SENT;
 use cuts::cut::constant;
 use diagram::lengths::most;
 use diagram::node::BddPointer;
 use levels::CHAINS;
 use naturals::Natural;
+use naturals::at_most;
 use naturals::is_zero;
 use recounts::begin;
 use rounds::search;

@@ -1,11 +1,11 @@
 // Rounds of a walk over the nodes by priority, each with a cut by all that are taken.
 use crate::Answer;
-use crate::amounts::at_most;
-use crate::amounts::excess;
 use cuts::marks::mark;
 use diagram::node::BddPointer;
 use diagram::node::word;
 use naturals::Natural;
+use naturals::at_most;
+use naturals::excess;
 use naturals::zero;
 use recounts::changes::change;
 use recounts::recount;

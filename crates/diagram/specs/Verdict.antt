@@ -149,3 +149,15 @@ outputAfter verdict answer output = ifAccepted verdict (answer ++ drop (length a
 pub record Checked (w : List ℕ) (output : Output) (before after : List ℕ) (r : Verdict) : Type 0 where
   pub verdict : said r ≡ verdictOf w output (length before)
   pub left : after ≡ roomAfter w output before
+
+-- What every operation with an output promises: what its verdict says, the answer in front of what was in the output, and the
+-- room as the check leaves it. What an operation adds stands beside this, in its own crate.
+pub record Answers (outcome : Outcome) (answer w : List ℕ) (lent : Output) (room room′ out out′ : List ℕ) (r : Verdict) : Type 0 where
+  pub verdict : said r ≡ outcome
+  pub left : room′ ≡ roomAfter w lent room
+  pub output : out′ ≡ outputAfter outcome answer out
+
+-- And where the answer is a diagram: so many nodes stand in the output, none where it is as it was.
+pub record Builds (outcome : Outcome) (answer w room room′ out out′ : List ℕ) (r : Verdict) (count : ℕ) : Type 0 where
+  pub answers : Answers outcome answer w (Diagram (length out)) room room′ out out′ r
+  pub nodes : count ≡ ifAccepted outcome (size answer) 0

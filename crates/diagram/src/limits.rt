@@ -3,6 +3,9 @@
 // The most nodes of a diagram.
 pub const MAX_NODES: usize = 4096;
 
+// And so the most words, three for each node.
+pub const MAX_WORDS: usize = 3 * MAX_NODES;
+
 // The most variables.
 pub const MAX_VARIABLES: usize = 255;
 

@@ -1,5 +1,5 @@
 -- Laws that belong to no one function.
---     Differing  differences, and tests of a number of refusal
+--     Differing  tests of a number of refusal
 --     Fitting    how long what is said can be
 pub mod Differing
 pub mod Fitting

@@ -1,6 +1,6 @@
 // The lines of the summary. Cases are given in decimal and, beside it, in hexadecimal, which `weigh` prints.
 use naturals::Natural;
-use naturals::subtract;
+use naturals::excess;
 use report::lines::write_number;
 use request::Target;
 use text::print::write_hexadecimal;
@@ -9,7 +9,6 @@ use writing::put;
 use writing::write;
 ghost use mathlib.Core.Path.{_≡_};
 ghost use mathlib.Core.List.{_++_};
-ghost use Prim.Native.Nat.{_-_};
 ghost use Rattle.naturals.specs.Natural.{value};
 ghost use Rattle.writing.specs.Writing.{Wrote};
 ghost use Rattle.report.specs.Report.{feed};
@@ -93,22 +92,14 @@ pub fn write_counts(out: &mut [u8], at: usize, before: Natural, after: Natural) 
     put(out, second, 10)
 }
 
-// a less b, and 0 where b is greater.
-fn less(a: Natural, b: Natural) -> Natural
-    ensures { λ r. ⌜ value (r .words) ≡ value (a .words) - value (b .words) ⌝ }
-{
-    let difference = subtract(a, b);
-    difference.natural
-}
-
 // `added 1 (hex 1)` or `lost 1 (hex 1)`
 pub fn write_change(out: &mut [u8], at: usize, keep: bool, before: Natural, after: Natural) -> usize
     ensures { λ r. ⌜ Wrote (changeText keep (value (before .words)) (value (after .words))) (now (out .entry)) at (now (out .exit)) r ⌝ }
 {
     if keep {
-        return write_line(out, at, b"added ", less(after, before), b" (hex ");
+        return write_line(out, at, b"added ", excess(after, before), b" (hex ");
     }
-    write_line(out, at, b"lost ", less(before, after), b" (hex ")
+    write_line(out, at, b"lost ", excess(before, after), b" (hex ")
 }
 
 // `trials 2`

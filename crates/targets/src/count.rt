@@ -2,8 +2,6 @@
 use crate::Approximated;
 use crate::told::tell;
 use count_search::Answer;
-use count_search::amounts::at_most;
-use count_search::amounts::excess;
 use count_search::counting::count_in;
 use count_search::under_count;
 use cuts::cut::SENT;
@@ -12,6 +10,8 @@ use diagram::validate::admit;
 use diagram::verdict::Output;
 use diagram::verdict::Verdict;
 use naturals::Natural;
+use naturals::at_most;
+use naturals::excess;
 use naturals::power_of_two;
 use negation::negate;
 use trials::answers::give;

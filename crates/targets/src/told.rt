@@ -1,9 +1,9 @@
 // Refusals 16 and 19: what can be said of a count target.
-use count_search::amounts::at_most;
 use diagram::refusal::COUNT_TOO_LARGE;
 use diagram::refusal::NOTHING_TO_CUT;
 use diagram::verdict::Verdict;
 use naturals::Natural;
+use naturals::at_most;
 use naturals::is_zero;
 use naturals::power_of_two;
 ghost use mathlib.Core.Path.{_≡_};

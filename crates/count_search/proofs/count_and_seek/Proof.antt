@@ -6,7 +6,7 @@ use Rattle.count_search.proofs.count_and_seek.Statement.{statement}
 use Rattle.count_search.proofs.count_and_seek.Tie as tie
 use Rattle.count_search.proofs.count_and_seek.Reads as reads
 use Rattle.count_search.proofs.count_and_seek.Lts as lts
-use Rattle.count_search.proofs.amounts.at_most.Reads as at-most-reads
+use Rattle.naturals.proofs.at_most.Reads as at-most-reads
 use Rattle.count_search.proofs.seek.Reads as seek-reads
 use Rattle.recounts.proofs.begin.Reads as begin-reads
 use Rattle.trials.proofs.answers.keep.Reads as keep-reads

@@ -12,8 +12,8 @@ use Rattle.count_search.proofs.rounds.search.Statement.{statement}
 use Rattle.count_search.proofs.rounds.search.Tie as tie
 use Rattle.count_search.proofs.rounds.search.Reads as reads
 use Rattle.count_search.proofs.rounds.search.Lts as lts
-use Rattle.count_search.proofs.amounts.at_most.Reads as at-most-reads
-use Rattle.count_search.proofs.amounts.excess.Reads as excess-reads
+use Rattle.naturals.proofs.at_most.Reads as at-most-reads
+use Rattle.naturals.proofs.excess.Reads as excess-reads
 use Rattle.count_search.proofs.rounds.take_node.Reads as take-node-reads
 use Rattle.recounts.proofs.recount.Reads as recount-reads
 use Rattle.trials.proofs.first.cut_first.Reads as cut-first-reads

@@ -8,8 +8,8 @@ use Rattle.messages.proofs.summary.write_change.Tie as tie
 slice-aggregate-write-line : tie.Need-slice-aggregate-write-line
 slice-aggregate-write-line c = search needs
 
-less-requires : tie.Need-less-requires
-less-requires c κs = search needs
+excess-requires : tie.Need-excess-requires
+excess-requires c κs = search needs
 
 slice-aggregate-write-line-2 : tie.Need-slice-aggregate-write-line-2
 slice-aggregate-write-line-2 c = search needs
@@ -22,13 +22,13 @@ same-length c = search needs
 
 returns : tie.Need-returns
 unfolding changeText
-returns c = rw (c .before .before .before .before .before .before .before .if1 .taken, sym (c .before .before .before .before .less .ensures)) (c .before .before .write-line .ensures)
+returns c = rw (c .before .before .before .before .before .before .before .if1 .taken, sym (c .before .before .before .before .excess .ensures)) (c .before .before .write-line .ensures)
 
 slice-aggregate-write-line-3 : tie.Need-slice-aggregate-write-line-3
 slice-aggregate-write-line-3 c = search needs
 
-less-requires-2 : tie.Need-less-requires-2
-less-requires-2 c κs = search needs
+excess-requires-2 : tie.Need-excess-requires-2
+excess-requires-2 c κs = search needs
 
 slice-aggregate-write-line-4 : tie.Need-slice-aggregate-write-line-4
 slice-aggregate-write-line-4 c = search needs
@@ -41,20 +41,20 @@ same-length-2 c = search needs
 
 returns-2 : tie.Need-returns-2
 unfolding changeText
-returns-2 c = rw (c .before .before .before .before .before .before .before .if1 .left, sym (c .before .before .before .before .less2 .ensures)) (c .before .before .write-line2 .ensures)
+returns-2 c = rw (c .before .before .before .before .before .before .before .if1 .left, sym (c .before .before .before .before .excess2 .ensures)) (c .before .before .write-line2 .ensures)
 
 pub write-change-spec : {M : Type 1} → statement M
 write-change-spec =
     tie.close
     (tie.spec
     slice-aggregate-write-line
-    less-requires
+    excess-requires
     slice-aggregate-write-line-2
     write-line-requires
     same-length
     returns
     slice-aggregate-write-line-3
-    less-requires-2
+    excess-requires-2
     slice-aggregate-write-line-4
     write-line-requires-2
     same-length-2
