@@ -28,7 +28,8 @@ use Rattle.trials.specs.Answers.{Keeping, Kept, Returned}
 use Rattle.trials.proofs.Early.{searching-keeps, searching-kept}
 use Rattle.count_search.specs.Rounds.{Aiming, Countable}
 use Rattle.count_search.proofs.Aims.{aiming-countable}
-use Rattle.targets.specs.Hits.{toCount, toldOf, countVerdict, ToCount, Targeting, Counting, Fewer, Hit}
+use Rattle.told.specs.Told.{toldOf}
+use Rattle.targets.specs.Hits.{toCount, countVerdict, ToCount, Targeting, Counting, Fewer, Hit}
 use Rattle.targets.proofs.Hitting.{Flipped, targeting-searches, flipped-searches, back-hits, meets-refused, meets-hit, check-targets}
 
 pub under-aims : {w r out : List ℕ} {k n v : ℕ} → Counting false w r out k n v → Aiming w r k n v

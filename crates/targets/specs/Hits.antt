@@ -10,8 +10,8 @@ use Rattle.diagram.specs.Valuations.{countOf}
 use Rattle.diagram.specs.Verdict.{Outcome, accepted, andThen, most, roomOf, verdictFor}
 use Rattle.diagram.specs.declared.verdict.Verdict.{Verdict}
 use Rattle.diagram.specs.declared.verdict.Output.the-variants.{Diagram}
-use Rattle.approximation.specs.Cut.{underCountOf, overCountOf}
 use Rattle.approximation.specs.Search.{Answer, underToSize, overToSize, underToCount, overToCount}
+use Rattle.told.specs.Told.{toldOf}
 use Rattle.targets.specs.Targets.{Meets}
 
 abbrev pub toSize : Bool → List ℕ → ℕ → Answer
@@ -19,10 +19,6 @@ toSize above w t = cond above (overToSize w t) (underToSize w t)
 
 abbrev pub toCount : Bool → List ℕ → ℕ → Answer
 toCount above w k = cond above (overToCount w k) (underToCount w k)
-
--- 16 and 19.
-abbrev pub toldOf : Bool → List ℕ → ℕ → Outcome
-toldOf above w k = cond above (overCountOf w k) (underCountOf w k)
 
 -- What is promised either way.
 abbrev pub countVerdict : Bool → List ℕ → ℕ → ℕ → ℕ → Outcome

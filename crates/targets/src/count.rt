@@ -1,6 +1,5 @@
 // To a count.
 use crate::Approximated;
-use crate::told::tell;
 use count_search::Answer;
 use count_search::counting::count_in;
 use count_search::under_count;
@@ -15,6 +14,7 @@ use naturals::excess;
 use naturals::power_of_two;
 use negation::negate;
 use room_map::TABLES;
+use told::tell;
 use trials::answers::give;
 use trials::answers::give_back;
 use trials::answers::keep;

@@ -1,7 +1,6 @@
 // Cutting to a target (document 01, "The evening's cut").
 pub mod count;
 pub mod size;
-mod told;
 
 use diagram::verdict::Verdict;
 

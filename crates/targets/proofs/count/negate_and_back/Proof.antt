@@ -4,7 +4,7 @@ use mathlib.Core.Path.{sym, ap, _∙_}
 use Prim.Native.Nat.{ℕ, _-_}
 use Rattle.naturals.specs.Natural.{value}
 use Rattle.targets.proofs.Counts.{targeting-variables, back-aims, back-under, count-back-hits}
-use Rattle.targets.proofs.Opening.{power-value}
+use Rattle.told.proofs.Opening.{power-value}
 use Rattle.targets.proofs.Hitting.{flip, negation-ready, negation-few, flipped-few, back-returns}
 use native.Mathlib.Omega.{arith}
 use borrow.Author.Needs.{needs}

@@ -1,8 +1,8 @@
 use Rattle.naturals.specs.Natural.{value}
-use Rattle.targets.proofs.Opening.{between-none, between-some, power-value}
+use Rattle.told.proofs.Opening.{between-none, between-some, power-value}
 use borrow.Author.Needs.{needs}
-use Rattle.targets.proofs.told.is_between.Statement.{statement}
-use Rattle.targets.proofs.told.is_between.Tie as tie
+use Rattle.told.proofs.is_between.Statement.{statement}
+use Rattle.told.proofs.is_between.Tie as tie
 
 is-zero-requires : tie.Need-is-zero-requires
 is-zero-requires c κs = search needs

@@ -16,7 +16,7 @@ ghost use Rattle.diagram.specs.Limits.{maxVariables};
 ghost use Rattle.diagram.specs.Diagram.{size, vars as varsOf};
 ghost use Rattle.diagram.specs.Verdict.{said};
 ghost use Rattle.approximation.specs.Cut.{underCountOf, overCountOf};
-ghost use Rattle.targets.specs.Hits.{toldOf};
+ghost use Rattle.told.specs.Told.{toldOf};
 
 // Whether a count lies strictly between none and all valuations.
 fn is_between(target: Natural, vars: u32) -> bool
@@ -71,7 +71,7 @@ fn over_told(target: Natural, nodes: usize, vars: u32) -> Verdict
     Verdict::Accepted { nodes, vars }
 }
 
-pub(crate) fn tell(target: Natural, above: bool, nodes: usize, vars: u32) -> Verdict
+pub fn tell(target: Natural, above: bool, nodes: usize, vars: u32) -> Verdict
     requires { ⌜ vars ≤ maxVariables ⌝ }
     ensures { λ r. ⌜ ((w : List ℕ) → nodes ≡ size w → vars ≡ varsOf w → said r ≡ toldOf above w (value (target .words))) ⌝ }
 {

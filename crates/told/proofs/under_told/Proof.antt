@@ -1,7 +1,7 @@
 use Rattle.naturals.specs.Natural.{value}
-use Rattle.targets.proofs.Opening.{under-19, under-two, under-other}
-use Rattle.targets.proofs.told.under_told.Statement.{statement}
-use Rattle.targets.proofs.told.under_told.Tie as tie
+use Rattle.told.proofs.Opening.{under-19, under-two, under-other}
+use Rattle.told.proofs.under_told.Statement.{statement}
+use Rattle.told.proofs.under_told.Tie as tie
 
 is-between-requires : tie.Need-is-between-requires
 is-between-requires c κs = c .before .pre

@@ -1,6 +1,6 @@
 use borrow.Author.Needs.{needs}
-use Rattle.targets.proofs.told.tell.Statement.{statement}
-use Rattle.targets.proofs.told.tell.Tie as tie
+use Rattle.told.proofs.tell.Statement.{statement}
+use Rattle.told.proofs.tell.Tie as tie
 
 over-told-requires : tie.Need-over-told-requires
 over-told-requires c κs = search needs

@@ -1,9 +1,9 @@
 use borrow.Author.Tests.{not-true, not-false}
 use Rattle.naturals.specs.Natural.{value}
-use Rattle.targets.proofs.Opening.{power-value, over-16, over-19, over-one, over-other}
+use Rattle.told.proofs.Opening.{power-value, over-16, over-19, over-one, over-other}
 use borrow.Author.Needs.{needs}
-use Rattle.targets.proofs.told.over_told.Statement.{statement}
-use Rattle.targets.proofs.told.over_told.Tie as tie
+use Rattle.told.proofs.over_told.Statement.{statement}
+use Rattle.told.proofs.over_told.Tie as tie
 
 power-of-two-requires : tie.Need-power-of-two-requires
 power-of-two-requires c κs = search needs

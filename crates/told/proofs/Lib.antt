@@ -1,0 +1,3 @@
+-- Laws of the checks of a count target.
+--     Opening    what they say
+pub mod Opening
