@@ -85,7 +85,7 @@ fn terminals(words: &[u32], heads: &[u32], room: &mut [u32], nodes: usize, valua
 }
 
 // The worths of all nodes, by chains that are made already.
-pub fn count_down(
+fn count_down(
     words: &[u32],
     heads: &[u32],
     room: &mut [u32],

@@ -18,9 +18,9 @@ ghost use Rattle.counts.specs.Table.{In, num};
 ghost use Rattle.weights.specs.Passes.{weightsFrom, weightsTo, Rising, Tables, Standing, Handed};
 
 // Words of the room for each node: a link and a count, and behind all of these a weight.
-pub const BEFORE: usize = 1 + naturals::WORDS;
+const BEFORE: usize = 1 + naturals::WORDS;
 
-pub const USED: usize = 1 + 2 * naturals::WORDS;
+pub(crate) const USED: usize = 1 + 2 * naturals::WORDS;
 
 // The second pass, over chains and counts that stand in the part already: they stay, and the weights come behind them.
 pub fn weigh_counted(words: &[u32], heads: &[u32], part: &mut [u32], nodes: usize, vars: u32)
@@ -52,7 +52,7 @@ pub fn weigh(words: &[u32], room: &mut [u32], nodes: usize, vars: u32)
 }
 
 // The weight of a node, from the room.
-pub fn weight_at(room: &[u32], nodes: usize, node: BddPointer) -> Natural
+fn weight_at(room: &[u32], nodes: usize, node: BddPointer) -> Natural
     requires { ⌜ In (weightsFrom nodes) (now room) (node .0) ⌝ }
     ensures { λ r. ⌜ Holds (num (weightsFrom nodes) (now (room .entry)) (node .0)) (r .words) ⌝ }
 {
