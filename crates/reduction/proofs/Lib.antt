@@ -16,6 +16,7 @@
 --     Joining       the search along a chain, and joining two children
 --     Walking       the calls and returns of the walk
 --     Answering     how the walk starts, and what is left in output and room
+--     Reducing      from the check to the answer
 pub mod Store
 pub mod Canon
 pub mod Sound
@@ -33,3 +34,4 @@ pub mod Zones
 pub mod Joining
 pub mod Walking
 pub mod Answering
+pub mod Reducing

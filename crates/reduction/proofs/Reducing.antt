@@ -1,0 +1,37 @@
+-- From the check to the answer.
+use Prim.Native.Nat.{ℕ, _*_, max}
+use mathlib.Core.Path.{_≡_, refl, _∙_}
+use mathlib.Core.List.{List}
+use native.Mathlib.Omega.{arith}
+use lib.ListN.{length}
+use Rattle.diagram.specs.Diagram.{size}
+use Rattle.diagram.specs.Verdict.{verdictFor, Checked}
+use Rattle.diagram.specs.declared.verdict.Output.the-variants.{Diagram}
+use Rattle.diagram.specs.declared.verdict.Verdict.{Verdict}
+use Rattle.diagram.specs.declared.verdict.Verdict.the-variants.{Accepted, Refused}
+use Rattle.diagram.proofs.Entering.{refusal-is, verdict-is, admitted, ordered, lent-fits, lent-word, lent-enough, builds-refused, builds-accepted}
+use Rattle.reduction.specs.Reduce.{reduce}
+use Rattle.reduction.specs.Answer.{Reduces}
+use Rattle.reduction.specs.Room.{Lent, Answered}
+
+module _ {w room room′ : List ℕ} (out : List ℕ) {r : Verdict} (c : Checked w (Diagram (length out)) room room′ r) where
+  pub reduce-refused : {k p : ℕ} → r ≡ Refused k p → Reduces w room room′ out out r 0
+  reduce-refused e = builds-refused (verdictFor Diagram w) (reduce w) out (c .left) e (refusal-is c e)
+
+  module _ {n v : ℕ} (e : r ≡ Accepted n v) where
+    pub reduce-asks : Lent w room′ out n v
+    reduce-asks =
+        let given = admitted c e in
+        record {
+          asked = record {
+            ordered = ordered c e;
+            is-size = given .nodes;
+            is-vars = given .variables;
+            long = lent-fits c e (6 * max (size w) 2) (omega arith);
+            zero = lent-word c e (6 * max (size w) 2) (omega arith);
+          };
+          output = lent-enough w (length out) (given .lent);
+        }
+
+    pub reduce-accepted : {room″ out′ : List ℕ} {k : ℕ} → Answered w room′ out room″ out′ k → Reduces w room room″ out out′ (Accepted n v) k
+    reduce-accepted a = builds-accepted (verdictFor Diagram w) (reduce w) out (a .room ∙ c .left) refl (verdict-is c e) (a .count) (a .output)
