@@ -23,13 +23,16 @@ pub struct Case {
     pub bdd: Bdd,
     pub half_count: BigUint,
     pub under_count: BigUint,
+    /// Half of the valuations that the diagram doesn't hold for, besides its own.
+    pub half_over: BigUint,
 }
 
 impl Case {
     pub fn new(words: Vec<u32>, operation: &Operation) -> Case {
         let bdd = Bdd::from_words(&words);
         let count = if operation.targets { bdd.exact_cardinality() } else { BigUint::from(1u32) };
-        Case { words, bdd, half_count: &count / 2u32, under_count: count - 1u32 }
+        let half_over = (&count + (BigUint::from(1u32) << words[0])) / 2u32;
+        Case { words, bdd, half_count: &count / 2u32, under_count: count - 1u32, half_over }
     }
     pub fn nodes(&self) -> usize {
         self.words.len() / 3
@@ -53,7 +56,7 @@ pub struct Operation {
     pub compare: fn(&Case, &mut Lent),
 }
 
-pub const OPERATIONS: [Operation; 11] = [
+pub const OPERATIONS: [Operation; 12] = [
     Operation {
         name: "validate",
         targets: false,
@@ -173,6 +176,17 @@ pub const OPERATIONS: [Operation; 11] = [
         ours: Some(|c, lent| _ = black_box(under_count(c, &c.under_count, lent))),
         compare: |c, lent| compare_count(c, &c.under_count, lent),
     },
+    Operation {
+        name: "overapproximate_to_cardinality, half",
+        targets: true,
+        rust: |c| _ = black_box(c.bdd.overapproximate_to_cardinality(&c.half_over)),
+        ours: Some(|c, lent| _ = black_box(over_count(c, &c.half_over, lent))),
+        compare: |c, lent| {
+            let made = over_count(c, &c.half_over, lent);
+            assert_eq!(made.verdict.number, 0);
+            assert_eq!(&lent.output[..3 * made.nodes], c.bdd.overapproximate_to_cardinality(&c.half_over).to_words());
+        },
+    },
 ];
 
 /// A count target as eight words.
@@ -185,6 +199,11 @@ pub fn natural(count: &BigUint) -> ours::Natural {
 fn under_count(c: &Case, count: &BigUint, lent: &mut Lent) -> ours::Approximation {
     let (room, output) = c.lent(lent, 3);
     ours::underapproximate_to_cardinality(&c.words, natural(count), room, output)
+}
+
+fn over_count(c: &Case, count: &BigUint, lent: &mut Lent) -> ours::Approximation {
+    let (room, output) = c.lent(lent, 3);
+    ours::overapproximate_to_cardinality(&c.words, natural(count), room, output)
 }
 
 fn compare_count(c: &Case, count: &BigUint, lent: &mut Lent) {

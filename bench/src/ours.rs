@@ -42,6 +42,7 @@ extern "C" {
     fn houayletan_underapproximate_to_size(words: *const u32, words_len: usize, target: u32, room: *mut u32, room_len: usize, output: *mut u32, output_len: usize) -> Approximation;
     fn houayletan_overapproximate_to_size(words: *const u32, words_len: usize, target: u32, room: *mut u32, room_len: usize, output: *mut u32, output_len: usize) -> Approximation;
     fn houayletan_underapproximate_to_cardinality(words: *const u32, words_len: usize, target: Natural, room: *mut u32, room_len: usize, output: *mut u32, output_len: usize) -> Approximation;
+    fn houayletan_overapproximate_to_cardinality(words: *const u32, words_len: usize, target: Natural, room: *mut u32, room_len: usize, output: *mut u32, output_len: usize) -> Approximation;
     fn houayletan_validate(words: *const u32, words_len: usize, room: *mut u32, room_len: usize) -> Verdict;
     fn houayletan_clear(room: *mut u32, room_len: usize, count: usize);
     fn houayletan_exact_cardinality(words: *const u32, words_len: usize, room: *mut u32, room_len: usize) -> Count;
@@ -94,4 +95,9 @@ pub fn overapproximate_to_size(words: &[u32], target: u32, room: &mut [u32], out
 pub fn underapproximate_to_cardinality(words: &[u32], target: Natural, room: &mut [u32], output: &mut [u32]) -> Approximation {
     let (out, out_len) = (output.as_mut_ptr(), output.len());
     unsafe { houayletan_underapproximate_to_cardinality(words.as_ptr(), words.len(), target, room.as_mut_ptr(), room.len(), out, out_len) }
+}
+
+pub fn overapproximate_to_cardinality(words: &[u32], target: Natural, room: &mut [u32], output: &mut [u32]) -> Approximation {
+    let (out, out_len) = (output.as_mut_ptr(), output.len());
+    unsafe { houayletan_overapproximate_to_cardinality(words.as_ptr(), words.len(), target, room.as_mut_ptr(), room.len(), out, out_len) }
 }

@@ -172,7 +172,7 @@ over-count w u over =
     let grown = tally-mono (vars w) (holds w) (holds u) (over .implied) in
     omega arith
 
-one-count : (w : List ℕ) → size w ≡ 1 → countOf w ≡ 0
+pub one-count : (w : List ℕ) → size w ≡ 1 → countOf w ≡ 0
 one-count w e = tally-none (vars w) (holds w) (λ bs l. one-holds w bs e)
 
 -- ---- underapproximations to a count

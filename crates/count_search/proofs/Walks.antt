@@ -16,32 +16,30 @@ use Rattle.diagram.specs.Diagram.{size, vars}
 use Rattle.diagram.specs.Verdict.{most}
 use Rattle.diagram.specs.Valuations.{countOf, weightOf}
 use Rattle.diagram.proofs.Tests.{by-test}
-use Rattle.room_map.specs.Map.{countsFrom, countsTo, tablesTo, searchTo}
+use Rattle.room_map.specs.Map.{countsFrom, countsTo, weightsFrom, tablesTo, searchTo}
 use Rattle.counts.specs.Table.{num, Noted}
-use Rattle.weights.specs.Passes.{weightsFrom}
 use Rattle.approximation.specs.Cut.{cut, listed}
 use Rattle.approximation.specs.Search.{answer, order, cutFirst, covering, reached, countSearch, underToCount}
 use Rattle.approximation.proofs.Cut.{cut-same}
 use Rattle.approximation.proofs.Members.{order-length, order-nodes}
 use Rattle.approximation.proofs.Search.{first-all, false-count, walk-out, walk-covers, walk-on, count-enough, count-on}
 use Rattle.approximation.proofs.Targets.{to-count-search}
-use Rattle.cuts.specs.Marks.{markedIn}
+use Rattle.cuts.specs.Marks.{markedIn, Cutting, CutIn}
 use Rattle.cuts.proofs.Steps.{present}
 use Rattle.cuts.proofs.Marking.{set-marks, listed-take}
 use Rattle.cuts.proofs.Answering.{drop-more}
 use Rattle.recounts.specs.Kept.{Untouched, Recounting, Recounted}
 use Rattle.recounts.proofs.Passes.{same-words, untouched-marks, untouched-noted}
 use Rattle.recounts.proofs.Counting.{stale-taken}
-use Rattle.trials.specs.Trials.{Ready, Trying, Tried, Found}
+use Rattle.trials.specs.Trials.{Ready, Found}
 use Rattle.trials.proofs.Readying.{ready-marks}
 use Rattle.count_search.specs.Rounds.{Takeable, Took, Taken, Seeking}
 
--- Priorities and weights stand before the counts.
+-- Priorities stand before the counts, and weights behind them.
 ready-untouched : {w r after : List ℕ} → countsTo (size w) ≤ length r → Ready w r → Untouched (size w) r after → Ready w after
 ready-untouched {w} {r} {after} long a u = record {
   order = same-words (countsFrom (size w)) r after (u .kept) (u .before) 0 (size w - 2) (omega arith) (omega arith) ∙ a .order;
-  weight = λ p h.
-      rw (same-words (countsFrom (size w)) r after (u .kept) (u .before) (weightsFrom (size w) + wordCount * p) wordCount (omega arith) (omega arith)) (a .weight p h);
+  weight = λ p h. rw (drop-more (countsTo (size w)) (weightsFrom (size w) + wordCount * p) after r (omega arith) (u .beyond)) (a .weight p h);
 }
 
 -- ---- one more node
@@ -57,8 +55,8 @@ module _ {w heads start changed r : List ℕ} {c : ℕ} (t : Taken w heads start
       let in-order = order-nodes w (getD (order w) c 0) (present (order w) c (getD (order w) c 0) (omega arith) refl) in
       rw e in-order
 
-  pub takeable : {n : ℕ} → n ≡ size w → n ≤ maxNodes → countsTo n ≤ length r → Takeable r n c
-  takeable e few long = let inside = taken-inside .1 in record { few = few; inside = omega arith; long = long }
+  pub takeable : {n : ℕ} → n ≡ size w → n ≤ maxNodes → searchTo n ≤ length r → Takeable r n c
+  takeable e few long = let inside = taken-inside .1 in record { few = few; inside = omega arith; long = omega arith }
 
   module _ (long : countsTo (size w) ≤ length r) (flags : size w ≤ length changed) {changed′ after words : List ℕ}
       (x : Took changed r changed′ after (size w) (getD r c 0) words) where
@@ -140,7 +138,7 @@ module _ {w heads s0 r0 s r : List ℕ} {c0 rest0 c rest : ℕ} (x : Walk w head
     same = let all = order-length w in sym (walk-out (weightOf w) (order w) c rest (omega arith)) ∙ x .same;
   }
 
-  module _ {n : ℕ} (is-n : n ≡ size w) (h : c < n - 2) (long : countsTo n ≤ length r) (flags : n ≤ length s) {s′ after words : List ℕ}
+  module _ {n : ℕ} (is-n : n ≡ size w) (h : c < n - 2) (long : searchTo n ≤ length r) (flags : n ≤ length s) {s′ after words : List ℕ}
       (got : Took s r s′ after n (getD r c 0) words) where
     got-is : Took s r s′ after (size w) (getD r c 0) words
     got-is = rw is-n at got
@@ -215,7 +213,7 @@ module _ {w heads sent start : List ℕ} {k count n v : ℕ} (a : Seeking w head
       }
 
   module _ {s r : List ℕ} {c : ℕ} (t : Taken w heads start s r c) where
-    pub taken-long : countsTo n ≤ length r
+    pub taken-long : searchTo n ≤ length r
     taken-long = let long = a .long in let kept = t .kept in omega arith
 
     pub taken-recounting : length s ≡ length sent → Recounting w heads s r n v
@@ -224,7 +222,7 @@ module _ {w heads sent start : List ℕ} {k count n v : ℕ} (a : Seeking w head
         record {
           given = record { ordered = a .ordered; nodes = a .is-size; two = omega arith };
           is-vars = a .is-vars;
-          long = taken-long;
+          long = let long = taken-long in omega arith;
           flags = seeking-flags s e;
           stale = t .stale;
         }
@@ -232,40 +230,40 @@ module _ {w heads sent start : List ℕ} {k count n v : ℕ} (a : Seeking w head
     pub taken-recounted : {s′ after words : List ℕ} → Recounted w heads r s′ after n words → Taken w heads start s′ after c
     taken-recounted {s′} {after} x =
         let u : Untouched (size w) r after = rw (a .is-size) at (x .untouched) in
-        let long : countsTo (size w) ≤ length r = rw (a .is-size) at taken-long in
+        let long : searchTo (size w) ≤ length r = rw (a .is-size) at taken-long in
         record {
           few = t .few;
           kept = u .kept ∙ t .kept;
-          ready = ready-untouched long (t .ready) u;
+          ready = ready-untouched (omega arith) (t .ready) u;
           marks = λ q h. untouched-marks u q h ∙ t .marks q h;
           beyond = u .beyond ∙ t .beyond;
           stale = x .stale;
         }
 
-    pub taken-trying : {copy : List ℕ} → length copy ≡ length sent → Trying w copy r c n v
-    taken-trying {copy} e =
-        let long = a .long in
-        let kept = t .kept in
+    pub taken-cutting : {copy : List ℕ} → length copy ≡ length sent → Cutting w copy r 0 n v
+    taken-cutting {copy} e =
+        let long = taken-long in
         let fits = a .copy in
         let is = a .is-size in
-        let few = t .few in
+        let many = a .many in
         record {
           ordered = a .ordered;
           is-size = is;
           is-vars = a .is-vars;
-          many = a .many;
-          few = omega arith;
+          terminal = omega arith;
           copy = omega arith;
           long = omega arith;
-          ready = t .ready;
         }
+
+    -- the marks are those of the first priorities
+    cut-is : cut w (markedIn (size w) r) 0 ≡ cutFirst w c
+    unfolding cutFirst
+    cut-is = cut-same w (a .ordered) (markedIn (size w) r) (listed (take c (order w))) 0 (t .marks)
 
     -- what the cut leaves
     pub left-is : {words : List ℕ} → Holds (countOf (cut w (markedIn n r) 0)) words → value words ≡ countOf (cutFirst w c)
-    unfolding cutFirst
     left-is h =
-        h .worth ∙ ap (λ (i : ℕ). countOf (cut w (markedIn i r) 0)) (a .is-size)
-        ∙ ap (λ (l : List ℕ). countOf l) (cut-same w (a .ordered) (markedIn (size w) r) (listed (take c (order w))) 0 (t .marks))
+        h .worth ∙ ap (λ (i : ℕ). countOf (cut w (markedIn i r) 0)) (a .is-size) ∙ ap (λ (l : List ℕ). countOf l) cut-is
 
   module _ {s0 r0 s r : List ℕ} {c0 rest0 trials c : ℕ} (x : Round w heads start s0 r0 k c0 rest0 trials) (y : Walked w heads s0 r0 s r c0 rest0 c) where
     pub round-taken : Taken w heads start s r c
@@ -332,17 +330,20 @@ module _ {w heads sent start : List ℕ} {k count n v : ℕ} (a : Seeking w head
           ∙ ap (λ (i : ℕ). answer (cutFirst w i) (suc trials)) (sym (y .same))
           ∙ ap (λ (j : ℕ). answer (cutFirst w c) j) (sym (add-one trials))
 
-      pub round-done : left ≤ k → {after : List ℕ} {found : ℕ} → Tried w c r′ after found → Found w (underToCount w k) start after found (trials + 1)
+      pub round-done : left ≤ k → {after : List ℕ} {found : ℕ} → CutIn w 0 r′ after found → Found w (underToCount w k) start after found (trials + 1)
       round-done h {after} {found} t =
           let is = a .is-size in
           let many = a .many in
           let is-most : most w ≡ size w = omega arith in
+          let made : cut w (markedIn (most w) r′) 0 ≡ cutFirst w c = rw is-most (cut-is round-counted) in
           rw (answer-is h) (record {
             trials = refl;
-            count = t .count;
-            words = t .words;
+            count = t .count ∙ ap (λ (l : List ℕ). size l) made;
+            words = ap (λ (l : List ℕ). length l) (sym made) ∙ t .words;
             fits = t .fits;
             kept = t .kept ∙ round-counted .kept;
-            made = rw is-most (t .made);
-            beyond = rw is-most (drop-more (tablesTo (size w)) (searchTo (size w)) after r′ (omega arith) (t .beyond) ∙ round-counted .beyond);
+            made = t .made ∙ made;
+            beyond =
+                drop-more (tablesTo (most w)) (searchTo (most w)) after r′ (omega arith) (t .beyond)
+                ∙ drop-more (countsTo (size w)) (searchTo (most w)) r′ start (omega arith) (round-counted .beyond);
           })

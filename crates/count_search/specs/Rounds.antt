@@ -1,36 +1,35 @@
--- What the functions of the search for a count ask. No promise to a caller rests on this file. The room is as crates/trials
--- has it; where counts are made it is zero.
-use Prim.Native.Nat.{ℕ, _+_, _-_, _*_, _≤_, _<_}
+-- What the functions of the search for a count ask. No promise to a caller rests on this file. The room is as crates/room_map
+-- has it.
+use Prim.Native.Nat.{ℕ, _+_, _-_, _≤_, _<_}
 use mathlib.Core.Path.{_≡_}
+use mathlib.Core.Bool.{cond}
 use mathlib.Core.List.{List}
-use lib.ListN.{length, getD, set, take, drop, replicate}
+use lib.ListN.{length, getD, set, take, drop}
+use lib.Dec.{leb}
 use Rattle.naturals.specs.Natural.{Holds}
 use Rattle.diagram.specs.Limits.{maxNodes}
 use Rattle.diagram.specs.Diagram.{size, vars, Ordered}
 use Rattle.diagram.specs.Verdict.{accepted}
 use Rattle.diagram.specs.Valuations.{countOf}
 use Rattle.counts.specs.Table.{num, Noted}
-use Rattle.weights.specs.Passes.{weightsFrom}
 use Rattle.approximation.specs.Cut.{listed, underCountOf}
-use Rattle.approximation.specs.Search.{order}
+use Rattle.approximation.specs.Search.{Answer, answer, order, underToCount}
 use Rattle.cuts.specs.Marks.{markedIn}
-use Rattle.room_map.specs.Map.{countsFrom, countsTo}
-use Rattle.recounts.specs.Kept.{Stale, Begun}
-use Rattle.trials.specs.Trials.{Ready, Searching}
+use Rattle.room_map.specs.Map.{countsFrom, countsTo, weightsFrom, weightsTo, searchTo}
+use Rattle.recounts.specs.Kept.{Stale, Whole}
+use Rattle.trials.specs.Trials.{Ready, Searching, Preparing, Prepared}
 
--- An ordered array can be counted at a place of the room.
-pub record Countable (w r : List ℕ) (at n : ℕ) : Type 0 where
-  pub ordered : Ordered w
-  pub is-size : n ≡ size w
-  pub place : at ≤ 64 * maxNodes
-  pub long : at + 9 * n ≤ length r
-  pub zero : take (9 * n) (drop at r) ≡ replicate (9 * n) 0
+-- The words stay where their count is at most k, for k = 0 too. For other k it is the underapproximation itself.
+unfoldable pub cutToCount : List ℕ → ℕ → Answer
+cutToCount w k =
+    let same = answer w 0 in
+    cond (leb (countOf w) k) same (underToCount w k)
 
 -- A node stands at place i of the priorities.
 pub record Takeable (r : List ℕ) (n i : ℕ) : Type 0 where
   pub few : n ≤ maxNodes
   pub inside : getD r i 0 < n
-  pub long : countsTo n ≤ length r
+  pub long : weightsTo n ≤ length r
 
 -- Node p is taken, and words are its weight.
 pub record Took (changed r changed′ after : List ℕ) (n p : ℕ) (words : List ℕ) : Type 0 where
@@ -54,22 +53,30 @@ pub record Seeking (w heads sent r : List ℕ) (k count n v : ℕ) : Type 0 wher
   pub is-vars : v ≡ vars w
   pub many : 2 < n
   pub copy : length w ≤ length sent
-  pub long : countsTo n ≤ length r
+  pub long : searchTo n ≤ length r
   pub taken : Taken w heads r sent r 0
   pub low : 0 < k
   pub high : k < countOf w
   pub is-count : count ≡ countOf w
 
--- A room that is zero, and a target that is not refused.
+-- A room that is long enough, and a target that is not refused.
 pub record Aiming (w r : List ℕ) (k n v : ℕ) : Type 0 where
   pub searching : Searching w r n v
   pub target : underCountOf w k ≡ accepted (size w) (vars w)
 
--- A count that is above the target, and what was counted; before it was the room was start.
+-- What was counted stands in the room; then the weights and the order do too.
+pub record Weighing (w heads r : List ℕ) (n v : ℕ) : Type 0 where
+  pub preparing : Preparing w r n v
+  pub whole : Whole w heads r
+
+pub record Weighed (w heads r after : List ℕ) : Type 0 where
+  pub prepared : Prepared w r after
+  pub whole : Whole w heads after
+
+-- A count that is above the target, and what was counted.
 pub record Above (w heads r : List ℕ) (k count n v : ℕ) : Type 0 where
-  pub start : List ℕ
-  pub aiming : Aiming w start k n v
-  pub begun : Begun w heads start r
+  pub aiming : Aiming w r k n v
+  pub whole : Whole w heads r
   pub low : 0 < k
   pub high : k < countOf w
   pub is-count : count ≡ countOf w

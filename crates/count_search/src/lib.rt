@@ -1,33 +1,44 @@
 // The search for a count (document 01, "The evening's cut"): nodes are taken by priority until their weights cover what is to
 // be removed, and all that are taken are cut; while the count is still too large, the walk goes on where it stopped. The
-// answer stands in the working room.
-pub mod counting;
+// answer stands in the working room. The diagram is counted once: weights and rounds go on from that count.
 mod rounds;
 
 use cuts::cut::SENT;
-use cuts::cut::constant;
 use diagram::lengths::most;
 use diagram::node::BddPointer;
 use levels::CHAINS;
 use naturals::Natural;
 use naturals::at_most;
 use naturals::is_zero;
+use priorities::prioritise;
 use recounts::begin;
-use room_map::ANSWER;
+use room_map::LINKS;
+use room_map::WEIGHTS_END;
 use rounds::search;
+use trials::answers::Answer;
+use trials::answers::constantly;
 use trials::answers::keep;
 use trials::first::unmark;
-use trials::prepare;
-ghost use Prim.Native.Nat.{_<_};
+use weights::weigh::weigh_counted;
+ghost use Prim.Native.Nat.{_≤_};
 ghost use Rattle.naturals.specs.Natural.{value};
 ghost use Rattle.approximation.specs.Search.{underToCount};
 ghost use Rattle.trials.specs.Trials.{Found};
-ghost use Rattle.count_search.specs.Rounds.{Aiming, Above};
+ghost use Rattle.count_search.specs.Rounds.{cutToCount, Aiming, Weighing, Weighed, Above};
 
-// How many nodes the answer has, and how many cuts by a list were made for it.
-pub struct Answer {
-    pub nodes: usize,
-    pub trials: usize,
+// The weights, behind what was counted, and the non-terminals by priority.
+fn prepare_counted(words: &[u32], heads: &[u32], room: &mut [u32], nodes: usize, vars: u32)
+    requires { ⌜ Weighing (now words) (now heads) (now room) nodes vars ⌝ }
+    ensures { λ _. ⌜ Weighed (now (words .entry)) (now (heads .entry)) (now (room .entry)) (now (room .exit)) ⌝ }
+{
+    weigh_counted(
+        words,
+        heads,
+        &mut room[LINKS * nodes..WEIGHTS_END * nodes],
+        nodes,
+        vars,
+    );
+    prioritise(room, nodes);
 }
 
 // The search with all it needs, for a count that is above the target.
@@ -44,21 +55,21 @@ fn seek(
     ensures { λ r. ⌜ Found (now (words .entry)) (underToCount (now (words .entry)) (value (target .words))) (now (room .entry)) (now (room .exit)) (r .nodes) (r .trials) ⌝ }
 {
     let mut sent = [0u32; SENT];
-    prepare(words, room, nodes, vars);
+    prepare_counted(words, heads, room, nodes, vars);
     unmark(room, nodes);
     search(words, heads, &mut sent, room, target, count, nodes, vars)
 }
 
-// More than two nodes: the count is made first, and where it is above the target the search goes on with what was counted.
-fn count_and_seek(
+// Two nodes or more: they are counted, and where the count is above the target the search goes on with what was counted.
+fn count_and_cut(
     words: &[u32],
     room: &mut [u32],
     target: Natural,
     nodes: usize,
     vars: u32,
 ) -> Answer
-    requires { ⌜ Aiming (now words) (now room) (value (target .words)) nodes vars × (0 < value (target .words)) × (2 < nodes) ⌝ }
-    ensures { λ r. ⌜ Found (now (words .entry)) (underToCount (now (words .entry)) (value (target .words))) (now (room .entry)) (now (room .exit)) (r .nodes) (r .trials) ⌝ }
+    requires { ⌜ Aiming (now words) (now room) (value (target .words)) nodes vars × (2 ≤ nodes) ⌝ }
+    ensures { λ r. ⌜ Found (now (words .entry)) (cutToCount (now (words .entry)) (value (target .words))) (now (room .entry)) (now (room .exit)) (r .nodes) (r .trials) ⌝ }
 {
     let mut heads = [0u32; CHAINS];
     let count = begin(words, &mut heads, room, nodes, vars);
@@ -66,7 +77,32 @@ fn count_and_seek(
         keep(words, room, nodes);
         return Answer { nodes, trials: 0 };
     }
+    if is_zero(target) {
+        return constantly(room, BddPointer(0), nodes, vars);
+    }
     seek(words, &heads, room, target, count, nodes, vars)
+}
+
+// The words stay where their count is at most the target, a target of none too; else they are underapproximated.
+pub fn cut_to_count(
+    words: &[u32],
+    room: &mut [u32],
+    target: Natural,
+    nodes: usize,
+    vars: u32,
+) -> Answer
+    requires { ⌜ Aiming (now words) (now room) (value (target .words)) nodes vars ⌝ }
+    ensures { λ r. ⌜ Found (now (words .entry)) (cutToCount (now (words .entry)) (value (target .words))) (now (room .entry)) (now (room .exit)) (r .nodes) (r .trials) ⌝ }
+{
+    // One node is false, with no valuation.
+    if nodes == 1 {
+        keep(words, room, most(nodes));
+        return Answer {
+            nodes: 1,
+            trials: 0,
+        };
+    }
+    count_and_cut(words, room, target, nodes, vars)
 }
 
 pub fn under_count(
@@ -79,18 +115,8 @@ pub fn under_count(
     requires { ⌜ Aiming (now words) (now room) (value (target .words)) nodes vars ⌝ }
     ensures { λ r. ⌜ Found (now (words .entry)) (underToCount (now (words .entry)) (value (target .words))) (now (room .entry)) (now (room .exit)) (r .nodes) (r .trials) ⌝ }
 {
-    let most = most(nodes);
     if is_zero(target) {
-        let none = constant(room, ANSWER * most, BddPointer(0), vars);
-        return Answer {
-            nodes: none,
-            trials: 0,
-        };
+        return constantly(room, BddPointer(0), nodes, vars);
     }
-    // A constant: no target is left but one that is met.
-    if nodes <= 2 {
-        keep(words, room, most);
-        return Answer { nodes, trials: 0 };
-    }
-    count_and_seek(words, room, target, nodes, vars)
+    cut_to_count(words, room, target, nodes, vars)
 }

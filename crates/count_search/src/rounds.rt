@@ -1,5 +1,6 @@
 // Rounds of a walk over the nodes by priority, each with a cut by all that are taken.
-use crate::Answer;
+use counts::table::count_at;
+use cuts::cut::cut;
 use cuts::marks::mark;
 use diagram::node::BddPointer;
 use diagram::node::word;
@@ -9,11 +10,12 @@ use naturals::excess;
 use naturals::zero;
 use recounts::changes::change;
 use recounts::recount;
-use trials::first::cut_first;
-use weights::weigh::weight_at;
+use room_map::WEIGHTS;
+use trials::answers::Answer;
 ghost use lib.ListN.{getD};
 ghost use Rattle.naturals.specs.Natural.{value};
 ghost use Rattle.approximation.specs.Search.{underToCount};
+ghost use Rattle.cuts.specs.Marks.{Cutting, CutIn};
 ghost use Rattle.trials.specs.Trials.{Found};
 ghost use Rattle.count_search.specs.Rounds.{Takeable, Took, Seeking};
 
@@ -25,7 +27,15 @@ fn take_node(changed: &mut [u32], room: &mut [u32], nodes: usize, taken: usize) 
     let node = BddPointer(word(room, taken));
     mark(room, nodes, node);
     change(changed, room, nodes, node, zero());
-    weight_at(room, nodes, node)
+    count_at(room, WEIGHTS * nodes, node)
+}
+
+// The cut by the nodes that are taken: they are marked already.
+fn cut_taken(words: &[u32], sent: &mut [u32], room: &mut [u32], nodes: usize, vars: u32) -> usize
+    requires { ⌜ Cutting (now words) (now sent) (now room) 0 nodes vars ⌝ }
+    ensures { λ r. ⌜ CutIn (now (words .entry)) 0 (now (room .entry)) (now (room .exit)) r ⌝ }
+{
+    cut(words, sent, room, BddPointer(0), nodes, vars)
 }
 
 // The inner walk ends with the node whose weight reaches the rest. Weights of nodes that share a valuation count it twice, so
@@ -58,7 +68,7 @@ pub(crate) fn search(
         trials += 1;
         let left = recount(words, heads, sent, room, nodes, vars);
         if at_most(left, target) {
-            break cut_first(words, sent, room, taken, nodes, vars);
+            break cut_taken(words, sent, room, nodes, vars);
         }
         rest = excess(left, target);
     };

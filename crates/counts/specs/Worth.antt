@@ -9,7 +9,7 @@ use Rattle.naturals.specs.Natural.{wordCount, limit, Holds}
 use Rattle.diagram.specs.Diagram.{varOf, size, vars, root}
 use Rattle.diagram.specs.Reading.{eval}
 use Rattle.diagram.specs.Valuations.{tally}
-use Rattle.levels.specs.Chains.{Last, Given, Node, Known}
+use Rattle.levels.specs.Chains.{Last, Heads, Given, Node, Known}
 use Rattle.counts.specs.Paths.{paths}
 use Rattle.counts.specs.Table.{entry as entryOf, num, In}
 
@@ -55,7 +55,7 @@ pub record Joining (valuations : Bool) (w room : List ℕ) (n p : ℕ) : Type 0 
 pub record Descending (valuations : Bool) (w heads room : List ℕ) (n c : ℕ) : Type 0 where
   pub given : Given w n
   pub level : c < vars w
-  pub head : (c : ℕ) → c < vars w → Last w c (size w) (getD heads c 0)
+  pub head : Heads w heads
   pub worths : Worths valuations w room (suc c) 0
 
 -- In the chain of c, at p, or at its end where p is 0.

@@ -17,10 +17,10 @@ use naturals::from_word;
 use naturals::zero;
 ghost use mathlib.Core.Path.{_≡_};
 ghost use Prim.Native.Nat.{_+_, _*_, _≤_};
-ghost use lib.ListN.{length};
+ghost use lib.ListN.{length, replicate};
 ghost use Rattle.naturals.specs.Natural.{wordCount, Holds};
 ghost use Rattle.diagram.specs.Diagram.{varOf, vars as varsOf};
-ghost use Rattle.levels.specs.Chains.{Given, Linked};
+ghost use Rattle.levels.specs.Chains.{chainCount, Heads, Given, Linked};
 ghost use Rattle.counts.specs.Table.{num};
 ghost use Rattle.counts.specs.Worth.{partOf, Parting, Joining, Descending, Worths};
 
@@ -85,7 +85,7 @@ fn terminals(words: &[u32], heads: &[u32], room: &mut [u32], nodes: usize, valua
 }
 
 // The worths of all nodes, by chains that are made already.
-pub fn count_down(
+fn count_down(
     words: &[u32],
     heads: &[u32],
     room: &mut [u32],
@@ -104,12 +104,27 @@ pub fn count_down(
     }
 }
 
+// The chains, and the worths of all nodes by them. `heads` is zero before.
+pub fn link_and_count(
+    words: &[u32],
+    heads: &mut [u32],
+    room: &mut [u32],
+    nodes: usize,
+    vars: u32,
+    valuations: bool,
+)
+    requires { ⌜ Given (now words) nodes × (vars ≡ varsOf (now words)) × (now heads ≡ replicate chainCount 0) × (nodes + wordCount * nodes ≤ length (now room)) ⌝ }
+    ensures { λ _. ⌜ Heads (now (words .entry)) (now (heads .exit)) × Worths valuations (now (words .entry)) (now (room .exit)) 0 0 ⌝ }
+{
+    link(words, heads, room, nodes);
+    count_down(words, heads, room, nodes, vars, valuations);
+}
+
 // The worths of all nodes.
 pub(crate) fn count_all(words: &[u32], room: &mut [u32], nodes: usize, vars: u32, valuations: bool)
     requires { ⌜ Given (now words) nodes × (vars ≡ varsOf (now words)) × (nodes + wordCount * nodes ≤ length (now room)) ⌝ }
     ensures { λ _. ⌜ Worths valuations (now (words .entry)) (now (room .exit)) 0 0 ⌝ }
 {
     let mut heads = [0u32; CHAINS];
-    link(words, &mut heads, room, nodes);
-    count_down(words, &heads, room, nodes, vars, valuations);
+    link_and_count(words, &mut heads, room, nodes, vars, valuations);
 }

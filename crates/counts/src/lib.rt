@@ -1,7 +1,7 @@
 // Counts of a decision diagram: the valuations that it holds for, and the paths from its root to node 1.
 pub mod down;
 pub mod table;
-pub mod total;
+mod total;
 
 use diagram::validate::admit;
 use diagram::verdict::Output;

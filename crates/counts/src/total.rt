@@ -15,7 +15,7 @@ ghost use Rattle.diagram.specs.Diagram.{size, Ordered};
 ghost use Rattle.counts.specs.Worth.{entry as entryOf, doublings as doublingsOf, totalOf};
 
 // Words of working room that are used for each node: a link and a worth.
-pub const ENTRY: usize = 1 + naturals::WORDS;
+pub(crate) const ENTRY: usize = 1 + naturals::WORDS;
 
 // How often a link that skips variables doubles a worth.
 fn doublings(valuations: bool, skipped: u32) -> u32
@@ -25,7 +25,7 @@ fn doublings(valuations: bool, skipped: u32) -> u32
 }
 
 // The root's worth, doubled for the variables above the root. The room is zero before and after.
-pub fn total(words: &[u32], room: &mut [u32], nodes: usize, valuations: bool) -> Natural
+pub(crate) fn total(words: &[u32], room: &mut [u32], nodes: usize, valuations: bool) -> Natural
     requires { ⌜ (nodes ≡ size (now words)) × Ordered (now words) × (now room ≡ replicate (entryOf * nodes) 0) ⌝ }
     ensures { λ r. ⌜ Holds (totalOf valuations (now (words .entry))) (r .words) × (now (room .exit) ≡ replicate (length (now (room .entry))) 0) ⌝ }
 {

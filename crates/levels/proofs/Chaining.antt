@@ -11,7 +11,7 @@ use lib.Seq.{getD-set-same, getD-set-other}
 use Rattle.diagram.specs.Diagram.{varOf, size, vars, Ordered}
 use Rattle.diagram.proofs.Tests.{by-eq}
 use Rattle.diagram.proofs.Reading.{layered, by-two}
-use Rattle.levels.specs.Chains.{chainCount, Last, Linked, Given, Node, Known, Todo}
+use Rattle.levels.specs.Chains.{chainCount, Last, Heads, Linked, Given, Node, Known, Todo}
 
 -- ---- how they are made
 
@@ -119,7 +119,7 @@ at-chain l h ne = let k = h .node ne in (record { two = k .0; inside = omega (ar
 pub chain-falls : {w : List ℕ} {c p q : ℕ} → 2 ≤ p → Last w c p q → q < p
 chain-falls {p = p} {q = q} two l = by-eq q 0 (λ e. omega arith) (λ ne. l .node ne .1)
 
-pub heads-all : {w heads nexts : List ℕ} {n : ℕ} → Given w n → Linked w heads nexts n → (c : ℕ) → c < vars w → Last w c (size w) (getD heads c 0)
+pub heads-all : {w heads nexts : List ℕ} {n : ℕ} → Given w n → Linked w heads nexts n → Heads w heads
 heads-all given l c h = rw (given .nodes) at (l .head c h)
 
 -- ---- the loop that makes them

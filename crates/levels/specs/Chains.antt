@@ -15,6 +15,10 @@ pub record Last (w : List ℕ) (c b q : ℕ) : Type 0 where
   pub node : q ≢ 0 → (2 ≤ q) × (q < b) × (varOf w q ≡ c)
   pub last : (r : ℕ) → 2 ≤ r → r < b → varOf w r ≡ c → r ≤ q
 
+-- Each variable's last node.
+abbrev pub Heads : List ℕ → List ℕ → Type 0
+Heads w heads = (c : ℕ) → c < vars w → Last w c (size w) (getD heads c 0)
+
 -- The chains of the first b nodes: each variable's last node, and for each node the one before it with the same variable.
 pub record Linked (w heads nexts : List ℕ) (b : ℕ) : Type 0 where
   pub head : (c : ℕ) → c < vars w → Last w c b (getD heads c 0)

@@ -3,31 +3,33 @@ use Prim.Native.Nat.{ℕ, _+_, _-_, _*_, _^_, _≤_, _<_}
 use mathlib.Core.Path.{_≡_, refl, sym, ap, _∙_}
 use mathlib.Core.Logic.{_≢_}
 use mathlib.Core.Bool.{Bool, true, false, cond, _||_, or-false, true≢false}
-use mathlib.Core.List.{List, _++_}
+use mathlib.Core.List.{List}
 use native.Mathlib.Omega.{arith}
 use lib.Dec.{eqb}
 use borrow.Author.Tests.{eq-eqb, ne-eqb}
-use lib.ListN.{length, getD, set, take, drop, length-drop, List·getD-append}
-use lib.Seq.{drop-drop, drop-at, drop-append-le, take-append-le, length-take-le, getD-take, getD-drop, getD-set-other, drop-set-lt}
-use borrow.Rule.Slice.PartMut.{putMid, midOf, postOf, take-put, drop-put, same-len-mid, mid-len}
+use lib.ListN.{length, getD, set, take, drop}
+use lib.Seq.{getD-drop, getD-set-other, drop-set-lt}
+use borrow.Rule.Slice.PartMut.{putMid, midOf}
 use Rattle.naturals.specs.Natural.{value, wordCount, Holds, Fitted}
 use Rattle.naturals.specs.declared.Fit.{Fit}
 use Rattle.naturals.proofs.Answer.{holds-as, fitted-below}
+use Rattle.diagram.specs.Limits.{maxNodes}
 use Rattle.diagram.specs.Diagram.{varOf, size, vars, root, Ordered}
 use Rattle.diagram.specs.Valuations.{countOf}
 use Rattle.diagram.proofs.Tests.{by-test, by-eq, or-right}
 use Rattle.diagram.proofs.Reading.{layered, at-end, root-in}
-use Rattle.levels.specs.Chains.{Last, Given}
+use Rattle.levels.specs.Chains.{Heads, Given}
 use Rattle.counts.specs.Table.{entry, num, Noted}
 use Rattle.counts.specs.Worth.{doublings, totalOf, Worths}
 use Rattle.counts.proofs.Nodes.{total-valuations, total-fits}
+use Rattle.counts.proofs.Parts.{part-word, part-entry, part-kept, part-before, part-beyond, lent-long, lent-word, lent-entry}
 use Rattle.approximation.specs.Cut.{cut}
 use Rattle.approximation.proofs.Cut.{cut-same}
 use Rattle.cuts.specs.Marks.{markedIn}
 use Rattle.cuts.proofs.Marking.{set-marks}
 use Rattle.cuts.proofs.Answering.{drop-more}
 use Rattle.room_map.specs.Map.{linksFrom, countsFrom, countsTo}
-use Rattle.recounts.specs.Kept.{leftOf, rootOf, Stale, Rooted, Renewed, Passing, Recounting, Recounted, Beginning, Begun}
+use Rattle.recounts.specs.Kept.{leftOf, rootOf, Stale, Rooted, Renewed, Passing, Recounting, Recounted, Beginning, Whole, Begun}
 use Rattle.recounts.proofs.Left.{left-cond, left-end, left-none, left-total, left-total-fits}
 use Rattle.recounts.proofs.Passes.{untouched-noted, untouched-marks}
 
@@ -45,7 +47,7 @@ module _ {w heads changed room : List ℕ} {n v : ℕ} (a : Recounting w heads c
   abbrev o : Ordered w
   o = a .given .ordered
 
-  pub recount-few : n ≤ 4096
+  pub recount-few : n ≤ maxNodes
   recount-few = let few = o .formed .few in let e = a .given .nodes in omega arith
 
   abbrev old : ℕ → Bool
@@ -131,62 +133,60 @@ module _ {w heads changed room : List ℕ} {n v : ℕ} (a : Recounting w heads c
 
 -- ---- the beginning
 
--- A part of the room that was lent, read in the whole.
-module _ (at e : ℕ) (r part : List ℕ) (order : at ≤ e) (inside : e ≤ length r) (same : length part ≡ length (midOf at (e - at) r)) where
-  abbrev whole : List ℕ
-  whole = putMid at (e - at) r part
+-- Links and counts in a part of the room that is lent, from the links to some place e behind the counts.
+module _ {w : List ℕ} {n : ℕ} (given : Given w n) (e : ℕ) (r : List ℕ) (enough : countsTo n ≤ e) (inside : e ≤ length r) where
+  n-is : n ≡ size w
+  n-is = given .nodes
 
-  from-part : drop at whole ≡ part ++ postOf at (e - at) r
-  from-part = drop-at (take at r) (part ++ postOf at (e - at) r) at (length-take-le at r (omega arith))
+  pub whole-lent : {heads : List ℕ} → Whole w heads r → Worths true w (midOf (linksFrom n) (e - linksFrom n) r) 0 0
+  whole-lent x =
+      let is = n-is in
+      let long = lent-long (linksFrom n) e r (omega arith) inside in
+      record {
+        long = omega arith;
+        next = λ p two h.
+            rw (lent-word (linksFrom n) e r (omega arith) inside p (omega arith), ap (λ (i : ℕ). getD r (linksFrom i + p) 0) is)
+            (x .chained .next p two h);
+        right = λ q h k.
+            rw (lent-entry (linksFrom n) e r (omega arith) inside (size w) q (omega arith) {place = countsFrom (size w)} (omega arith)) (x .left q h);
+      }
 
-  pub part-words : (i k : ℕ) → i + k ≤ length part → take k (drop (at + i) whole) ≡ take k (drop i part)
-  part-words i k fits =
-      let rest = length-drop i part in
-      ap (λ (l : List ℕ). take k l) (sym (drop-drop i at whole))
-      ∙ ap (λ (l : List ℕ). take k (drop i l)) from-part
-      ∙ ap (λ (l : List ℕ). take k l) (drop-append-le i part (postOf at (e - at) r) (omega arith))
-      ∙ take-append-le k (drop i part) (postOf at (e - at) r) (omega arith)
-
-  pub part-word : (i : ℕ) → i < length part → getD whole (at + i) 0 ≡ getD part i 0
-  part-word i h =
-      sym (getD-drop at whole i 0)
-      ∙ ap (λ (l : List ℕ). getD l i 0) from-part
-      ∙ List·getD-append part (postOf at (e - at) r) 0 i h
+  pub whole-put : {heads part : List ℕ} → length part ≡ length (midOf (linksFrom n) (e - linksFrom n) r) → Heads w heads → Worths true w part 0 0
+      → Whole w heads (putMid (linksFrom n) (e - linksFrom n) r part)
+  whole-put {heads} {part} same head x =
+      let is = n-is in
+      let long = x .long in
+      let after = putMid (linksFrom n) (e - linksFrom n) r part in
+      record {
+        chained = record {
+          head = head;
+          next = λ p two h.
+              rw (ap (λ (i : ℕ). getD after (linksFrom i + p) 0) (sym is), part-word (linksFrom n) e r part (omega arith) inside same p (omega arith))
+              (x .next p two h);
+        };
+        left = λ q h.
+            rw (part-entry (linksFrom n) e r part (omega arith) inside same (size w) q (omega arith) {place = countsFrom (size w)} (omega arith))
+            (x .right q h (record { level = omega arith; turn = λ z. omega arith }));
+      }
 
 module _ {w heads room : List ℕ} {n v : ℕ} (a : Beginning w heads room n v) where
-  pub begin-few : n ≤ 4096
+  pub begin-few : n ≤ maxNodes
   begin-few = let few = a .given .ordered .formed .few in let e = a .given .nodes in omega arith
 
   pub begin-long : n + wordCount * n ≤ length (midOf (linksFrom n) (countsTo n - linksFrom n) room)
-  begin-long = let e = mid-len (linksFrom n) (countsTo n) room (a .long) in omega arith
+  begin-long = let e = lent-long (linksFrom n) (countsTo n) room (omega arith) (a .long) in omega arith
 
   module _ (heads′ : List ℕ) {part : List ℕ} (same : length part ≡ length (midOf (linksFrom n) (countsTo n - linksFrom n) room))
-      (made : ((c : ℕ) → c < vars w → Last w c n (getD heads′ c 0)) × Worths true w part 0 0) where
+      (made : Heads w heads′ × Worths true w part 0 0) where
     pub begun : Begun w heads′ room (putMid (linksFrom n) (countsTo n - linksFrom n) room part)
     begun =
         let e = a .given .nodes in
-        let long = a .long in
-        let part-long = same ∙ mid-len (linksFrom n) (countsTo n) room long in
-        let from = linksFrom n in
-        let to = countsTo n in
-        let after = putMid from (to - from) room part in
+        let after = putMid (linksFrom n) (countsTo n - linksFrom n) room part in
         record {
-          kept = same-len-mid from (to - from) room part same;
-          before = λ k h.
-              sym (getD-take from after k 0 (omega arith)) ∙ ap (λ (l : List ℕ). getD l k 0) (take-put from (to - from) room part (omega arith))
-              ∙ getD-take from room k 0 (omega arith);
-          beyond = ap (λ (i : ℕ). drop (countsTo i) after) (sym e) ∙ drop-put from to room part (omega arith) long part-long ∙ ap (λ (i : ℕ). drop (countsTo i) room) e;
-          chained = record {
-            head = λ c h. rw e at (made .0 c h);
-            next = λ p two h.
-                rw (ap (λ (i : ℕ). getD after (linksFrom i + p) 0) (sym e), part-word from to room part (omega arith) long same p (omega arith))
-                (made .1 .next p two h);
-          };
-          left = λ q h.
-              let place : countsFrom (size w) + wordCount * q ≡ from + (size w + wordCount * q) = omega arith in
-              let is : entry (countsFrom (size w)) after q ≡ entry (size w) part q =
-              ap (λ (i : ℕ). take wordCount (drop i after)) place ∙ part-words from to room part (omega arith) long same (size w + wordCount * q) wordCount (omega arith) in
-              rw is (made .1 .right q h (record { level = omega arith; turn = λ x. omega arith }));
+          kept = part-kept (linksFrom n) (countsTo n) room part (omega arith) (a .long) same;
+          before = λ k h. part-before (linksFrom n) (countsTo n) room part (omega arith) (a .long) same k (omega arith);
+          beyond = ap (λ (i : ℕ). drop (countsTo i) after) (sym e) ∙ part-beyond (linksFrom n) (countsTo n) room part (omega arith) (a .long) same ∙ ap (λ (i : ℕ). drop (countsTo i) room) e;
+          whole = whole-put (a .given) (countsTo n) room (omega arith) (a .long) same (made .0) (made .1);
         }
 
 -- The count of the whole.
@@ -195,7 +195,7 @@ module _ {w heads room after : List ℕ} {n : ℕ} (given : Given w n) (b : Begu
   unfolding doublings
   root-worth =
       ap (λ (k : ℕ). rootOf w after k) (given .nodes)
-      ∙ ap (λ (y : ℕ). y * 2 ^ varOf w (root w)) (b .left (root w) (root-in w (given .ordered)) .worth)
+      ∙ ap (λ (y : ℕ). y * 2 ^ varOf w (root w)) (b .whole .left (root w) (root-in w (given .ordered)) .worth)
 
   pub begun-root : countsTo n ≤ length room → Rooted w after n
   begun-root long =
@@ -208,24 +208,28 @@ module _ {w heads room after : List ℕ} {n : ℕ} (given : Given w n) (b : Begu
   pub begun-count : {words : List ℕ} → Holds (rootOf w after n) words → Holds (countOf w) words
   begun-count h = holds-as (root-worth ∙ total-valuations w (given .ordered)) h
 
--- Later, when the words before the links are others and nothing is marked there: nothing is taken, whatever is said to have changed.
-pub begun-stale : {w heads room begun after : List ℕ} → Given w (size w) → Begun w heads room begun
-    → drop (linksFrom (size w)) after ≡ drop (linksFrom (size w)) begun
-    → ((q : ℕ) → q < size w → markedIn (size w) after q ≡ false) → (changed : List ℕ) → Stale w heads changed after
-begun-stale {w} {heads} {room} {begun} {after} given b same free changed = record {
-  chained = record {
-    head = b .chained .head;
-    next = λ p two h.
-        rw (sym (getD-drop (linksFrom (size w)) after p 0) ∙ ap (λ (l : List ℕ). getD l p 0) same ∙ getD-drop (linksFrom (size w)) begun p 0)
-        (b .chained .next p two h);
-  };
+-- Where nothing is marked nothing is taken, whatever is said to have changed.
+pub whole-stale : {w heads room : List ℕ} → Given w (size w) → Whole w heads room → ((q : ℕ) → q < size w → markedIn (size w) room q ≡ false)
+    → (changed : List ℕ) → Stale w heads changed room
+whole-stale {w} {heads} {room} given x free changed = record {
+  chained = x .chained;
   before = λ q. false;
   ends = λ q t. let two = given .two in free q (omega arith);
   less = λ q h e. absurd (true≢false (sym e));
-  left = λ q h.
-      rw (free q h, drop-more (linksFrom (size w)) (countsFrom (size w) + wordCount * q) after begun (omega arith) same)
-      (holds-as (sym (left-none w q)) (b .left q h));
+  left = λ q h. rw (free q h) (holds-as (sym (left-none w q)) (x .left q h));
   same = λ q h f. free q h;
+}
+
+-- The words before the links may be others.
+pub whole-behind : {w heads room after : List ℕ} → drop (linksFrom (size w)) after ≡ drop (linksFrom (size w)) room → Whole w heads room → Whole w heads after
+whole-behind {w} {heads} {room} {after} same x = record {
+  chained = record {
+    head = x .chained .head;
+    next = λ p two h.
+        rw (sym (getD-drop (linksFrom (size w)) after p 0) ∙ ap (λ (l : List ℕ). getD l p 0) same ∙ getD-drop (linksFrom (size w)) room p 0)
+        (x .chained .next p two h);
+  };
+  left = λ q h. rw (drop-more (linksFrom (size w)) (countsFrom (size w) + wordCount * q) after room (omega arith) same) (x .left q h);
 }
 
 -- ---- one more node is taken

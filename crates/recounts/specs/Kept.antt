@@ -12,7 +12,7 @@ use Rattle.diagram.specs.Limits.{maxNodes}
 use Rattle.diagram.specs.Diagram.{varOf, size, vars}
 use Rattle.diagram.specs.Valuations.{countOf}
 use Rattle.room_map.specs.Map.{linksFrom, countsFrom, countsTo}
-use Rattle.levels.specs.Chains.{chainCount, Last, Given, Node, Known}
+use Rattle.levels.specs.Chains.{chainCount, Last, Heads, Given, Node, Known}
 use Rattle.counts.specs.Table.{entry, num, In, scaled}
 use Rattle.counts.specs.Worth.{worthOf}
 use Rattle.approximation.specs.Cut.{cut, send}
@@ -30,7 +30,7 @@ pub record Untouched (n : ℕ) (room after : List ℕ) : Type 0 where
 
 -- The chains of the variables stand in the room, with their heads beside.
 pub record Chained (w heads room : List ℕ) : Type 0 where
-  pub head : (c : ℕ) → c < vars w → Last w c (size w) (getD heads c 0)
+  pub head : Heads w heads
   pub next : (p : ℕ) → 2 ≤ p → p < size w → Last w (varOf w p) p (getD room (linksFrom (size w) + p) 0)
 
 -- Between two counts: what is left was worked out when fewer nodes were taken. Those that were taken since have nothing left, and
@@ -81,7 +81,7 @@ pub record Joining (w changed room : List ℕ) (n p : ℕ) : Type 0 where
 pub record Levelling (w heads changed room : List ℕ) (n c : ℕ) : Type 0 where
   pub given : Given w n
   pub level : c < vars w
-  pub head : (i : ℕ) → i < vars w → Last w i (size w) (getD heads i 0)
+  pub head : Heads w heads
   pub renewing : Renewing w changed room (suc c) 0
 
 -- In the chain of c, at p, or at its end where p is 0.
@@ -92,7 +92,7 @@ pub record AtLevel (w start changed room : List ℕ) (c p : ℕ) : Type 0 where
 pub record Passing (w heads changed room : List ℕ) (n v : ℕ) : Type 0 where
   pub given : Given w n
   pub is-vars : v ≡ vars w
-  pub head : (i : ℕ) → i < vars w → Last w i (size w) (getD heads i 0)
+  pub head : Heads w heads
   pub renewing : Renewing w changed room v 0
 
 -- What is left in all: at the root, doubled for the variables above it.
@@ -125,9 +125,13 @@ pub record Beginning (w heads room : List ℕ) (n v : ℕ) : Type 0 where
   pub empty : heads ≡ replicate chainCount 0
   pub long : countsTo n ≤ length room
 
+-- Nothing is taken: the chains, and the counts of the whole diagram.
+pub record Whole (w heads room : List ℕ) : Type 0 where
+  pub chained : Chained w heads room
+  pub left : (q : ℕ) → q < size w → Holds (worthOf true w q) (entry (countsFrom (size w)) room q)
+
 pub record Begun (w heads room after : List ℕ) : Type 0 where
   pub kept : length after ≡ length room
   pub before : (k : ℕ) → k < linksFrom (size w) → getD after k 0 ≡ getD room k 0
   pub beyond : drop (countsTo (size w)) after ≡ drop (countsTo (size w)) room
-  pub chained : Chained w heads after
-  pub left : (q : ℕ) → q < size w → Holds (worthOf true w q) (entry (countsFrom (size w)) after q)
+  pub whole : Whole w heads after

@@ -4,37 +4,20 @@
 pub mod changes;
 mod renewal;
 
-use counts::down::count_down;
+use counts::down::link_and_count;
 use counts::table::count_at;
 use diagram::node::BddPointer;
 use diagram::node::var_of;
 use diagram::room::clear;
-use levels::link;
 use naturals::Natural;
 use naturals::shift_left;
 use renewal::renew_all;
 use room_map::COUNTS;
 use room_map::COUNTS_END;
 use room_map::LINKS;
-ghost use mathlib.Core.Path.{_≡_};
-ghost use mathlib.Core.Bool.{true};
-ghost use Prim.Native.Nat.{ℕ, _+_, _*_, _≤_, _<_};
-ghost use lib.ListN.{length, getD, replicate};
-ghost use Rattle.naturals.specs.Natural.{wordCount, Holds};
-ghost use Rattle.diagram.specs.Diagram.{vars as varsOf};
+ghost use Rattle.naturals.specs.Natural.{Holds};
 ghost use Rattle.diagram.specs.Valuations.{countOf};
-ghost use Rattle.levels.specs.Chains.{chainCount, Last, Given};
-ghost use Rattle.counts.specs.Worth.{Worths};
 ghost use Rattle.recounts.specs.Kept.{rootOf, Rooted, Beginning, Begun, Recounting, Recounted};
-
-// The chains, and the counts behind their links.
-fn count_whole(words: &[u32], heads: &mut [u32], part: &mut [u32], nodes: usize, vars: u32)
-    requires { ⌜ Given (now words) nodes × (vars ≡ varsOf (now words)) × (now heads ≡ replicate chainCount 0) × (nodes + wordCount * nodes ≤ length (now part)) ⌝ }
-    ensures { λ _. ⌜ ((c : ℕ) → c < varsOf (now (words .entry)) → Last (now (words .entry)) c nodes (getD (now (heads .exit)) c 0)) × Worths true (now (words .entry)) (now (part .exit)) 0 0 ⌝ }
-{
-    link(words, heads, part, nodes);
-    count_down(words, heads, part, nodes, vars, true);
-}
 
 // What is left at the root, doubled for the variables above it.
 fn whole(words: &[u32], room: &[u32], nodes: usize) -> Natural
@@ -53,12 +36,13 @@ pub fn begin(words: &[u32], heads: &mut [u32], room: &mut [u32], nodes: usize, v
     requires { ⌜ Beginning (now words) (now heads) (now room) nodes vars ⌝ }
     ensures { λ r. ⌜ Begun (now (words .entry)) (now (heads .exit)) (now (room .entry)) (now (room .exit)) × Holds (countOf (now (words .entry))) (r .words) ⌝ }
 {
-    count_whole(
+    link_and_count(
         words,
         heads,
         &mut room[LINKS * nodes..COUNTS_END * nodes],
         nodes,
         vars,
+        true,
     );
     whole(words, room, nodes)
 }

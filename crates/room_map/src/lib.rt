@@ -4,17 +4,17 @@ use naturals::WORDS;
 
 pub const MARKS: usize = 1;
 
-pub const MARKS_END: usize = 2;
+pub const MARKS_END: usize = MARKS + 1;
 
-pub const WEIGHTS: usize = 1 + WORDS;
-
-pub const WEIGHTS_END: usize = WEIGHTS + WORDS;
-
-pub const LINKS: usize = WEIGHTS_END;
+pub const LINKS: usize = MARKS_END;
 
 pub const COUNTS: usize = LINKS + 1;
 
 pub const COUNTS_END: usize = COUNTS + WORDS;
+
+pub const WEIGHTS: usize = COUNTS_END;
+
+pub const WEIGHTS_END: usize = WEIGHTS + WORDS;
 
 pub const TABLES: usize = WEIGHTS_END;
 
@@ -22,4 +22,4 @@ pub const ANSWER: usize = TABLES + 1;
 
 pub const TABLES_END: usize = TABLES + 6;
 
-pub const END: usize = COUNTS_END;
+pub const END: usize = TABLES_END;

@@ -1,25 +1,16 @@
 // The search for a size (document 01, "The evening's cut"). Its answer stands in the working room.
 use cuts::cut::SENT;
-use cuts::cut::constant;
 use diagram::lengths::most;
 use diagram::node::BddPointer;
-use room_map::ANSWER;
+use trials::answers::Answer;
+use trials::answers::constantly;
 use trials::answers::keep;
 use trials::first::cut_first;
 use trials::prepare;
-ghost use mathlib.Core.Path.{_≡_};
-ghost use Prim.Native.Nat.{_-_, _<_, _≤_, max};
-ghost use Rattle.diagram.specs.Limits.{maxNodes};
+ghost use Prim.Native.Nat.{_-_, _<_};
 ghost use Rattle.approximation.specs.Search.{sizeSearch, underToSize};
 ghost use Rattle.trials.specs.Trials.{Searching, Found};
-ghost use Rattle.trials.specs.Answers.{Constant};
 ghost use Rattle.size_search.specs.Search.{Halving};
-
-// How many nodes the answer has, and how many cuts by a list were made for it.
-pub struct Sized {
-    pub nodes: usize,
-    pub trials: usize,
-}
 
 // Between none and as many priorities as there are nodes too many, by halves.
 fn search(
@@ -29,7 +20,7 @@ fn search(
     target: usize,
     nodes: usize,
     vars: u32,
-) -> Sized
+) -> Answer
     requires { ⌜ Halving (now words) (now sent) (now room) target nodes vars ⌝ }
     ensures { λ r. ⌜ Found (now (words .entry)) (sizeSearch (now (words .entry)) target (nodes - target) 0 (nodes - target) 0) (now (room .entry)) (now (room .exit)) (r .nodes) (r .trials) ⌝ }
 {
@@ -40,7 +31,7 @@ fn search(
         let check = (start + stop) / 2;
         let made = cut_first(words, sent, room, check, nodes, vars);
         if made == target {
-            return Sized {
+            return Answer {
                 nodes: made,
                 trials: trials + 1,
             };
@@ -54,14 +45,14 @@ fn search(
         }
     }
     let made = cut_first(words, sent, room, stop, nodes, vars);
-    Sized {
+    Answer {
         nodes: made,
         trials: trials + 1,
     }
 }
 
 // The search with all it needs, for a target that the early answers don't meet.
-fn searched(words: &[u32], room: &mut [u32], target: usize, nodes: usize, vars: u32) -> Sized
+fn searched(words: &[u32], room: &mut [u32], target: usize, nodes: usize, vars: u32) -> Answer
     requires { ⌜ Searching (now words) (now room) nodes vars × (2 < target) × (target < nodes) ⌝ }
     ensures { λ r. ⌜ Found (now (words .entry)) (underToSize (now (words .entry)) target) (now (room .entry)) (now (room .exit)) (r .nodes) (r .trials) ⌝ }
 {
@@ -70,19 +61,7 @@ fn searched(words: &[u32], room: &mut [u32], target: usize, nodes: usize, vars: 
     search(words, &mut sent, room, target, nodes, vars)
 }
 
-// A constant as an answer.
-fn constantly(room: &mut [u32], target: BddPointer, nodes: usize, vars: u32) -> Sized
-    requires { ⌜ nodes ≤ maxNodes ⌝ }
-    ensures { λ r. ⌜ Constant (max nodes 2) (target .0) vars (now (room .entry)) (now (room .exit)) (r .nodes) (r .trials) ⌝ }
-{
-    let made = constant(room, ANSWER * most(nodes), target, vars);
-    Sized {
-        nodes: made,
-        trials: 0,
-    }
-}
-
-pub fn under_size(words: &[u32], room: &mut [u32], target: u32, nodes: usize, vars: u32) -> Sized
+pub fn under_size(words: &[u32], room: &mut [u32], target: u32, nodes: usize, vars: u32) -> Answer
     requires { ⌜ Searching (now words) (now room) nodes vars ⌝ }
     ensures { λ r. ⌜ Found (now (words .entry)) (underToSize (now (words .entry)) target) (now (room .entry)) (now (room .exit)) (r .nodes) (r .trials) ⌝ }
 {
@@ -97,7 +76,7 @@ pub fn under_size(words: &[u32], room: &mut [u32], target: u32, nodes: usize, va
     }
     if nodes <= target as usize {
         keep(words, room, most(nodes));
-        return Sized { nodes, trials: 0 };
+        return Answer { nodes, trials: 0 };
     }
     searched(words, room, target as usize, nodes, vars)
 }

@@ -5,31 +5,28 @@ use mathlib.Core.Bool.{Bool, true, false, _&&_}
 use mathlib.Core.List.{List}
 use native.Mathlib.Omega.{arith}
 use lib.ListN.{length, take}
-use lib.Dec.{leb, ltb, eqb}
-use borrow.Author.Tests.{leb-true, leb-false}
-use Rattle.naturals.specs.Natural.{value, Holds}
+use lib.Dec.{ltb, eqb}
+use native.Mathlib.Decide.{decLt}
 use Rattle.diagram.specs.Limits.{maxVariables}
-use Rattle.diagram.specs.Diagram.{size, vars}
+use Rattle.diagram.specs.Diagram.{size, vars, Accepted}
 use Rattle.diagram.specs.Valuations.{countOf}
 use Rattle.diagram.specs.Verdict.{accepted, said, row, most, Checked}
 use Rattle.diagram.specs.declared.verdict.Verdict.{Verdict}
 use Rattle.diagram.specs.declared.verdict.Verdict.the-variants.{Accepted as Yes, Refused as No}
 use Rattle.diagram.specs.declared.verdict.Output.the-variants.{Diagram}
 use Rattle.diagram.proofs.Entering.{refusal-is, verdict-is, admitted}
-use Rattle.room_map.specs.Map.{tablesFrom}
 use Rattle.negation.specs.Negation.{negated}
-use Rattle.negation.proofs.Meaning.{negated-accepted, negated-count}
+use Rattle.negation.proofs.Meaning.{negated-vars, negated-is-two, negated-accepted, negated-twice, negated-count}
 use Rattle.approximation.specs.Cut.{between, underCountOf, overCountOf, Under}
-use Rattle.approximation.specs.Search.{Answer, back, underToCount, overToCount}
+use Rattle.approximation.specs.Search.{Answer, answer, back, underToCount, overToCount}
 use Rattle.approximation.proofs.Listing.{under-open-accepted, over-accepted-open, over-accepted-most}
-use Rattle.approximation.proofs.Targets.{Open, opposite, opposite-open, over-count-same, over-count-negates, to-count-under}
+use Rattle.approximation.proofs.Targets.{Open, opposite, over-count-same, over-count-negates, to-count-under, itself-under}
 use Rattle.trials.specs.Trials.{Found}
-use Rattle.trials.specs.Answers.{Keeping, Kept, Returned}
-use Rattle.trials.proofs.Early.{searching-keeps, searching-kept}
-use Rattle.count_search.specs.Rounds.{Aiming, Countable}
-use Rattle.count_search.proofs.Aims.{aiming-countable}
+use Rattle.trials.specs.Answers.{Returned}
+use Rattle.count_search.specs.Rounds.{cutToCount, Aiming}
+use Rattle.count_search.proofs.Aims.{cut-same, cut-above}
 use Rattle.told.specs.Told.{toldOf}
-use Rattle.targets.specs.Hits.{toCount, countVerdict, ToCount, Targeting, Counting, Fewer, Hit}
+use Rattle.targets.specs.Hits.{toCount, countVerdict, ToCount, Targeting, Counting, Hit}
 use Rattle.targets.proofs.Hitting.{Flipped, targeting-searches, flipped-searches, back-hits, meets-refused, meets-hit, check-targets}
 
 pub under-aims : {w r out : List ℕ} {k n v : ℕ} → Counting false w r out k n v → Aiming w r k n v
@@ -38,54 +35,51 @@ under-aims a = record { searching = targeting-searches (a .targeting); target = 
 pub targeting-variables : {w r out : List ℕ} {n v : ℕ} → Targeting w r out n v → v ≤ maxVariables
 targeting-variables t = let is = t .is-vars in let few = t .accepted .formed .variables in omega arith
 
--- ---- a target that is met
-
-module _ {w r out : List ℕ} {k n v : ℕ} (a : Counting true w r out k n v) {m : ℕ} (is-m : m ≡ max n 2) where
-  m-is : m ≡ most w
-  m-is = is-m ∙ ap (λ (i : ℕ). max i 2) (a .targeting .is-size)
-
-  pub over-few : m ≤ 4096
-  over-few = let e = m-is in let few = a .targeting .accepted .formed .few in omega arith
-
-  pub over-countable : Countable w r (tablesFrom m) n
-  over-countable = aiming-countable (record { searching = targeting-searches (a .targeting); target = under-open-accepted w 0 (λ e low high. omega arith) }) is-m
-
-  module _ {s : List ℕ} (same : s ≡ r) where
-    pub over-keeps : Keeping w s m
-    over-keeps = rw same (searching-keeps (targeting-searches (a .targeting)) is-m)
-
-    module _ {count : List ℕ} (held : Holds (countOf w) count) {c : Bool} (is-c : c ≡ leb k (value count)) where
-      pub over-met : c ≡ true → {after : List ℕ} → Kept w m s after → Found w (overToCount w k) r after n 0
-      over-met t {after} kept =
-          let low = leb-true k (value count) (sym is-c ∙ t) in
-          let is = held .worth in
-          searching-kept (targeting-searches (a .targeting)) is-m (rw same at kept) (over-count-same w k (omega arith))
-
-      pub over-fewer : c ≡ false → Fewer w s out k n v
-      over-fewer f =
-          let high = leb-false k (value count) (sym is-c ∙ f) in
-          let is = held .worth in
-          record { counting = rw same a; fewer = omega arith }
-
-    pub over-back : {b : Answer} {after out′ : List ℕ} {j trials : ℕ} → Hit b s after out out′ j trials → Hit b r after out out′ j trials
-    over-back h = rw same at h
-
 -- ---- by negation
 
-module _ {w r out : List ℕ} {k n v : ℕ} (a : Fewer w r out k n v) {made : ℕ} {flipped : List ℕ} (e : Flipped w made flipped) {left : ℕ} (is-left : left ≡ 2 ^ v - k) where
-  abbrev t : Targeting w r out n v
-  t = a .counting .targeting
+-- What stays and what is underapproximated holds only where the words do.
+cut-to-under : (w : List ℕ) (k : ℕ) → Accepted w → Open w k → Under w (cutToCount w k .words)
+cut-to-under w k a open-target = elim (decLt k (countOf w)) [
+  | yes h ↦ rw (cut-above w k h) (to-count-under w k a open-target)
+  | no h ↦ rw (cut-same w k (omega arith)) (itself-under w a)
+]
 
-  left-is : left ≡ opposite w k
-  left-is =
-      let all = negated-count w (t .accepted) in
-      let fewer = a .fewer in
-      let high = over-accepted-most w k (a .counting .target) in
-      let v-is = ap (λ (i : ℕ). 2 ^ i) (t .is-vars) in
-      omega arith
+back-same : (w : List ℕ) → Accepted w → back (answer (negated w) 0) ≡ answer w 0
+unfolding back
+back-same w a = ap (λ (l : List ℕ). answer l 0) (negated-twice w a)
+
+module _ {w r out : List ℕ} {k n v : ℕ} (a : Counting true w r out k n v) {made : ℕ} {flipped : List ℕ} (e : Flipped w made flipped) {left : ℕ} (is-left : left ≡ 2 ^ v - k) where
+  abbrev t : Targeting w r out n v
+  t = a .targeting
+
+  left-is : left ≡ 2 ^ vars w - k
+  left-is = is-left ∙ ap (λ (i : ℕ). 2 ^ i - k) (t .is-vars)
+
+  high : k ≤ 2 ^ vars w
+  high = over-accepted-most w k (a .target)
 
   left-open : Open (negated w) left
-  left-open = rw left-is (opposite-open w k (t .accepted) (over-accepted-most w k (a .counting .target)) (over-accepted-open w k (a .counting .target)) (a .fewer))
+  left-open two low less =
+      let one = negated-is-two w (t .accepted) two in
+      let same = ap (λ (i : ℕ). 2 ^ i) (negated-vars w (t .accepted)) in
+      let is = left-is in
+      over-accepted-open w k (a .target) one (omega arith) (omega arith)
+
+  -- where the words have as many valuations as are asked for, their negation has no more than are left
+  over-is : overToCount w k ≡ back (cutToCount (negated w) left)
+  over-is =
+      let all = negated-count w (t .accepted) in
+      let is = left-is in
+      let most = high in
+      elim (decLt (countOf w) k) [
+        | yes h ↦
+            let opposite-is : opposite w k ≡ left = omega arith in
+            over-count-negates w k h ∙ ap (λ (i : ℕ). back (underToCount (negated w) i)) opposite-is
+            ∙ ap (λ (x : Answer). back x) (sym (cut-above (negated w) left (omega arith)))
+        | no h ↦
+            over-count-same w k (omega arith) ∙ sym (back-same w (t .accepted))
+            ∙ ap (λ (x : Answer). back x) (sym (cut-same (negated w) left (omega arith)))
+      ]
 
   pub back-aims : Aiming (take (3 * made) flipped) r left made v
   back-aims = record {
@@ -93,14 +87,13 @@ module _ {w r out : List ℕ} {k n v : ℕ} (a : Fewer w r out k n v) {made : �
     target = rw (e .words) (under-open-accepted (negated w) left left-open);
   }
 
-  pub back-under : Under (take (3 * made) flipped) (underToCount (take (3 * made) flipped) left .words)
-  back-under = rw (e .words) (to-count-under (negated w) left (negated-accepted w (t .accepted)) left-open)
+  pub back-under : Under (take (3 * made) flipped) (cutToCount (take (3 * made) flipped) left .words)
+  back-under = rw (e .words) (cut-to-under (negated w) left (negated-accepted w (t .accepted)) left-open)
 
-  pub count-back-hits : {m : ℕ} → m ≡ max n 2 → {s : List ℕ} {j trials : ℕ} → Found (take (3 * made) flipped) (underToCount (take (3 * made) flipped) left) r s j trials
+  pub count-back-hits : {m : ℕ} → m ≡ max n 2 → {s : List ℕ} {j trials : ℕ} → Found (take (3 * made) flipped) (cutToCount (take (3 * made) flipped) left) r s j trials
       → {room-after out′ : List ℕ} {c : ℕ} → Returned m j s out room-after out′ c → Hit (overToCount w k) r room-after out out′ c trials
   count-back-hits is-m f g =
-      rw (over-count-negates w k (a .fewer) ∙ ap (λ (i : ℕ). back (underToCount (negated w) i)) (sym left-is)
-      ∙ ap (λ (x : List ℕ). back (underToCount x left)) (sym (e .words)))
+      rw (over-is ∙ ap (λ (x : List ℕ). back (cutToCount x left)) (sym (e .words)))
       (back-hits t e is-m f back-under g)
 
 -- ---- the verdicts

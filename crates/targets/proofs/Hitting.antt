@@ -42,7 +42,6 @@ module _ {w r out : List ℕ} {n v : ℕ} (a : Targeting w r out n v) where
         is-size = a .is-size;
         is-vars = a .is-vars;
         long = omega arith;
-        zero = λ j h. a .zero j (omega arith);
       }
 
   module _ {m : ℕ} (is-m : m ≡ max n 2) where
@@ -128,7 +127,6 @@ module _ {w r out : List ℕ} {n v : ℕ} (a : Targeting w r out n v) where
           is-size = e .count;
           is-vars = a .is-vars ∙ sym (negated-vars w (a .accepted));
           long = omega arith;
-          zero = λ j h. a .zero j (omega arith);
         })
 
     module _ {m : ℕ} (is-m : m ≡ max n 2) {b : Answer} {s : List ℕ} {k trials : ℕ} (f : Found (take (3 * made) flipped) b r s k trials)

@@ -6,7 +6,6 @@ use mathlib.Core.Bool.{Bool, true, cond}
 use mathlib.Core.List.{List, _++_}
 use lib.ListN.{length, getD, drop}
 use Rattle.diagram.specs.Diagram.{size, vars, Accepted}
-use Rattle.diagram.specs.Valuations.{countOf}
 use Rattle.diagram.specs.Verdict.{Outcome, accepted, andThen, most, roomOf, verdictFor}
 use Rattle.diagram.specs.declared.verdict.Verdict.{Verdict}
 use Rattle.diagram.specs.declared.verdict.Output.the-variants.{Diagram}
@@ -50,8 +49,3 @@ pub record Hit (a : Answer) (r after out out′ : List ℕ) (k trial-count : ℕ
 pub record Counting (above : Bool) (w r out : List ℕ) (k n v : ℕ) : Type 0 where
   pub targeting : Targeting w r out n v
   pub target : toldOf above w k ≡ accepted (size w) (vars w)
-
--- The diagram has fewer valuations than are asked for.
-pub record Fewer (w r out : List ℕ) (k n v : ℕ) : Type 0 where
-  pub counting : Counting true w r out k n v
-  pub fewer : countOf w < k

@@ -1,7 +1,6 @@
 // To a count.
 use crate::Approximated;
-use count_search::Answer;
-use count_search::counting::count_in;
+use count_search::cut_to_count;
 use count_search::under_count;
 use cuts::cut::SENT;
 use diagram::lengths::most;
@@ -9,20 +8,18 @@ use diagram::validate::admit;
 use diagram::verdict::Output;
 use diagram::verdict::Verdict;
 use naturals::Natural;
-use naturals::at_most;
 use naturals::excess;
 use naturals::power_of_two;
 use negation::negate;
-use room_map::TABLES;
 use told::tell;
+use trials::answers::Answer;
 use trials::answers::give;
 use trials::answers::give_back;
-use trials::answers::keep;
 ghost use mathlib.Core.Bool.{true, false};
 ghost use Rattle.naturals.specs.Natural.{value};
 ghost use Rattle.approximation.specs.Search.{underToCount, overToCount};
 ghost use Rattle.targets.specs.Targets.{UnderToCount, OverToCount};
-ghost use Rattle.targets.specs.Hits.{toCount, ToCount, Counting, Fewer, Hit};
+ghost use Rattle.targets.specs.Hits.{toCount, ToCount, Counting, Hit};
 
 fn under(
     words: &[u32],
@@ -40,30 +37,8 @@ fn under(
     found
 }
 
-// Underapproximates the negation to what the target leaves of all valuations, and negates back.
-fn negate_and_back(
-    words: &[u32],
-    target: Natural,
-    room: &mut [u32],
-    output: &mut [u32],
-    nodes: usize,
-    vars: u32,
-) -> Answer
-    requires { ⌜ Fewer (now words) (now room) (now output) (value (target .words)) nodes vars ⌝ }
-    ensures { λ r. ⌜ Hit (overToCount (now (words .entry)) (value (target .words))) (now (room .entry)) (now (room .exit)) (now (output .entry)) (now (output .exit)) (r .nodes) (r .trials) ⌝ }
-{
-    let mut flipped = [0u32; SENT];
-    let made = negate(words, &mut flipped, nodes, vars);
-    let all = power_of_two(vars);
-    let left = excess(all.natural, target);
-    let found = under_count(&flipped[..3 * made], room, left, made, vars);
-    let count = give_back(room, output, most(nodes), found.nodes, vars);
-    Answer {
-        nodes: count,
-        trials: found.trials,
-    }
-}
-
+// Underapproximates the negation to what the target leaves of all valuations, and negates back. Where the diagram has as many
+// as are asked for, its negation stays as it is.
 fn over(
     words: &[u32],
     target: Natural,
@@ -75,14 +50,16 @@ fn over(
     requires { ⌜ Counting true (now words) (now room) (now output) (value (target .words)) nodes vars ⌝ }
     ensures { λ r. ⌜ Hit (overToCount (now (words .entry)) (value (target .words))) (now (room .entry)) (now (room .exit)) (now (output .entry)) (now (output .exit)) (r .nodes) (r .trials) ⌝ }
 {
-    let most = most(nodes);
-    let count = count_in(words, room, TABLES * most, nodes);
-    if at_most(target, count) {
-        keep(words, room, most);
-        give(room, output, most, nodes);
-        return Answer { nodes, trials: 0 };
+    let mut flipped = [0u32; SENT];
+    let made = negate(words, &mut flipped, nodes, vars);
+    let all = power_of_two(vars);
+    let left = excess(all.natural, target);
+    let found = cut_to_count(&flipped[..3 * made], room, left, made, vars);
+    let count = give_back(room, output, most(nodes), found.nodes, vars);
+    Answer {
+        nodes: count,
+        trials: found.trials,
     }
-    negate_and_back(words, target, room, output, nodes, vars)
 }
 
 // From below, or from above.

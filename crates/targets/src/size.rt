@@ -6,8 +6,8 @@ use diagram::validate::admit;
 use diagram::verdict::Output;
 use diagram::verdict::Verdict;
 use negation::negate;
-use size_search::Sized;
 use size_search::under_size;
+use trials::answers::Answer;
 use trials::answers::give;
 use trials::answers::give_back;
 ghost use Rattle.approximation.specs.Search.{underToSize, overToSize};
@@ -21,7 +21,7 @@ fn under(
     output: &mut [u32],
     nodes: usize,
     vars: u32,
-) -> Sized
+) -> Answer
     requires { ⌜ Targeting (now words) (now room) (now output) nodes vars ⌝ }
     ensures { λ r. ⌜ Hit (underToSize (now (words .entry)) target) (now (room .entry)) (now (room .exit)) (now (output .entry)) (now (output .exit)) (r .nodes) (r .trials) ⌝ }
 {
@@ -38,7 +38,7 @@ fn over(
     output: &mut [u32],
     nodes: usize,
     vars: u32,
-) -> Sized
+) -> Answer
     requires { ⌜ Targeting (now words) (now room) (now output) nodes vars ⌝ }
     ensures { λ r. ⌜ Hit (overToSize (now (words .entry)) target) (now (room .entry)) (now (room .exit)) (now (output .entry)) (now (output .exit)) (r .nodes) (r .trials) ⌝ }
 {
@@ -46,7 +46,7 @@ fn over(
     let made = negate(words, &mut flipped, nodes, vars);
     let found = under_size(&flipped[..3 * made], room, target, made, vars);
     let count = give_back(room, output, most(nodes), found.nodes, vars);
-    Sized {
+    Answer {
         nodes: count,
         trials: found.trials,
     }
@@ -61,7 +61,7 @@ fn hit(
     output: &mut [u32],
     nodes: usize,
     vars: u32,
-) -> Sized
+) -> Answer
     requires { ⌜ Targeting (now words) (now room) (now output) nodes vars ⌝ }
     ensures { λ r. ⌜ Hit (toSize above (now (words .entry)) target) (now (room .entry)) (now (room .exit)) (now (output .entry)) (now (output .exit)) (r .nodes) (r .trials) ⌝ }
 {

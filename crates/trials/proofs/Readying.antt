@@ -5,13 +5,16 @@ use mathlib.Core.List.{List}
 use native.Mathlib.Omega.{arith}
 use lib.ListN.{length, getD, take, drop, length-drop}
 use lib.Seq.{getD-take, getD-drop, ext-getD, take-take, length-take-le}
+use borrow.Rule.Slice.PartMut.{putMid, midOf}
 use Rattle.naturals.specs.Natural.{wordCount, Holds}
+use Rattle.diagram.specs.Limits.{maxNodes}
 use Rattle.diagram.specs.Diagram.{size, vars}
 use Rattle.diagram.specs.Valuations.{weightOf}
-use Rattle.room_map.specs.Map.{weightsTo, tablesFrom}
+use Rattle.room_map.specs.Map.{marksTo, linksFrom, weightsFrom, weightsTo, tablesFrom}
 use Rattle.levels.specs.Chains.{Given}
 use Rattle.counts.specs.Table.{entry}
-use Rattle.weights.specs.Passes.{weightsFrom, Standing}
+use Rattle.counts.proofs.Parts.{part-entry, part-kept, part-beyond, lent-long}
+use Rattle.weights.specs.Passes.{weightsFrom as weightsInFrom, weightsTo as weightsIn, Standing}
 use Rattle.priorities.specs.Prioritised.{Fits, Prioritised}
 use Rattle.priorities.proofs.Ordering.{prioritised-order, prioritised-entry}
 use Rattle.approximation.specs.Search.{order}
@@ -20,30 +23,58 @@ use Rattle.trials.specs.Trials.{Ready, Preparing, Prepared}
 
 -- ---- they are made
 
-module _ {w r : List ℕ} {n v : ℕ} (a : Preparing w r n v) where
-  pub preparing-given : Given w n
-  preparing-given = record { ordered = a .ordered; nodes = a .is-size; two = let many = a .many in omega arith }
+-- By a table of weights the non-terminals are ordered, and the table stays.
+pub ready-ordered : {w s t : List ℕ} {n : ℕ} → n ≡ size w → Prioritised n s t
+    → ((p : ℕ) → p < n → Holds (weightOf w p) (entry (weightsFrom n) s p)) → Ready w t
+ready-ordered {w} {s} {t} {n} is p weight = record {
+  order = ap (λ (k : ℕ). take (k - 2) t) (sym is) ∙ prioritised-order w is p weight;
+  weight = λ q h. rw (sym is, prioritised-entry p (weightsFrom n) q (omega arith)) (weight q (omega arith));
+}
 
-  module _ {s : List ℕ} (weighed : Standing w r n s) where
-    pub preparing-fits : Fits n s
+module _ {w r : List ℕ} {n v : ℕ} (a : Preparing w r n v) where
+  pub preparing-few : n ≤ maxNodes
+  preparing-few = let few = a .ordered .formed .few in let is = a .is-size in omega arith
+
+  -- the part that is lent
+  abbrev lent : List ℕ
+  lent = midOf (linksFrom n) (weightsTo n - linksFrom n) r
+
+  pub preparing-asks : Given w n × (v ≡ vars w) × (weightsIn n ≤ length lent)
+  preparing-asks =
+      let long = lent-long (linksFrom n) (weightsTo n) r (omega arith) (a .long) in
+      (record { ordered = a .ordered; nodes = a .is-size; two = let many = a .many in omega arith }, a .is-vars, omega arith)
+
+  module _ {part : List ℕ} (weighed : Standing w lent n part) where
+    abbrev weighted : List ℕ
+    weighted = putMid (linksFrom n) (weightsTo n - linksFrom n) r part
+
+    same-long : length weighted ≡ length r
+    same-long = part-kept (linksFrom n) (weightsTo n) r part (omega arith) (a .long) (weighed .kept)
+
+    pub preparing-fits : Fits n weighted
     preparing-fits =
         let many = a .many in
-        let few = a .ordered .formed .few in
-        let is = a .is-size in
+        let few = preparing-few in
         let long = a .long in
-        let kept = weighed .kept in
+        let kept = same-long in
         record { least = omega arith; most = omega arith; long = omega arith }
 
-    pub prepared : {t : List ℕ} → Prioritised n s t → Prepared w r t
+    weights-stand : (p : ℕ) → p < n → Holds (weightOf w p) (entry (weightsFrom n) weighted p)
+    weights-stand p h =
+        let long = lent-long (linksFrom n) (weightsTo n) r (omega arith) (a .long) in
+        let kept = weighed .kept in
+        rw (part-entry (linksFrom n) (weightsTo n) r part (omega arith) (a .long) (weighed .kept) (weightsInFrom n) p (omega arith) {place = weightsFrom n} (omega arith))
+        (weighed .weight p h)
+
+    pub prepared : {t : List ℕ} → Prioritised n weighted t → Prepared w r t
     prepared {t} p =
         let is = a .is-size in
         record {
-          ready = record {
-            order = ap (λ (k : ℕ). take (k - 2) t) (sym is) ∙ prioritised-order w is p (weighed .weight);
-            weight = λ q h. rw (sym is, prioritised-entry p q) (weighed .weight q (omega arith));
-          };
-          kept = p .size ∙ weighed .kept;
-          beyond = rw (sym is) (drop-more (weightsFrom n) (weightsTo n) t s (omega arith) (p .table) ∙ weighed .rest);
+          ready = ready-ordered is p weights-stand;
+          kept = p .size ∙ same-long;
+          beyond = rw (sym is)
+              (drop-more (marksTo n) (weightsTo n) t weighted (omega arith) (p .beyond)
+              ∙ part-beyond (linksFrom n) (weightsTo n) r part (omega arith) (a .long) (weighed .kept));
         }
 
 -- ---- they are kept

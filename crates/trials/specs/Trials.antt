@@ -3,23 +3,21 @@
 use Prim.Native.Nat.{ℕ, _-_, _*_, _≤_, _<_}
 use mathlib.Core.Path.{_≡_}
 use mathlib.Core.List.{List}
-use lib.ListN.{length, getD, take, drop}
+use lib.ListN.{length, take, drop}
 use Rattle.naturals.specs.Natural.{Holds}
 use Rattle.diagram.specs.Diagram.{size, vars, Accepted, Ordered}
 use Rattle.diagram.specs.Verdict.{most}
 use Rattle.diagram.specs.Valuations.{weightOf}
-use Rattle.room_map.specs.Map.{weightsTo, answerFrom, tablesTo, searchTo}
+use Rattle.room_map.specs.Map.{weightsFrom, weightsTo, answerFrom, tablesTo, searchTo}
 use Rattle.counts.specs.Table.{entry}
-use Rattle.weights.specs.Passes.{weightsFrom}
 use Rattle.approximation.specs.Search.{Answer, order, cutFirst}
 
--- A search may begin: an accepted diagram, and a room that is zero.
+-- A search may begin: an accepted diagram, and a room that is long enough, whatever it has before.
 pub record Searching (w r : List ℕ) (n v : ℕ) : Type 0 where
   pub accepted : Accepted w
   pub is-size : n ≡ size w
   pub is-vars : v ≡ vars w
   pub long : searchTo (most w) ≤ length r
-  pub zero : (j : ℕ) → j < searchTo (most w) → getD r j 0 ≡ 0
 
 -- Priorities and weights stand in the room.
 pub record Ready (w r : List ℕ) : Type 0 where

@@ -1,4 +1,7 @@
-// The answer of a search stands in the working room: how the input words get there, and how it is given.
+// The answer of a search stands in the working room: how a constant and the input words get there, and how it is given.
+use cuts::cut::constant;
+use diagram::lengths::most;
+use diagram::node::BddPointer;
 use diagram::node::word;
 use diagram::room::clear;
 use diagram::room::put;
@@ -6,7 +9,27 @@ use negation::negate;
 use reduction::answer::copy;
 use room_map::ANSWER;
 use room_map::END;
-ghost use Rattle.trials.specs.Answers.{Keeping, Kept, Giving, Given, Returning, Returned};
+ghost use Prim.Native.Nat.{_≤_, max};
+ghost use Rattle.diagram.specs.Limits.{maxNodes};
+ghost use Rattle.trials.specs.Answers.{Constant, Keeping, Kept, Giving, Given, Returning, Returned};
+
+// How many nodes the answer has, and how many cuts by a list were made for it.
+pub struct Answer {
+    pub nodes: usize,
+    pub trials: usize,
+}
+
+// A constant is the answer.
+pub fn constantly(room: &mut [u32], target: BddPointer, nodes: usize, vars: u32) -> Answer
+    requires { ⌜ nodes ≤ maxNodes ⌝ }
+    ensures { λ r. ⌜ Constant (max nodes 2) (target .0) vars (now (room .entry)) (now (room .exit)) (r .nodes) (r .trials) ⌝ }
+{
+    let made = constant(room, ANSWER * most(nodes), target, vars);
+    Answer {
+        nodes: made,
+        trials: 0,
+    }
+}
 
 // The input words are the answer.
 pub fn keep(words: &[u32], room: &mut [u32], most: usize)

@@ -3,6 +3,8 @@ pub mod answers;
 pub mod first;
 
 use priorities::prioritise;
+use room_map::LINKS;
+use room_map::WEIGHTS_END;
 use weights::weigh::weigh;
 ghost use Rattle.trials.specs.Trials.{Preparing, Prepared};
 
@@ -11,6 +13,11 @@ pub fn prepare(words: &[u32], room: &mut [u32], nodes: usize, vars: u32)
     requires { ⌜ Preparing (now words) (now room) nodes vars ⌝ }
     ensures { λ _. ⌜ Prepared (now (words .entry)) (now (room .entry)) (now (room .exit)) ⌝ }
 {
-    weigh(words, room, nodes, vars);
+    weigh(
+        words,
+        &mut room[LINKS * nodes..WEIGHTS_END * nodes],
+        nodes,
+        vars,
+    );
     prioritise(room, nodes);
 }

@@ -28,7 +28,7 @@ use Rattle.diagram.proofs.Entering.{refusal-is, verdict-is, admitted, ordered, 
 use Rattle.weights.specs.Weighed.{weightsVerdict, weightWords, Weighs}
 use Rattle.levels.specs.Chains.{Given}
 use Rattle.counts.specs.Table.{entry}
-use Rattle.weights.specs.Passes.{weightsFrom, weightsTo, Standing, Handed}
+use Rattle.weights.specs.Passes.{weightsFrom, weightsTo, Tables, Standing, Handed}
 use Rattle.weights.proofs.Entries.{entry-front}
 
 -- ---- the verdict, row by row
@@ -89,12 +89,12 @@ plain s q h = let e : 0 + wordCount * q ≡ wordCount * q = omega arith in rw e 
 
 -- what stands in the part that is lent stands in the whole
 pub stands : {w : List ℕ} {n : ℕ} (room part : List ℕ) → weightsTo n ≤ length room → length part ≡ length (take (weightsTo n) room)
-    → ((p : ℕ) → p < n → Holds (weightOf w p) (entry (weightsFrom n) part p)) → Standing w room n (part ++ drop (weightsTo n) room)
+    → Tables w n part → Standing w room n (part ++ drop (weightsTo n) room)
 stands {w} {n} room part fits same h =
     let long : length part ≡ weightsTo n = same ∙ length-take-le (weightsTo n) room fits in
     record {
       kept = length-front room part (weightsTo n) same;
-      weight = λ p l. rw (entry-front (weightsFrom n) p part (drop (weightsTo n) room) (omega arith)) (h p l);
+      weight = λ p l. rw (entry-front (weightsFrom n) p part (drop (weightsTo n) room) (omega arith)) (h .weight p l);
       rest = drop-at part (drop (weightsTo n) room) (weightsTo n) long;
     }
 

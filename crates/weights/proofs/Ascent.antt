@@ -15,11 +15,11 @@ use Rattle.diagram.specs.Diagram.{varOf, lowOf, highOf, size, vars, root, Order
 use Rattle.diagram.specs.Valuations.{weightOf}
 use Rattle.diagram.proofs.Tests.{by-eq}
 use Rattle.diagram.proofs.Reading.{Layer, layered, root-in, var-most, by-two}
-use Rattle.levels.specs.Chains.{Last, Linked, Given, Todo}
-use Rattle.levels.proofs.Chaining.{todo-from, todo-back, todo-ends, todo-begins, by-todo, at-chain, chain-falls, heads-all}
+use Rattle.levels.specs.Chains.{Last, Heads, Given, Todo}
+use Rattle.levels.proofs.Chaining.{todo-from, todo-back, todo-ends, todo-begins, by-todo, at-chain, chain-falls}
 use Rattle.counts.specs.Table.{entry, num, In, Noted, skip, scaled}
 use Rattle.counts.proofs.Nodes.{worth-end, under-limit}
-use Rattle.weights.specs.Passes.{satOf, throughOf, dot, Sated, Counted, Emptied, Passing, Turning, Ascending, AtUp, Giving, Rising, weightsFrom, weightsTo}
+use Rattle.weights.specs.Passes.{satOf, throughOf, dot, Sated, Counted, Emptied, Passing, Turning, Ascending, AtUp, Giving, Rising, weightsFrom, weightsTo, Tables}
 use Rattle.weights.proofs.Dots.{bump, bump-here, bump-other, bump-least, without, without-here, without-other, dot-least, dot-only, dot-moved}
 use Rattle.weights.proofs.Levels.{Shared, through-node, through-self, through-none, weight-through, all-node, all-root, weight-most}
 use Rattle.weights.proofs.Entries.{entry-kept}
@@ -326,11 +326,12 @@ module _ {w : List ℕ} {base : ℕ} {room : List ℕ} {n : ℕ} (k : Counted w 
       start-passing (note (2 ^ varOf w (n - 1)) (fitted-below (rw power at a) fits .1))
 
 -- at the end only the terminals are left: node 1 has received its weight, and node 0's is zero
-pub passes-done : {w : List ℕ} {base : ℕ} {room : List ℕ} {n v : ℕ} → Given w n → v ≡ vars w → Passing w base room v (size w) → {after : List ℕ}
-    → Noted base room 0 0 after → (q : ℕ) → q < n → Holds (weightOf w q) (entry base after q)
-passes-done {w} {base} {room} {n} {v} given ev at-end {after} z q below = weight-of q (omega (arith, given .nodes))
+pub passes-done : {w : List ℕ} {room : List ℕ} {n v : ℕ} → Given w n → v ≡ vars w → Passing w (weightsFrom n) room v (size w) → {after : List ℕ}
+    → Noted (weightsFrom n) room 0 0 after → Tables w n after
+passes-done {w} {room} {n} {v} given ev at-end {after} z =
+    record { sated = sated-kept (at-end .sated) (at-end .behind) z; weight = λ q h. weight-of q (omega (arith, given .nodes)) }
   where
-    s : Passing w base room (vars w) (size w)
+    s : Passing w (weightsFrom n) room (vars w) (size w)
     s = rw ev at at-end
 
     todo : (q : ℕ) → q < 2 → q < size w → Todo w (vars w) (size w) q
@@ -349,7 +350,7 @@ passes-done {w} {base} {room} {n} {v} given ev at-end {after} z q below = weight
         let e : q ≡ 1 = omega arith in
         ended q t h ∙ ap (λ (y : ℕ). s .received q * y) e ∙ mul-one (s .received q)
 
-    weight-of : (q : ℕ) → q < size w → Holds (weightOf w q) (entry base after q)
+    weight-of : (q : ℕ) → q < size w → Holds (weightOf w q) (entry (weightsFrom n) after q)
     weight-of q h = by-eq q 0
         (λ e. rw e (holds-as (sym (none e h)) (z .here)))
         (λ ne. rw (z .other q ne) (by-two q
@@ -367,13 +368,13 @@ give-done {w} {base} {room} {p} {q} {x} k {u} hu {z} hz {f} a note =
 
 -- ---- all variables
 
-pub rises : {w heads nexts room : List ℕ} {n v : ℕ} → Given w n → v ≡ vars w → Linked w heads nexts n → Sated w room → weightsTo n ≤ length room
+pub rises : {w heads room : List ℕ} {n v : ℕ} → Given w n → v ≡ vars w → Heads w heads → Sated w room → weightsTo n ≤ length room
     → Rising w heads (weightsFrom n) room n v
-rises given e links sated long =
+rises given e heads sated long =
     record {
       counted = record { given = given; sated = sated; behind = omega arith; long = omega arith };
       variables = e;
-      head = heads-all given links;
+      head = heads;
     }
 
 pub all-up : {w heads : List ℕ} {base : ℕ} {room now : List ℕ} {n v c : ℕ} → Rising w heads base room n v → c < v → Passing w base now c (size w)

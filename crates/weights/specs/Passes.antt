@@ -12,7 +12,7 @@ use Rattle.diagram.specs.Diagram.{varOf, size, vars}
 use Rattle.diagram.specs.Reading.{eval}
 use Rattle.diagram.specs.Valuations.{tally, weightOf}
 use Rattle.diagram.proofs.Meeting.{meet}
-use Rattle.levels.specs.Chains.{Last, Given, Node, Todo}
+use Rattle.levels.specs.Chains.{Heads, Given, Node, Todo}
 use Rattle.counts.specs.Table.{entry, num, In, scaled}
 use Rattle.counts.specs.Worth.{worthOf, Worths}
 
@@ -71,7 +71,7 @@ pub record Turning (w : List ℕ) (base : ℕ) (room : List ℕ) (n p : ℕ) : T
 pub record Ascending (w heads : List ℕ) (base : ℕ) (room : List ℕ) (n c : ℕ) : Type 0 where
   pub given : Given w n
   pub level : c < vars w
-  pub head : (c : ℕ) → c < vars w → Last w c (size w) (getD heads c 0)
+  pub head : Heads w heads
   pub passing : Passing w base room c (size w)
 
 pub record AtUp (w : List ℕ) (base : ℕ) (room : List ℕ) (c p : ℕ) : Type 0 where
@@ -88,7 +88,7 @@ pub record Giving (w : List ℕ) (base : ℕ) (room : List ℕ) (p q x : ℕ) : 
 pub record Rising (w heads : List ℕ) (base : ℕ) (room : List ℕ) (n v : ℕ) : Type 0 where
   pub counted : Counted w base room n
   pub variables : v ≡ vars w
-  pub head : (c : ℕ) → c < vars w → Last w c (size w) (getD heads c 0)
+  pub head : Heads w heads
 
 -- ---- both passes
 
@@ -98,6 +98,11 @@ weightsFrom n = (1 + wordCount) * n
 
 abbrev pub weightsTo : ℕ → ℕ
 weightsTo n = (1 + 2 * wordCount) * n
+
+-- Links, counts and weights stand in a part of the room.
+pub record Tables (w : List ℕ) (n : ℕ) (part : List ℕ) : Type 0 where
+  pub sated : Sated w part
+  pub weight : (p : ℕ) → p < n → Holds (weightOf w p) (entry (weightsFrom n) part p)
 
 -- The weights stand in the room, and the room beyond them is as it was. The links and the counts before them are nothing to
 -- rely on.

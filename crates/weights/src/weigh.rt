@@ -1,40 +1,45 @@
 // The weights of an ordered diagram of two nodes or more, in the working room: behind the chains' links and the counts.
 use crate::up::pass_all;
-use counts::down::count_down;
+use counts::down::link_and_count;
 use counts::table::count_at;
 use counts::table::note;
 use diagram::node::BddPointer;
 use levels::CHAINS;
-use levels::link;
 use naturals::Natural;
 use naturals::zero;
 ghost use mathlib.Core.Path.{_≡_};
-ghost use Prim.Native.Nat.{ℕ, _*_, _<_, _≤_};
+ghost use Prim.Native.Nat.{_*_, _≤_};
 ghost use lib.ListN.{length};
 ghost use Rattle.naturals.specs.Natural.{wordCount, Holds};
 ghost use Rattle.diagram.specs.Limits.{maxNodes};
 ghost use Rattle.diagram.specs.Diagram.{vars as varsOf};
-ghost use Rattle.diagram.specs.Valuations.{weightOf};
 ghost use Rattle.levels.specs.Chains.{Given};
-ghost use Rattle.counts.specs.Table.{In, entry, num};
-ghost use Rattle.weights.specs.Passes.{weightsFrom, weightsTo, Standing, Handed};
+ghost use Rattle.counts.specs.Table.{In, num};
+ghost use Rattle.weights.specs.Passes.{weightsFrom, weightsTo, Rising, Tables, Standing, Handed};
 
 // Words of the room for each node: a link and a count, and behind all of these a weight.
-pub const BEFORE: usize = 1 + naturals::WORDS;
+const BEFORE: usize = 1 + naturals::WORDS;
 
-pub const USED: usize = 1 + 2 * naturals::WORDS;
+pub(crate) const USED: usize = 1 + 2 * naturals::WORDS;
+
+// The second pass, over chains and counts that stand in the part already: they stay, and the weights come behind them.
+pub fn weigh_counted(words: &[u32], heads: &[u32], part: &mut [u32], nodes: usize, vars: u32)
+    requires { ⌜ Rising (now words) (now heads) (weightsFrom nodes) (now part) nodes vars ⌝ }
+    ensures { λ _. ⌜ Tables (now (words .entry)) nodes (now (part .exit)) ⌝ }
+{
+    let base = BEFORE * nodes;
+    pass_all(words, heads, part, nodes, base, vars);
+    note(part, base, BddPointer(0), zero());
+}
 
 // The chains, and the two passes along them.
-fn passes(words: &[u32], room: &mut [u32], nodes: usize, vars: u32)
-    requires { ⌜ Given (now words) nodes × (vars ≡ varsOf (now words)) × (weightsTo nodes ≤ length (now room)) ⌝ }
-    ensures { λ _. ⌜ ((p : ℕ) → p < nodes → Holds (weightOf (now (words .entry)) p) (entry (weightsFrom nodes) (now (room .exit)) p)) ⌝ }
+fn passes(words: &[u32], part: &mut [u32], nodes: usize, vars: u32)
+    requires { ⌜ Given (now words) nodes × (vars ≡ varsOf (now words)) × (weightsTo nodes ≤ length (now part)) ⌝ }
+    ensures { λ _. ⌜ Tables (now (words .entry)) nodes (now (part .exit)) ⌝ }
 {
     let mut heads = [0u32; CHAINS];
-    link(words, &mut heads, room, nodes);
-    count_down(words, &heads, room, nodes, vars, true);
-    let base = BEFORE * nodes;
-    pass_all(words, &heads, room, nodes, base, vars);
-    note(room, base, BddPointer(0), zero());
+    link_and_count(words, &mut heads, part, nodes, vars, true);
+    weigh_counted(words, &heads, part, nodes, vars);
 }
 
 // Whatever the room has before.
@@ -47,7 +52,7 @@ pub fn weigh(words: &[u32], room: &mut [u32], nodes: usize, vars: u32)
 }
 
 // The weight of a node, from the room.
-pub fn weight_at(room: &[u32], nodes: usize, node: BddPointer) -> Natural
+fn weight_at(room: &[u32], nodes: usize, node: BddPointer) -> Natural
     requires { ⌜ In (weightsFrom nodes) (now room) (node .0) ⌝ }
     ensures { λ r. ⌜ Holds (num (weightsFrom nodes) (now (room .entry)) (node .0)) (r .words) ⌝ }
 {

@@ -5,7 +5,7 @@ use Rattle.naturals.specs.Natural.{value}
 use lib.ListN.{length}
 use mathlib.Core.Path.{_≡_, refl, sym, ap, _∙_}
 use Prim.Native.Nat.{_-_}
-use Rattle.count_search.proofs.Walks.{Walk, Walked, Round, takeable, walk-start, walked-as, walk-left, walk-breaks, walk-again, seeking-few, seeking-flags, round-start, taken-long, taken-recounting, taken-trying, round-taken, round-counted, round-more, round-again, round-done}
+use Rattle.count_search.proofs.Walks.{Walk, Walked, Round, takeable, walk-start, walked-as, walk-left, walk-breaks, walk-again, seeking-few, seeking-flags, round-start, taken-long, taken-recounting, taken-cutting, round-taken, round-counted, round-more, round-again, round-done}
 use borrow.Author.Needs.{needs}
 use native.Mathlib.Omega.{arith}
 use Rattle.count_search.proofs.rounds.search.Statement.{statement}
@@ -16,7 +16,7 @@ use Rattle.naturals.proofs.at_most.Reads as at-most-reads
 use Rattle.naturals.proofs.excess.Reads as excess-reads
 use Rattle.count_search.proofs.rounds.take_node.Reads as take-node-reads
 use Rattle.recounts.proofs.recount.Reads as recount-reads
-use Rattle.trials.proofs.first.cut_first.Reads as cut-first-reads
+use Rattle.count_search.proofs.rounds.cut_taken.Reads as cut-taken-reads
 
 abbrev Inv-loop2 : tie.InvT-loop2
 Inv-loop2 words heads sent₀ room₀ target nodes vars rest₀ taken₀ trials sent room rest taken = Walk words heads sent₀ room₀ sent room taken₀ (value (rest₀ .words)) taken (value (rest .words)) × (length sent ≡ length sent₀)
@@ -82,8 +82,8 @@ recount-requires c κs = taken-recounting (c .before .before .before .before .be
 at-most-requires-2 : tie.Need-at-most-requires-2 Inv-loop2 μ-loop2 Inv-loop μ-loop
 at-most-requires-2 c κs = search needs
 
-cut-first-requires : tie.Need-cut-first-requires Inv-loop2 μ-loop2 Inv-loop μ-loop
-cut-first-requires c κs = taken-trying (c .before .before .before .before .before .before .before .before .before .before .before .before .before .before .before .before .before .before .before .pre) (round-counted (c .before .before .before .before .before .before .before .before .before .before .before .before .before .before .before .before .before .before .before .pre) (c .before .before .before .before .before .before .before .before .before .before .before .before .before .loop .inv .0) (walked (c .before .before .before .before .before .before .before .before .before .before .before)) (c .before .before .before .before .before .before .before .before .recount .ensures)) (c .before .before .before .before .before .before .before .before .recount .kept .1 .1 .0 ∙ (walked-flags (c .before .before .before .before .before .before .before .before .before .before .before) ∙ c .before .before .before .before .before .before .before .before .before .before .before .before .before .loop .inv .1))
+cut-taken-requires : tie.Need-cut-taken-requires Inv-loop2 μ-loop2 Inv-loop μ-loop
+cut-taken-requires c κs = taken-cutting (c .before .before .before .before .before .before .before .before .before .before .before .before .before .before .before .before .before .before .before .pre) (round-counted (c .before .before .before .before .before .before .before .before .before .before .before .before .before .before .before .before .before .before .before .pre) (c .before .before .before .before .before .before .before .before .before .before .before .before .before .loop .inv .0) (walked (c .before .before .before .before .before .before .before .before .before .before .before)) (c .before .before .before .before .before .before .before .before .recount .ensures)) (c .before .before .before .before .before .before .before .before .recount .kept .1 .1 .0 ∙ (walked-flags (c .before .before .before .before .before .before .before .before .before .before .before) ∙ c .before .before .before .before .before .before .before .before .before .before .before .before .before .loop .inv .1))
 
 excess-requires-3 : tie.Need-excess-requires-3 Inv-loop2 μ-loop2 Inv-loop μ-loop
 excess-requires-3 c κs = search needs
@@ -95,13 +95,13 @@ loop-again : tie.Need-loop-again Inv-loop2 μ-loop2 Inv-loop μ-loop
 loop-again c = (round-again (c .before .before .before .before .before .before .before .before .before .before .before .before .before .before .before .before .before .before .pre) (c .before .before .before .before .before .before .before .before .before .before .before .before .loop .inv .0) (walked (c .before .before .before .before .before .before .before .before .before .before)) (c .before .before .before .before .before .before .before .recount .ensures) (leb-false _ _ (sym (c .before .before .at-most2 .ensures) ∙ c .before .if2 .left)) (c .excess3 .ensures), c .before .before .before .before .before .before .before .recount .kept .1 .1 .0 ∙ (walked-flags (c .before .before .before .before .before .before .before .before .before .before) ∙ c .before .before .before .before .before .before .before .before .before .before .before .before .loop .inv .1))
 
 same-length : tie.Need-same-length Inv-loop2 μ-loop2 Inv-loop μ-loop
-same-length c = c .before .before .before .before .cut-first .kept .1 .0 ∙ (c .before .before .before .before .before .before .before .before .before .before .before .before .before .recount .kept .1 .1 .0 ∙ (walked-flags (c .before .before .before .before .before .before .before .before .before .before .before .before .before .before .before .before) ∙ c .before .before .before .before .before .before .before .before .before .before .before .before .before .before .before .before .before .before .loop .inv .1))
+same-length c = c .before .before .before .before .cut-taken .kept .1 .0 ∙ (c .before .before .before .before .before .before .before .before .before .before .before .before .before .recount .kept .1 .1 .0 ∙ (walked-flags (c .before .before .before .before .before .before .before .before .before .before .before .before .before .before .before .before) ∙ c .before .before .before .before .before .before .before .before .before .before .before .before .before .before .before .before .before .before .loop .inv .1))
 
 same-length-2 : tie.Need-same-length-2 Inv-loop2 μ-loop2 Inv-loop μ-loop
-same-length-2 c = c .before .before .before .before .cut-first .kept .1 .1 .0 ∙ c .before .before .before .before .before .before .before .before .before .before .before .before .before .recount .kept .1 .1 .1 .0 ∙ (round-taken (c .before .before .before .before .before .before .before .before .before .before .before .before .before .before .before .before .before .before .before .before .before .before .before .before .pre) (c .before .before .before .before .before .before .before .before .before .before .before .before .before .before .before .before .before .before .loop .inv .0) (walked (c .before .before .before .before .before .before .before .before .before .before .before .before .before .before .before .before))) .kept
+same-length-2 c = c .before .before .before .before .cut-taken .kept .1 .1 .0 ∙ c .before .before .before .before .before .before .before .before .before .before .before .before .before .recount .kept .1 .1 .1 .0 ∙ (round-taken (c .before .before .before .before .before .before .before .before .before .before .before .before .before .before .before .before .before .before .before .before .before .before .before .before .pre) (c .before .before .before .before .before .before .before .before .before .before .before .before .before .before .before .before .before .before .loop .inv .0) (walked (c .before .before .before .before .before .before .before .before .before .before .before .before .before .before .before .before))) .kept
 
 returns : tie.Need-returns Inv-loop2 μ-loop2 Inv-loop μ-loop
-returns c = round-done (c .before .before .before .before .before .before .before .before .before .before .before .before .before .before .before .before .before .before .before .before .before .before .before .before .pre) (c .before .before .before .before .before .before .before .before .before .before .before .before .before .before .before .before .before .before .loop .inv .0) (walked (c .before .before .before .before .before .before .before .before .before .before .before .before .before .before .before .before)) (c .before .before .before .before .before .before .before .before .before .before .before .before .before .recount .ensures) (leb-true _ _ (sym (c .before .before .before .before .before .before .before .before .at-most2 .ensures) ∙ c .before .before .before .before .before .before .before .if2 .taken)) (c .before .before .before .before .cut-first .ensures)
+returns c = round-done (c .before .before .before .before .before .before .before .before .before .before .before .before .before .before .before .before .before .before .before .before .before .before .before .before .pre) (c .before .before .before .before .before .before .before .before .before .before .before .before .before .before .before .before .before .before .loop .inv .0) (walked (c .before .before .before .before .before .before .before .before .before .before .before .before .before .before .before .before)) (c .before .before .before .before .before .before .before .before .before .before .before .before .before .recount .ensures) (leb-true _ _ (sym (c .before .before .before .before .before .before .before .before .at-most2 .ensures) ∙ c .before .before .before .before .before .before .before .if2 .taken)) (c .before .before .before .before .cut-taken .ensures)
 
 pub search-spec : {M : Type 1} → statement M
 search-spec =
@@ -124,7 +124,7 @@ search-spec =
     add-trials
     recount-requires
     at-most-requires-2
-    cut-first-requires
+    cut-taken-requires
     excess-requires-3
     loop-less
     loop-again

@@ -10,7 +10,7 @@ use Rattle.cuts.proofs.marks.mark.Reads as mark-reads
 use Rattle.diagram.proofs.node.word.Reads as word-reads
 use Rattle.naturals.proofs.zero.Reads as zero-reads
 use Rattle.recounts.proofs.changes.change.Reads as change-reads
-use Rattle.weights.proofs.weigh.weight_at.Reads as weight-at-reads
+use Rattle.counts.proofs.table.count_at.Reads as count-at-reads
 
 word-requires : tie.Need-word-requires
 word-requires c κs = search needs
@@ -24,8 +24,11 @@ zero-requires c κs = search needs
 change-requires : tie.Need-change-requires
 change-requires c κs = (c .before .before .before .before .before .before .before .before .before .before .before .pre .few, omega (arith, c .before .before .before .before .before .before .before .before .before .before .before .pre .inside, c .before .before .before .before .before .before .before .before .before .before .before .pre .long, c .before .before .before .before .before .mark .kept .0, c .before .before .before .before .before .before .before .word .ensures))
 
-weight-at-requires : tie.Need-weight-at-requires
-weight-at-requires c κs = omega (arith, c .before .before .before .before .before .before .before .before .before .before .before .before .before .before .before .before .before .pre .inside, c .before .before .before .before .before .before .before .before .before .before .before .before .before .before .before .before .before .pre .long, c .before .before .before .before .before .before .before .before .before .before .before .mark .kept .0, c .before .before .before .before .before .change .kept .1 .0, c .before .before .before .before .before .before .before .before .before .before .before .before .before .word .ensures)
+mul-count-at : tie.Need-mul-count-at
+mul-count-at c = omega (arith, c .before .before .before .before .before .before .before .before .before .before .before .before .before .before .before .before .before .pre .few)
+
+count-at-requires : tie.Need-count-at-requires
+count-at-requires c κs = omega (arith, c .before .before .before .before .before .before .before .before .before .before .before .before .before .before .before .before .before .pre .inside, c .before .before .before .before .before .before .before .before .before .before .before .before .before .before .before .before .before .pre .long, c .before .before .before .before .before .before .before .before .before .before .before .mark .kept .0, c .before .before .before .before .before .change .kept .1 .0, c .before .before .before .before .before .before .before .before .before .before .before .before .before .word .ensures)
 
 same-length : tie.Need-same-length
 same-length c = search needs
@@ -34,7 +37,7 @@ same-length-2 : tie.Need-same-length-2
 same-length-2 c = search needs
 
 returns : tie.Need-returns
-returns c = took (now (c .before .before .before .before .before .before .before .before .before .before .before .before .before .before .before .before .before .before .args .changed)) (now (c .before .before .before .before .before .before .before .before .before .before .before .before .before .before .before .before .before .before .args .room)) (c .before .before .before .before .before .before .before .before .before .before .before .before .before .before .before .before .before .before .args .nodes) (c .before .before .before .before .before .before .before .before .before .before .before .before .before .before .before .before .before .before .args .taken) (c .before .before .before .before .before .before .before .before .before .before .before .before .before .before .word .ensures) (c .before .before .before .before .before .before .before .before .before .before .before .before .mark .ensures) (c .before .before .before .before .before .before .before .zero .ensures) (c .before .before .before .before .before .before .change .ensures) (c .weight-at .ensures)
+returns c = took (now (c .before .before .before .before .before .before .before .before .before .before .before .before .before .before .before .before .before .before .args .changed)) (now (c .before .before .before .before .before .before .before .before .before .before .before .before .before .before .before .before .before .before .args .room)) (c .before .before .before .before .before .before .before .before .before .before .before .before .before .before .before .before .before .before .args .nodes) (c .before .before .before .before .before .before .before .before .before .before .before .before .before .before .before .before .before .before .args .taken) (c .before .before .before .before .before .before .before .before .before .before .before .before .before .before .word .ensures) (c .before .before .before .before .before .before .before .before .before .before .before .before .mark .ensures) (c .before .before .before .before .before .before .before .zero .ensures) (c .before .before .before .before .before .before .change .ensures) (c .count-at .ensures)
 
 pub take-node-spec : {M : Type 1} → statement M
 take-node-spec =
@@ -44,7 +47,8 @@ take-node-spec =
     mark-requires
     zero-requires
     change-requires
-    weight-at-requires
+    mul-count-at
+    count-at-requires
     same-length
     same-length-2
     returns)

@@ -1,27 +1,45 @@
-use Rattle.targets.proofs.Counts.{over-few, over-countable, over-keeps, over-met, over-fewer, over-back}
-use Rattle.targets.proofs.Hitting.{found-gives, found-hits}
+use lib.ListN.{replicate}
+use lib.Seq.{length-take-le}
+use mathlib.Core.Path.{sym, ap, _∙_}
+use Prim.Native.Nat.{ℕ, _-_}
+use Rattle.naturals.specs.Natural.{value}
+use Rattle.targets.proofs.Counts.{targeting-variables, back-aims, back-under, count-back-hits}
+use Rattle.told.proofs.Opening.{power-value}
+use Rattle.targets.proofs.Hitting.{flip, negation-ready, negation-few, flipped-few, back-returns}
 use native.Mathlib.Omega.{arith}
 use borrow.Author.Needs.{needs}
 use Rattle.targets.proofs.count.over.Statement.{statement}
 use Rattle.targets.proofs.count.over.Tie as tie
 
+slice-aggregate-negate : tie.Need-slice-aggregate-negate
+slice-aggregate-negate c = search needs
+
+negate-requires : tie.Need-negate-requires
+negate-requires c κs = ((c .before .before .before .before .pre .targeting) .is-size, negation-ready (c .before .before .before .before .pre .targeting), omega (arith, negation-few (c .before .before .before .before .pre .targeting)))
+
+power-of-two-requires : tie.Need-power-of-two-requires
+power-of-two-requires c κs = search needs
+
+excess-requires : tie.Need-excess-requires
+excess-requires c κs = search needs
+
+mul-flipped : tie.Need-mul-flipped
+mul-flipped c = omega (arith, flipped-few (c .before .before .before .before .before .before .before .before .pre .targeting) (flip (c .before .before .before .before .before .before .before .before .pre .targeting) (replicate 12288 0) (c .before .before .before .negate .ensures)))
+
+array-share-prefix-flipped : tie.Need-array-share-prefix-flipped
+array-share-prefix-flipped c = omega (arith, flipped-few (c .before .before .before .before .before .before .before .before .pre .targeting) (flip (c .before .before .before .before .before .before .before .before .pre .targeting) (replicate 12288 0) (c .before .before .before .negate .ensures)))
+
+slice-aggregate-cut-to-count : tie.Need-slice-aggregate-cut-to-count
+slice-aggregate-cut-to-count c = sym (length-take-le _ _ (omega (arith, flipped-few (c .before .before .before .before .before .before .before .before .before .pre .targeting) (flip (c .before .before .before .before .before .before .before .before .before .pre .targeting) (replicate 12288 0) (c .before .before .before .before .negate .ensures)))))
+
+cut-to-count-requires : tie.Need-cut-to-count-requires
+cut-to-count-requires c κs = back-aims (c .before .before .before .before .before .before .before .before .before .before .pre) (flip (c .before .before .before .before .before .before .before .before .before .before .pre .targeting) (replicate 12288 0) (c .before .before .before .before .before .negate .ensures)) (c .before .before .excess .ensures ∙ ap (λ (x : ℕ). x - value (c .before .before .before .before .before .before .before .before .before .before .args .target .words)) (power-value (c .before .before .before .before .before .before .before .before .before .before .args .vars) (targeting-variables (c .before .before .before .before .before .before .before .before .before .before .pre .targeting)) (c .before .before .before .power-of-two .ensures)))
+
 most-requires : tie.Need-most-requires
 most-requires c κs = search needs
 
-mul-count-in : tie.Need-mul-count-in
-mul-count-in c = omega (arith, over-few (c .before .before .before .before .before .pre) (c .before .most .ensures))
-
-count-in-requires : tie.Need-count-in-requires
-count-in-requires c κs = over-countable (c .before .before .before .before .before .pre) (c .before .most .ensures)
-
-at-most-requires : tie.Need-at-most-requires
-at-most-requires c κs = search needs
-
-keep-requires : tie.Need-keep-requires
-keep-requires c κs = over-keeps (c .before .before .before .before .before .before .before .before .before .before .before .pre) (c .before .before .before .before .before .before .before .most .ensures) (c .before .before .before .before .before .count-in .ensures .1)
-
-give-requires : tie.Need-give-requires
-give-requires c κs = found-gives (c .before .before .before .before .before .before .before .before .before .before .before .before .before .before .before .before .pre .targeting) (c .before .before .before .before .before .before .before .before .before .before .before .before .most .ensures) (over-met (c .before .before .before .before .before .before .before .before .before .before .before .before .before .before .before .before .pre) (c .before .before .before .before .before .before .before .before .before .before .before .before .most .ensures) (c .before .before .before .before .before .before .before .before .before .before .count-in .ensures .1) (c .before .before .before .before .before .before .before .before .before .before .count-in .ensures .0) (c .before .before .before .before .before .before .before .at-most .ensures) (c .before .before .before .before .before .before .if1 .taken) (c .before .before .before .before .keep .ensures))
+give-back-requires : tie.Need-give-back-requires
+give-back-requires c κs = back-returns (c .before .before .before .before .before .before .before .before .before .before .before .before .before .before .before .before .pre .targeting) (flip (c .before .before .before .before .before .before .before .before .before .before .before .before .before .before .before .before .pre .targeting) (replicate 12288 0) (c .before .before .before .before .before .before .before .before .before .before .before .negate .ensures)) (c .most .ensures) (c .before .before .before .before .before .cut-to-count .ensures) (back-under (c .before .before .before .before .before .before .before .before .before .before .before .before .before .before .before .before .pre) (flip (c .before .before .before .before .before .before .before .before .before .before .before .before .before .before .before .before .pre .targeting) (replicate 12288 0) (c .before .before .before .before .before .before .before .before .before .before .before .negate .ensures)) (c .before .before .before .before .before .before .before .before .excess .ensures ∙ ap (λ (x : ℕ). x - value (c .before .before .before .before .before .before .before .before .before .before .before .before .before .before .before .before .args .target .words)) (power-value (c .before .before .before .before .before .before .before .before .before .before .before .before .before .before .before .before .args .vars) (targeting-variables (c .before .before .before .before .before .before .before .before .before .before .before .before .before .before .before .before .pre .targeting)) (c .before .before .before .before .before .before .before .before .before .power-of-two .ensures))))
 
 same-length : tie.Need-same-length
 same-length c = search needs
@@ -30,34 +48,22 @@ same-length-2 : tie.Need-same-length-2
 same-length-2 c = search needs
 
 returns : tie.Need-returns
-returns c = found-hits (c .before .before .before .before .before .before .before .before .before .before .before .before .before .before .before .before .before .before .before .before .before .pre .targeting) (c .before .before .before .before .before .before .before .before .before .before .before .before .before .before .before .before .before .most .ensures) (over-met (c .before .before .before .before .before .before .before .before .before .before .before .before .before .before .before .before .before .before .before .before .before .pre) (c .before .before .before .before .before .before .before .before .before .before .before .before .before .before .before .before .before .most .ensures) (c .before .before .before .before .before .before .before .before .before .before .before .before .before .before .before .count-in .ensures .1) (c .before .before .before .before .before .before .before .before .before .before .before .before .before .before .before .count-in .ensures .0) (c .before .before .before .before .before .before .before .before .before .before .before .before .at-most .ensures) (c .before .before .before .before .before .before .before .before .before .before .before .if1 .taken) (c .before .before .before .before .before .before .before .before .before .keep .ensures)) (c .before .before .before .before .give .ensures)
-
-negate-and-back-requires : tie.Need-negate-and-back-requires
-negate-and-back-requires c κs = over-fewer (c .before .before .before .before .before .before .before .before .before .before .before .before .pre) (c .before .before .before .before .before .before .before .before .most .ensures) (c .before .before .before .before .before .before .count-in .ensures .1) (c .before .before .before .before .before .before .count-in .ensures .0) (c .before .before .before .at-most .ensures) (c .before .before .if1 .left)
-
-same-length-3 : tie.Need-same-length-3
-same-length-3 c = search needs
-
-same-length-4 : tie.Need-same-length-4
-same-length-4 c = search needs
-
-returns-2 : tie.Need-returns-2
-returns-2 c = over-back (c .before .before .before .before .before .before .before .before .before .before .before .before .before .before .before .before .before .pre) (c .before .before .before .before .before .before .before .before .before .before .before .before .before .most .ensures) (c .before .before .before .before .before .before .before .before .before .before .before .count-in .ensures .1) (c .before .before .before .before .negate-and-back .ensures)
+returns c = count-back-hits (c .before .before .before .before .before .before .before .before .before .before .before .before .before .before .before .before .before .before .before .before .before .pre) (flip (c .before .before .before .before .before .before .before .before .before .before .before .before .before .before .before .before .before .before .before .before .before .pre .targeting) (replicate 12288 0) (c .before .before .before .before .before .before .before .before .before .before .before .before .before .before .before .before .negate .ensures)) (c .before .before .before .before .before .before .before .before .before .before .before .before .before .excess .ensures ∙ ap (λ (x : ℕ). x - value (c .before .before .before .before .before .before .before .before .before .before .before .before .before .before .before .before .before .before .before .before .before .args .target .words)) (power-value (c .before .before .before .before .before .before .before .before .before .before .before .before .before .before .before .before .before .before .before .before .before .args .vars) (targeting-variables (c .before .before .before .before .before .before .before .before .before .before .before .before .before .before .before .before .before .before .before .before .before .pre .targeting)) (c .before .before .before .before .before .before .before .before .before .before .before .before .before .before .power-of-two .ensures))) (c .before .before .before .before .before .most .ensures) (c .before .before .before .before .before .before .before .before .before .before .cut-to-count .ensures) (c .before .before .before .before .give-back .ensures)
 
 pub over-spec : {M : Type 1} → statement M
 over-spec =
     tie.close
     (tie.spec
+    slice-aggregate-negate
+    negate-requires
+    power-of-two-requires
+    excess-requires
+    mul-flipped
+    array-share-prefix-flipped
+    slice-aggregate-cut-to-count
+    cut-to-count-requires
     most-requires
-    mul-count-in
-    count-in-requires
-    at-most-requires
-    keep-requires
-    give-requires
+    give-back-requires
     same-length
     same-length-2
-    returns
-    negate-and-back-requires
-    same-length-3
-    same-length-4
-    returns-2)
+    returns)

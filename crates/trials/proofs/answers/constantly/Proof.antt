@@ -1,8 +1,8 @@
 use mathlib.Core.Path.{refl}
 use native.Mathlib.Omega.{arith}
 use borrow.Author.Needs.{needs}
-use Rattle.size_search.proofs.constantly.Statement.{statement}
-use Rattle.size_search.proofs.constantly.Tie as tie
+use Rattle.trials.proofs.answers.constantly.Statement.{statement}
+use Rattle.trials.proofs.answers.constantly.Tie as tie
 
 most-requires : tie.Need-most-requires
 most-requires c κs = search needs

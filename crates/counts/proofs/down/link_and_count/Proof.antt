@@ -1,10 +1,11 @@
+use Rattle.levels.proofs.Chaining.{heads-all}
 use native.Mathlib.Omega.{arith}
 use borrow.Author.Needs.{needs}
-use Rattle.recounts.proofs.count_whole.Statement.{statement}
-use Rattle.recounts.proofs.count_whole.Tie as tie
-use Rattle.recounts.proofs.count_whole.Reads as reads
-use Rattle.recounts.proofs.count_whole.Lts as lts
+use Rattle.counts.proofs.down.link_and_count.Statement.{statement}
+use Rattle.counts.proofs.down.link_and_count.Tie as tie
+use Rattle.counts.proofs.down.link_and_count.Reads as reads
+use Rattle.counts.proofs.down.link_and_count.Lts as lts
 use Rattle.counts.proofs.down.count_down.Reads as count-down-reads
 use Rattle.levels.proofs.link.Reads as link-reads
 
 link-requires : tie.Need-link-requires
@@ -20,8 +21,8 @@ same-length-2 : tie.Need-same-length-2
 same-length-2 c = search needs
 
 returns : tie.Need-returns
-returns c = (c .before .before .before .before .before .before .before .before .before .link .ensures .head, c .before .before .count-down .ensures)
+returns c = (heads-all (c .before .before .before .before .before .before .before .before .before .before .before .before .before .before .before .pre .0) (c .before .before .before .before .before .before .before .before .before .link .ensures), c .before .before .count-down .ensures)
 
-pub count-whole-spec : {M : Type 1} → statement M
-count-whole-spec =
+pub link-and-count-spec : {M : Type 1} → statement M
+link-and-count-spec =
     tie.close (tie.spec link-requires count-down-requires same-length same-length-2 returns)
