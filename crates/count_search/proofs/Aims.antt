@@ -13,6 +13,7 @@ use Rattle.diagram.specs.Limits.{maxNodes}
 use Rattle.diagram.specs.Diagram.{size, Ordered}
 use Rattle.diagram.specs.Verdict.{most}
 use Rattle.diagram.specs.Valuations.{countOf}
+use Rattle.room_map.specs.Map.{marksTo, linksFrom, countsTo, tablesFrom, answerFrom, searchTo}
 use Rattle.approximation.specs.Cut.{listed}
 use Rattle.approximation.specs.Search.{Answer, underToCount}
 use Rattle.approximation.proofs.Listing.{under-accepted-open}
@@ -21,7 +22,7 @@ use Rattle.cuts.specs.Marks.{constantAt}
 use Rattle.cuts.proofs.Answering.{drop-more}
 use Rattle.levels.specs.Chains.{chainCount, Given}
 use Rattle.cuts.specs.Marks.{markedIn}
-use Rattle.recounts.specs.Kept.{linksFrom, countsTo, Beginning, Begun}
+use Rattle.recounts.specs.Kept.{Beginning, Begun}
 use Rattle.recounts.proofs.Counting.{begun-stale}
 use Rattle.trials.specs.Trials.{Preparing, Prepared, Found}
 use Rattle.trials.specs.First.{Unmarkable, Unmarked}
@@ -52,12 +53,12 @@ module _ {w r : List ℕ} {k n v : ℕ} (a : Aiming w r k n v) where
     is-most : m ≡ most w
     is-most = is-m ∙ searching-most (a .searching)
 
-    pub aiming-none : k ≡ 0 → {after : List ℕ} {j : ℕ} → (after ≡ constantAt r (18 * m) 0 v) × (j ≡ cond (eqb 0 0) 1 2)
+    pub aiming-none : k ≡ 0 → {after : List ℕ} {j : ℕ} → (after ≡ constantAt r (answerFrom m) 0 v) × (j ≡ cond (eqb 0 0) 1 2)
         → Found w (underToCount w k) r after j 0
     aiming-none e (f, g) =
-        falsely (a .searching) (record { room = f ∙ ap (λ (i : ℕ). constantAt r (18 * i) 0 v) is-m; count = g; trials = refl }) (to-count-none w k e)
+        falsely (a .searching) (record { room = f ∙ ap (λ (i : ℕ). constantAt r (answerFrom i) 0 v) is-m; count = g; trials = refl }) (to-count-none w k e)
 
-    pub aiming-countable : Countable w r (17 * m) n
+    pub aiming-countable : Countable w r (tablesFrom m) n
     aiming-countable =
         let few = aiming-few in
         let long = a .searching .long in
@@ -68,7 +69,7 @@ module _ {w r : List ℕ} {k n v : ℕ} (a : Aiming w r k n v) where
           is-size = a .searching .is-size;
           place = omega arith;
           long = omega arith;
-          zero = zeros-part r (17 * m) (9 * n) (omega arith) (λ j h. zero j (omega arith));
+          zero = zeros-part r (tablesFrom m) (9 * n) (omega arith) (λ j h. zero j (omega arith));
         }
 
     pub aiming-keeps : Keeping w r m
@@ -108,7 +109,7 @@ module _ {w r : List ℕ} {k n v : ℕ} (a : Aiming w r k n v) (low : 0 < k) (ma
       }
 
   module _ {heads b : List ℕ} (x : Begun w heads r b) where
-    same-beyond : (m : ℕ) → m ≡ n → drop (26 * m) b ≡ drop (26 * m) r
+    same-beyond : (m : ℕ) → m ≡ n → drop (searchTo m) b ≡ drop (searchTo m) r
     same-beyond m e = rw (e ∙ a .searching .is-size) (x .beyond)
 
     pub begun-keeps : Keeping w b n
@@ -183,7 +184,7 @@ module _ {w heads r : List ℕ} {k count n v : ℕ} (a : Above w heads r k count
       given = let many = above-many in let e = is in record { ordered = ordered (a .aiming); nodes = refl; two = omega arith }
 
       back : (j : ℕ) → linksFrom (size w) ≤ j → drop j t ≡ drop j r
-      back j h = let e = is in drop-more (2 * n) j t s (omega arith) (u .beyond) ∙ drop-more (linksFrom (size w)) j s r h (p .beyond)
+      back j h = let e = is in drop-more (marksTo n) j t s (omega arith) (u .beyond) ∙ drop-more (linksFrom (size w)) j s r h (p .beyond)
 
       nothing-marked : (q : ℕ) → q < size w → markedIn (size w) t q ≡ false
       nothing-marked q h = rw (sym is) (u .none q (let e = is in omega arith))
@@ -230,5 +231,5 @@ module _ {w heads r : List ℕ} {k count n v : ℕ} (a : Above w heads r k count
             fits = f .fits;
             kept = f .kept ∙ u .kept ∙ p .kept;
             made = f .made;
-            beyond = f .beyond ∙ back (26 * most w) (omega arith);
+            beyond = f .beyond ∙ back (searchTo (most w)) (omega arith);
           }

@@ -16,6 +16,7 @@ use Rattle.diagram.specs.Diagram.{size, vars}
 use Rattle.diagram.specs.Verdict.{most}
 use Rattle.diagram.specs.Valuations.{countOf, weightOf}
 use Rattle.diagram.proofs.Tests.{by-test}
+use Rattle.room_map.specs.Map.{countsFrom, countsTo, tablesTo, searchTo}
 use Rattle.counts.specs.Table.{num, Noted}
 use Rattle.weights.specs.Passes.{weightsFrom}
 use Rattle.approximation.specs.Cut.{cut, listed}
@@ -28,7 +29,7 @@ use Rattle.cuts.specs.Marks.{markedIn}
 use Rattle.cuts.proofs.Steps.{present}
 use Rattle.cuts.proofs.Marking.{set-marks, listed-take}
 use Rattle.cuts.proofs.Answering.{drop-more}
-use Rattle.recounts.specs.Kept.{countsFrom, countsTo, Untouched, Recounting, Recounted}
+use Rattle.recounts.specs.Kept.{Untouched, Recounting, Recounted}
 use Rattle.recounts.proofs.Passes.{same-words, untouched-marks, untouched-noted}
 use Rattle.recounts.proofs.Counting.{stale-taken}
 use Rattle.trials.specs.Trials.{Ready, Trying, Tried, Found}
@@ -343,5 +344,5 @@ module _ {w heads sent start : List ℕ} {k count n v : ℕ} (a : Seeking w head
             fits = t .fits;
             kept = t .kept ∙ round-counted .kept;
             made = rw is-most (t .made);
-            beyond = rw is-most (drop-more (23 * size w) (26 * size w) after r′ (omega arith) (t .beyond) ∙ round-counted .beyond);
+            beyond = rw is-most (drop-more (tablesTo (size w)) (searchTo (size w)) after r′ (omega arith) (t .beyond) ∙ round-counted .beyond);
           })

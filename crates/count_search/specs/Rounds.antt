@@ -14,7 +14,8 @@ use Rattle.weights.specs.Passes.{weightsFrom}
 use Rattle.approximation.specs.Cut.{listed, underCountOf}
 use Rattle.approximation.specs.Search.{order}
 use Rattle.cuts.specs.Marks.{markedIn}
-use Rattle.recounts.specs.Kept.{countsFrom, countsTo, Stale, Begun}
+use Rattle.room_map.specs.Map.{countsFrom, countsTo}
+use Rattle.recounts.specs.Kept.{Stale, Begun}
 use Rattle.trials.specs.Trials.{Ready, Searching}
 
 -- An ordered array can be counted at a place of the room.

@@ -13,6 +13,7 @@ use naturals::Natural;
 use naturals::at_most;
 use naturals::is_zero;
 use recounts::begin;
+use room_map::ANSWER;
 use rounds::search;
 use trials::answers::keep;
 use trials::first::unmark;
@@ -80,7 +81,7 @@ pub fn under_count(
 {
     let most = most(nodes);
     if is_zero(target) {
-        let none = constant(room, 18 * most, BddPointer(0), vars);
+        let none = constant(room, ANSWER * most, BddPointer(0), vars);
         return Answer {
             nodes: none,
             trials: 0,

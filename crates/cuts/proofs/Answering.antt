@@ -17,6 +17,7 @@ use Rattle.diagram.specs.declared.verdict.Verdict.the-variants.{Accepted as Yes
 use Rattle.diagram.specs.declared.verdict.Output.the-variants.{Diagram}
 use Rattle.diagram.proofs.Reading.{accepted-ordered}
 use Rattle.diagram.proofs.Entering.{admitted, lent-fits, lent-zero}
+use Rattle.room_map.specs.Map.{marksTo, answerFrom, tablesTo}
 use Rattle.reduction.specs.Room.{Copied}
 use Rattle.reduction.proofs.Answering.{copied-front}
 use Rattle.approximation.specs.Cut.{cut, listed, listOf}
@@ -99,14 +100,14 @@ module _ {w list : List ℕ} {t : ℕ} {r out : List ℕ} {n v : ℕ} (a : Listi
       pub listing-fits : 3 * k ≤ length out
       listing-fits = let fits = c .fits in let room = a .output in omega arith
 
-      beyond-all : drop (23 * m) after ≡ drop (23 * m) r
+      beyond-all : drop (tablesTo m) after ≡ drop (tablesTo m) r
       beyond-all =
           let e = listing-most in
-          ap (λ (i : ℕ). drop (23 * i) after) e ∙ c .beyond ∙ ap (λ (i : ℕ). drop (23 * i) s) (sym e)
-          ∙ drop-more (2 * m) (23 * m) s r (omega arith) (marks .beyond)
+          ap (λ (i : ℕ). drop (tablesTo i) after) e ∙ c .beyond ∙ ap (λ (i : ℕ). drop (tablesTo i) s) (sym e)
+          ∙ drop-more (marksTo m) (tablesTo m) s r (omega arith) (marks .beyond)
 
-      pub listing-ends : {out′ u : List ℕ} → length out′ ≡ length out → Copied after (18 * m) out out′ (3 * k)
-          → u ≡ replicate (min (23 * m) (length after)) 0 ++ drop (23 * m) after → Listed w list t r u out out′ k
+      pub listing-ends : {out′ u : List ℕ} → length out′ ≡ length out → Copied after (answerFrom m) out out′ (3 * k)
+          → u ≡ replicate (min (tablesTo m) (length after)) 0 ++ drop (tablesTo m) after → Listed w list t r u out out′ k
       listing-ends {out′} {u} same copied e =
           let is-most = listing-most in
           let long = a .long in
@@ -115,11 +116,11 @@ module _ {w list : List ℕ} {t : ℕ} {r out : List ℕ} {n v : ℕ} (a : Listi
           let kept = c .kept in
           let marked = marks .kept in
           let front : take (3 * k) out′ ≡ cut w (listed list) t =
-          copied-front copied (omega arith) (omega arith) ∙ ap (λ (i : ℕ). take (3 * k) (drop (18 * i) after)) is-most ∙ c .made ∙ cut-is in
+          copied-front copied (omega arith) (omega arith) ∙ ap (λ (i : ℕ). take (3 * k) (drop (answerFrom i) after)) is-most ∙ c .made ∙ cut-is in
           let words : length (cut w (listed list) t) ≡ 3 * k = ap (λ (l : List ℕ). length l) (sym cut-is) ∙ c .words in
           record {
             count = c .count ∙ ap (λ (l : List ℕ). size l) cut-is;
-            room = e ∙ zeros-back (23 * m) r after (omega arith) (λ j h. a .zero j (omega arith)) (kept ∙ marked) beyond-all;
+            room = e ∙ zeros-back (tablesTo m) r after (omega arith) (λ j h. a .zero j (omega arith)) (kept ∙ marked) beyond-all;
             written = sym (take-append-drop (3 * k) out′) ∙ (rw (front, copied .rest, words) refl);
           }
 

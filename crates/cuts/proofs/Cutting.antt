@@ -13,6 +13,7 @@ use Rattle.diagram.specs.Limits.{maxNodes}
 use Rattle.diagram.specs.Diagram.{size, vars, root, Ordered}
 use Rattle.diagram.specs.Verdict.{most}
 use Rattle.diagram.proofs.Tests.{by-eq}
+use Rattle.room_map.specs.Map.{tablesFrom, answerFrom, tablesTo}
 use Rattle.reduction.specs.Reduce.{reduce}
 use Rattle.reduction.specs.Room.{Asked, Shelved}
 use Rattle.approximation.specs.Constants.{falseOf, trueOf}
@@ -182,7 +183,7 @@ module _ {w sent r : List ℕ} {t n v : ℕ} (a : Cutting w sent r t n v) {m : �
     root-is b e = ap (λ (i : ℕ). markedIn i r (root w)) (sym cutting-most) ∙ ap (λ (q : ℕ). markedIn m r q) (sym (at-root is-p)) ∙ sym is-x ∙ e
 
     module _ (yes-case : x ≡ true) where
-      rooted-false : t ≡ 0 → CutIn w t r (none r (18 * m) v) 1
+      rooted-false : t ≡ 0 → CutIn w t r (none r (answerFrom m) v) 1
       rooted-false e =
           let is : cut w (markedIn (most w) r) t ≡ falseOf (vars w) = ap (λ (t : ℕ). cut w (markedIn (most w) r) t) e ∙ cut-root-under w (a .ordered) (markedIn (most w) r) (root-is true yes-case) in
           let is-most = cutting-most in
@@ -191,13 +192,13 @@ module _ {w sent r : List ℕ} {t n v : ℕ} (a : Cutting w sent r t n v) {m : �
             count = sym (ap (λ (l : List ℕ). size l) is);
             words = ap (λ (l : List ℕ). length l) is;
             fits = omega arith;
-            kept = none-length r (18 * m) v;
-            made = ap (λ (k : ℕ). take 3 (drop (18 * k) (none r (18 * m) v))) (sym is-most) ∙ false-words r (18 * m) v (omega arith) ∙ ap falseOf (a .is-vars) ∙ sym is;
-            before = none-before r (18 * m) v (17 * most w) (omega arith);
-            beyond = none-beyond r (18 * m) v (23 * most w) (omega arith);
+            kept = none-length r (answerFrom m) v;
+            made = ap (λ (k : ℕ). take 3 (drop (answerFrom k) (none r (answerFrom m) v))) (sym is-most) ∙ false-words r (answerFrom m) v (omega arith) ∙ ap falseOf (a .is-vars) ∙ sym is;
+            before = none-before r (answerFrom m) v (tablesFrom (most w)) (omega arith);
+            beyond = none-beyond r (answerFrom m) v (tablesTo (most w)) (omega arith);
           }
 
-      rooted-true : (t ≡ 0 → ⊥) → CutIn w t r (all r (18 * m) v) 2
+      rooted-true : (t ≡ 0 → ⊥) → CutIn w t r (all r (answerFrom m) v) 2
       rooted-true ne =
           let one : t ≡ 1 = let h = a .terminal in omega arith in
           let is : cut w (markedIn (most w) r) t ≡ trueOf (vars w) = ap (λ (t : ℕ). cut w (markedIn (most w) r) t) one ∙ cut-root-over w (a .ordered) (markedIn (most w) r) (root-is true yes-case) in
@@ -207,20 +208,20 @@ module _ {w sent r : List ℕ} {t n v : ℕ} (a : Cutting w sent r t n v) {m : �
             count = sym (ap (λ (l : List ℕ). size l) is);
             words = ap (λ (l : List ℕ). length l) is;
             fits = omega arith;
-            kept = all-length r (18 * m) v;
-            made = ap (λ (k : ℕ). take 6 (drop (18 * k) (all r (18 * m) v))) (sym is-most) ∙ true-words r (18 * m) v (omega arith) ∙ ap trueOf (a .is-vars) ∙ sym is;
-            before = all-before r (18 * m) v (17 * most w) (omega arith);
-            beyond = all-beyond r (18 * m) v (23 * most w) (omega arith);
+            kept = all-length r (answerFrom m) v;
+            made = ap (λ (k : ℕ). take 6 (drop (answerFrom k) (all r (answerFrom m) v))) (sym is-most) ∙ true-words r (answerFrom m) v (omega arith) ∙ ap trueOf (a .is-vars) ∙ sym is;
+            before = all-before r (answerFrom m) v (tablesFrom (most w)) (omega arith);
+            beyond = all-beyond r (answerFrom m) v (tablesTo (most w)) (omega arith);
           }
 
-      pub cut-rooted : {after : List ℕ} {k : ℕ} → (after ≡ constantAt r (18 * m) t v) × (k ≡ cond (eqb t 0) 1 2) → CutIn w t r after k
+      pub cut-rooted : {after : List ℕ} {k : ℕ} → (after ≡ constantAt r (answerFrom m) t v) × (k ≡ cond (eqb t 0) 1 2) → CutIn w t r after k
       cut-rooted {after} {k} (e, f) = by-eq t 0
           (λ z.
           let k-is : k ≡ 1 = f ∙ (rw (eq-eqb t 0 z) refl) in
-          rw (e ∙ constant-false r (18 * m) v t z, k-is) (rooted-false z))
+          rw (e ∙ constant-false r (answerFrom m) v t z, k-is) (rooted-false z))
           (λ z.
           let k-is : k ≡ 2 = f ∙ (rw (ne-eqb t 0 z) refl) in
-          rw (e ∙ constant-true r (18 * m) v t z, k-is) (rooted-true z))
+          rw (e ∙ constant-true r (answerFrom m) v t z, k-is) (rooted-true z))
 
     -- ---- a root that isn't marked
     module _ (no-case : x ≡ false) {copy : List ℕ} (s : Sent w (markedIn m r) t sent copy) where
@@ -242,7 +243,7 @@ module _ {w sent r : List ℕ} {t n v : ℕ} (a : Cutting w sent r t n v) {m : �
       sent-is-ordered : Ordered (take (3 * n) copy)
       sent-is-ordered = rw sent-words (send-ordered w (a .ordered) (markedIn m r) t (a .terminal))
 
-      pub sent-building : Building (take (3 * n) copy) (midOf (17 * m) (23 * m - 17 * m) r) n v
+      pub sent-building : Building (take (3 * n) copy) (midOf (tablesFrom m) (tablesTo m - tablesFrom m) r) n v
       sent-building = record {
         ordered = sent-is-ordered;
         is-size = a .is-size ∙ sym sent-size;
@@ -251,8 +252,8 @@ module _ {w sent r : List ℕ} {t n v : ℕ} (a : Cutting w sent r t n v) {m : �
             let e = sent-most in
             let f = cutting-most in
             let long = a .long in
-            let rest = length-drop (17 * m) r in
-            length-take-le (23 * m - 17 * m) (drop (17 * m) r) (omega arith) ∙ omega arith;
+            let rest = length-drop (tablesFrom m) r in
+            length-take-le (tablesTo m - tablesFrom m) (drop (tablesFrom m) r) (omega arith) ∙ omega arith;
       }
 
       sent-cut : reduce (take (3 * n) copy) ≡ cut w (markedIn (most w) r) t
@@ -260,28 +261,28 @@ module _ {w sent r : List ℕ} {t n v : ℕ} (a : Cutting w sent r t n v) {m : �
           ap reduce sent-words ∙ send-is-cut w (a .ordered) (markedIn m r) t (a .terminal) (ap (λ (k : ℕ). markedIn k r (root w)) cutting-most ∙ root-is false no-case)
           ∙ ap (λ (k : ℕ). cut w (markedIn k r) t) cutting-most
 
-      module _ {shelf : List ℕ} {k : ℕ} (b : Built (take (3 * n) copy) (midOf (17 * m) (23 * m - 17 * m) r) shelf k) where
+      module _ {shelf : List ℕ} {k : ℕ} (b : Built (take (3 * n) copy) (midOf (tablesFrom m) (tablesTo m - tablesFrom m) r) shelf k) where
         shelf-long : length shelf ≡ 6 * m
         shelf-long = let e = b .kept in let f = sent-building .long in let g = sent-most in let h = cutting-most in omega arith
 
-        shelf-store : take (3 * k) (drop (18 * m) (putMid (17 * m) (23 * m - 17 * m) r shelf)) ≡ cut w (markedIn (most w) r) t
+        shelf-store : take (3 * k) (drop (answerFrom m) (putMid (tablesFrom m) (tablesTo m - tablesFrom m) r shelf)) ≡ cut w (markedIn (most w) r) t
         shelf-store =
             let long = a .long in
             let is-most = cutting-most in
             let l = shelf-long in
             let fits = b .fits in
             let same = sent-most in
-            let front : length (take (17 * m) r) ≡ 17 * m = length-take-le (17 * m) r (omega arith) in
-            let place : 18 * m ≡ length (take (17 * m) r) + m = omega arith in
+            let front : length (take (tablesFrom m) r) ≡ tablesFrom m = length-take-le (tablesFrom m) r (omega arith) in
+            let place : answerFrom m ≡ length (take (tablesFrom m) r) + m = omega arith in
             let rest = length-drop m shelf in
-            ap (λ (i : ℕ). take (3 * k) (drop i (putMid (17 * m) (23 * m - 17 * m) r shelf))) place
-            ∙ ap (λ (s : List ℕ). take (3 * k) s) (drop-append-add (take (17 * m) r) (shelf ++ postOf (17 * m) (23 * m - 17 * m) r) m
-            ∙ drop-append-le m shelf (postOf (17 * m) (23 * m - 17 * m) r) (omega arith))
-            ∙ take-append-le (3 * k) (drop m shelf) (postOf (17 * m) (23 * m - 17 * m) r) (omega arith)
+            ap (λ (i : ℕ). take (3 * k) (drop i (putMid (tablesFrom m) (tablesTo m - tablesFrom m) r shelf))) place
+            ∙ ap (λ (s : List ℕ). take (3 * k) s) (drop-append-add (take (tablesFrom m) r) (shelf ++ postOf (tablesFrom m) (tablesTo m - tablesFrom m) r) m
+            ∙ drop-append-le m shelf (postOf (tablesFrom m) (tablesTo m - tablesFrom m) r) (omega arith))
+            ∙ take-append-le (3 * k) (drop m shelf) (postOf (tablesFrom m) (tablesTo m - tablesFrom m) r) (omega arith)
             ∙ ap (λ (i : ℕ). take (3 * k) (drop i shelf)) (is-most ∙ sym same)
             ∙ b .store ∙ sent-cut
 
-        pub cut-built : CutIn w t r (putMid (17 * m) (23 * m - 17 * m) r shelf) k
+        pub cut-built : CutIn w t r (putMid (tablesFrom m) (tablesTo m - tablesFrom m) r shelf) k
         cut-built =
             let long = a .long in
             let is-most = cutting-most in
@@ -289,10 +290,10 @@ module _ {w sent r : List ℕ} {t n v : ℕ} (a : Cutting w sent r t n v) {m : �
               count = b .count ∙ ap (λ (l : List ℕ). size l) sent-cut;
               words = ap (λ (l : List ℕ). length l) (sym sent-cut) ∙ b .words;
               fits = let same = sent-most in let fits = b .fits in omega arith;
-              kept = same-len-mid (17 * m) (23 * m - 17 * m) r shelf (b .kept);
-              made = ap (λ (i : ℕ). take (3 * k) (drop (18 * i) (putMid (17 * m) (23 * m - 17 * m) r shelf))) (sym is-most) ∙ shelf-store;
-              before = ap (λ (i : ℕ). take (17 * i) (putMid (17 * m) (23 * m - 17 * m) r shelf)) (sym is-most)
-                  ∙ take-put (17 * m) (23 * m - 17 * m) r shelf (omega arith) ∙ ap (λ (i : ℕ). take (17 * i) r) is-most;
-              beyond = ap (λ (i : ℕ). drop (23 * i) (putMid (17 * m) (23 * m - 17 * m) r shelf)) (sym is-most)
-                  ∙ drop-put (17 * m) (23 * m) r shelf (omega arith) (omega arith) (let l = shelf-long in omega arith) ∙ ap (λ (i : ℕ). drop (23 * i) r) is-most;
+              kept = same-len-mid (tablesFrom m) (tablesTo m - tablesFrom m) r shelf (b .kept);
+              made = ap (λ (i : ℕ). take (3 * k) (drop (answerFrom i) (putMid (tablesFrom m) (tablesTo m - tablesFrom m) r shelf))) (sym is-most) ∙ shelf-store;
+              before = ap (λ (i : ℕ). take (tablesFrom i) (putMid (tablesFrom m) (tablesTo m - tablesFrom m) r shelf)) (sym is-most)
+                  ∙ take-put (tablesFrom m) (tablesTo m - tablesFrom m) r shelf (omega arith) ∙ ap (λ (i : ℕ). take (tablesFrom i) r) is-most;
+              beyond = ap (λ (i : ℕ). drop (tablesTo i) (putMid (tablesFrom m) (tablesTo m - tablesFrom m) r shelf)) (sym is-most)
+                  ∙ drop-put (tablesFrom m) (tablesTo m) r shelf (omega arith) (omega arith) (let l = shelf-long in omega arith) ∙ ap (λ (i : ℕ). drop (tablesTo i) r) is-most;
             }

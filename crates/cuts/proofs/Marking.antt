@@ -9,6 +9,7 @@ use lib.ListN.{length, getD, set, take, drop, length-set}
 use lib.Seq.{take-all, getD-set-same, getD-set-other, take-set-le, drop-set-lt}
 use lib.Dec.{eqb}
 use borrow.Author.Tests.{eq-eqb, ne-eqb}
+use Rattle.room_map.specs.Map.{marksTo}
 use Rattle.diagram.proofs.Tests.{by-test, by-eq}
 use Rattle.approximation.specs.Cut.{listed}
 use Rattle.cuts.specs.Marks.{markedIn, Markable, Marked}
@@ -54,7 +55,7 @@ module _ (list : List ℕ) (m : ℕ) (r : List ℕ) where
             ∙ ap (λ (b : Bool). markedIn m r q || b)
             (ap (λ (y : ℕ). listed (take i list) q || eqb q y) is-x ∙ sym (listed-take list i q h));
         before = take-set-le m s (m + x) 1 (omega arith) ∙ a .before;
-        beyond = drop-set-lt (2 * m) s (m + x) 1 (omega arith) ∙ a .beyond;
+        beyond = drop-set-lt (marksTo m) s (m + x) 1 (omega arith) ∙ a .beyond;
       })
 
 -- All of them.

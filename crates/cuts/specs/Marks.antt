@@ -1,7 +1,5 @@
--- Where marks and cuts stand in the working room, and what the inner functions ask and promise. No promise to a caller rests
--- on this file. Everywhere m is the larger of the diagram's number of nodes and 2:
---     [m, 2m)       the marks: zero where a node is not marked
---     [17m, 23m)    the tables of reduction, with the words of the cut from 18m on
+-- Marks and cuts in the working room, which stand where crates/room_map says, and what the inner functions ask and promise. No
+-- promise to a caller rests on this file. Everywhere m is the larger of the diagram's number of nodes and 2.
 use Prim.Native.Nat.{ℕ, _+_, _*_, _≤_, _<_, max}
 use mathlib.Core.Path.{_≡_}
 use mathlib.Core.Bool.{Bool, cond, not, _||_}
@@ -11,6 +9,7 @@ use lib.Dec.{ltb, eqb}
 use Rattle.diagram.specs.Limits.{maxNodes}
 use Rattle.diagram.specs.Diagram.{size, vars, Formed, Ordered, Accepted}
 use Rattle.diagram.specs.Verdict.{most, roomOf}
+use Rattle.room_map.specs.Map.{marksTo, tablesFrom, answerFrom, tablesTo}
 use Rattle.reduction.specs.Reduce.{reduce}
 use Rattle.approximation.specs.Cut.{cut, send, listed}
 
@@ -21,7 +20,7 @@ markedIn m r q = not (eqb (getD r (m + q) 0) 0)
 
 pub record Markable (list r : List ℕ) (m : ℕ) : Type 0 where
   pub few : m ≤ maxNodes
-  pub long : 2 * m ≤ length r
+  pub long : marksTo m ≤ length r
   pub inside : (j : ℕ) → j < length list → getD list j 0 < m
 
 -- The nodes of a list are marked, and those that were before.
@@ -29,7 +28,7 @@ pub record Marked (list : List ℕ) (m : ℕ) (r after : List ℕ) : Type 0 wher
   pub kept : length after ≡ length r
   pub marks : (q : ℕ) → markedIn m after q ≡ (markedIn m r q || listed list q)
   pub before : take m after ≡ take m r
-  pub beyond : drop (2 * m) after ≡ drop (2 * m) r
+  pub beyond : drop (marksTo m) after ≡ drop (marksTo m) r
 
 -- ---- links
 
@@ -78,7 +77,7 @@ pub record Cutting (w sent r : List ℕ) (t n v : ℕ) : Type 0 where
   pub is-vars : v ≡ vars w
   pub terminal : t < 2
   pub copy : length w ≤ length sent
-  pub long : 23 * most w ≤ length r
+  pub long : tablesTo (most w) ≤ length r
 
 -- The cut by the marks has k nodes and stands in the room; all else that this file names is as it was.
 pub record CutIn (w : List ℕ) (t : ℕ) (r after : List ℕ) (k : ℕ) : Type 0 where
@@ -86,9 +85,9 @@ pub record CutIn (w : List ℕ) (t : ℕ) (r after : List ℕ) (k : ℕ) : Type 
   pub words : length (cut w (markedIn (most w) r) t) ≡ 3 * k
   pub fits : k ≤ most w
   pub kept : length after ≡ length r
-  pub made : take (3 * k) (drop (18 * most w) after) ≡ cut w (markedIn (most w) r) t
-  pub before : take (17 * most w) after ≡ take (17 * most w) r
-  pub beyond : drop (23 * most w) after ≡ drop (23 * most w) r
+  pub made : take (3 * k) (drop (answerFrom (most w)) after) ≡ cut w (markedIn (most w) r) t
+  pub before : take (tablesFrom (most w)) after ≡ take (tablesFrom (most w)) r
+  pub beyond : drop (tablesTo (most w)) after ≡ drop (tablesTo (most w)) r
 
 -- ---- by a list
 

@@ -1,5 +1,4 @@
-// The cut of an ordered array by the marks in the working room. For m the larger of the number of nodes and 2, the marks are
-// the words from m to 2m, and the words of the cut stand from 18m on.
+// The cut of an ordered array by the marks in the working room. Where these, its tables and its words stand crates/room_map says.
 use crate::marks::is_marked;
 use crate::send::send;
 use diagram::lengths::most;
@@ -7,6 +6,9 @@ use diagram::node::BddPointer;
 use diagram::room::clear;
 use diagram::room::put;
 use reduction::answer::make;
+use room_map::ANSWER;
+use room_map::TABLES;
+use room_map::TABLES_END;
 ghost use mathlib.Core.Path.{_≡_};
 ghost use mathlib.Core.Bool.{cond};
 ghost use lib.Dec.{eqb};
@@ -59,12 +61,12 @@ pub fn cut(
 {
     let most = most(nodes);
     if is_marked(room, most, BddPointer((nodes - 1) as u32)) {
-        return constant(room, 18 * most, target, vars);
+        return constant(room, ANSWER * most, target, vars);
     }
     send(words, room, most, target, sent, nodes);
     build(
         &sent[..3 * nodes],
-        &mut room[17 * most..23 * most],
+        &mut room[TABLES * most..TABLES_END * most],
         nodes,
         vars,
     )

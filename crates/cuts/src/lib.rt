@@ -15,6 +15,8 @@ use diagram::verdict::Verdict;
 use listing::listing;
 use marks::mark_all;
 use reduction::answer::copy;
+use room_map::ANSWER;
+use room_map::TABLES_END;
 ghost use Prim.Native.Nat.{_<_};
 ghost use Rattle.cuts.specs.Approximates.{Approximates};
 ghost use Rattle.cuts.specs.Marks.{Listing, Listed};
@@ -42,8 +44,8 @@ fn approximate(
     let mut sent = [0u32; SENT];
     mark_all(list, room, most);
     let count = cut(words, &mut sent, room, target, nodes, vars);
-    copy(room, 18 * most, output, 3 * count);
-    clear(room, 23 * most);
+    copy(room, ANSWER * most, output, 3 * count);
+    clear(room, TABLES_END * most);
     count
 }
 

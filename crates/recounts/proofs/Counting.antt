@@ -26,7 +26,8 @@ use Rattle.approximation.proofs.Cut.{cut-same}
 use Rattle.cuts.specs.Marks.{markedIn}
 use Rattle.cuts.proofs.Marking.{set-marks}
 use Rattle.cuts.proofs.Answering.{drop-more}
-use Rattle.recounts.specs.Kept.{leftOf, rootOf, linksFrom, countsFrom, countsTo, Stale, Rooted, Renewed, Passing, Recounting, Recounted, Beginning, Begun}
+use Rattle.room_map.specs.Map.{linksFrom, countsFrom, countsTo}
+use Rattle.recounts.specs.Kept.{leftOf, rootOf, Stale, Rooted, Renewed, Passing, Recounting, Recounted, Beginning, Begun}
 use Rattle.recounts.proofs.Left.{left-cond, left-end, left-none, left-total, left-total-fits}
 use Rattle.recounts.proofs.Passes.{untouched-noted, untouched-marks}
 

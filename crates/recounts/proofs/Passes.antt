@@ -19,7 +19,9 @@ use Rattle.levels.proofs.Chaining.{known-from, known-begins, known-ends, at-cha
 use Rattle.counts.specs.Table.{entry, num, In, Noted, scaled}
 use Rattle.cuts.specs.Marks.{markedIn}
 use Rattle.cuts.proofs.Marking.{set-marks}
-use Rattle.recounts.specs.Kept.{leftOf, linksFrom, countsFrom, countsTo, Untouched, Renewing, Renewed, Parting, Turning, Joining, Levelling, AtLevel, Passing}
+use Rattle.diagram.specs.Limits.{maxNodes}
+use Rattle.room_map.specs.Map.{linksFrom, countsFrom, countsTo}
+use Rattle.recounts.specs.Kept.{leftOf, Untouched, Renewing, Renewed, Parting, Turning, Joining, Levelling, AtLevel, Passing}
 use Rattle.recounts.proofs.Left.{left-taken, left-node, left-fits, left-part-fits}
 
 -- ---- what stays
@@ -362,7 +364,7 @@ module _ (w changed : List ℕ) (p : ℕ) where
 
 -- ---- places
 
-pub level-place : {w start changed room : List ℕ} {n c p : ℕ} → Given w n → AtLevel w start changed room c p → p ≢ 0 → linksFrom n + p < 18 * 4096
+pub level-place : {w start changed room : List ℕ} {n c p : ℕ} → Given w n → AtLevel w start changed room c p → p ≢ 0 → linksFrom n + p < countsFrom maxNodes
 level-place given a ne =
     let few = given .ordered .formed .few in
     let e = given .nodes in

@@ -1,18 +1,17 @@
 -- What is left at each node when some are taken away, kept in the working room. No promise to a caller rests on this file. For a
--- diagram of n nodes the room has the marks of those that are taken (crates/cuts), and
---     [17n, 18n)    the chains' links
---     [18n, 26n)    what is left at each node
--- Other lent words, one for each node, are not zero where that has changed.
+-- diagram of n nodes the room has the marks of those that are taken (crates/cuts), the chains' links, and what is left at each
+-- node, where crates/room_map says. Other lent words, one for each node, are not zero where that has changed.
 use Prim.Native.Nat.{ℕ, suc, _+_, _-_, _*_, _^_, _≤_, _<_}
 use mathlib.Core.Path.{_≡_}
 use mathlib.Core.Logic.{_≢_}
 use mathlib.Core.Bool.{Bool, true, false, cond}
 use mathlib.Core.List.{List}
 use lib.ListN.{length, getD, drop, replicate}
-use Rattle.naturals.specs.Natural.{wordCount, limit, Holds}
+use Rattle.naturals.specs.Natural.{limit, Holds}
 use Rattle.diagram.specs.Limits.{maxNodes}
 use Rattle.diagram.specs.Diagram.{varOf, size, vars}
 use Rattle.diagram.specs.Valuations.{countOf}
+use Rattle.room_map.specs.Map.{linksFrom, countsFrom, countsTo}
 use Rattle.levels.specs.Chains.{chainCount, Last, Given, Node, Known}
 use Rattle.counts.specs.Table.{entry, num, In, scaled}
 use Rattle.counts.specs.Worth.{worthOf}
@@ -22,15 +21,6 @@ use Rattle.cuts.specs.Marks.{markedIn}
 -- How many valuations of the variables from p's own on lead from p to node 1 past no node that is taken; none where p is.
 unfoldable pub leftOf : List ℕ → (ℕ → Bool) → ℕ → ℕ
 leftOf w taken p = cond (taken p) 0 (worthOf true (send taken 0 w) p)
-
-abbrev pub linksFrom : ℕ → ℕ
-linksFrom n = 17 * n
-
-abbrev pub countsFrom : ℕ → ℕ
-countsFrom n = 18 * n
-
-abbrev pub countsTo : ℕ → ℕ
-countsTo n = (18 + wordCount) * n
 
 -- Only what is left has changed in the room.
 pub record Untouched (n : ℕ) (room after : List ℕ) : Type 0 where

@@ -1,5 +1,4 @@
 // What is left at a node, and whether it has changed since the last count: marks from 0 on in words of their own.
-use crate::COUNTS;
 use counts::table::note;
 use cuts::marks::is_marked;
 use cuts::marks::mark;
@@ -7,6 +6,7 @@ use diagram::node::BddPointer;
 use diagram::node::high_link_of;
 use diagram::node::low_link_of;
 use naturals::Natural;
+use room_map::COUNTS;
 ghost use mathlib.Core.Path.{_≡_};
 ghost use mathlib.Core.Bool.{_||_};
 ghost use Prim.Native.Nat.{ℕ, _≤_};
@@ -16,7 +16,7 @@ ghost use Rattle.diagram.specs.Diagram.{lowOf, highOf};
 ghost use Rattle.diagram.specs.Limits.{maxNodes};
 ghost use Rattle.counts.specs.Table.{In, Noted};
 ghost use Rattle.cuts.specs.Marks.{markedIn};
-ghost use Rattle.recounts.specs.Kept.{countsFrom};
+ghost use Rattle.room_map.specs.Map.{countsFrom};
 
 // So much is left at a node now.
 pub fn change(changed: &mut [u32], room: &mut [u32], nodes: usize, node: BddPointer, count: Natural)

@@ -13,6 +13,9 @@ use levels::link;
 use naturals::Natural;
 use naturals::shift_left;
 use renewal::renew_all;
+use room_map::COUNTS;
+use room_map::COUNTS_END;
+use room_map::LINKS;
 ghost use mathlib.Core.Path.{_≡_};
 ghost use mathlib.Core.Bool.{true};
 ghost use Prim.Native.Nat.{ℕ, _+_, _*_, _≤_, _<_};
@@ -23,13 +26,6 @@ ghost use Rattle.diagram.specs.Valuations.{countOf};
 ghost use Rattle.levels.specs.Chains.{chainCount, Last, Given};
 ghost use Rattle.counts.specs.Worth.{Worths};
 ghost use Rattle.recounts.specs.Kept.{rootOf, Rooted, Beginning, Begun, Recounting, Recounted};
-
-// Where the chains' links and what is left at the nodes stand in the working room, in words for each node.
-pub(crate) const LINKS: usize = 17;
-
-pub(crate) const COUNTS: usize = 18;
-
-const END: usize = COUNTS + naturals::WORDS;
 
 // The chains, and the counts behind their links.
 fn count_whole(words: &[u32], heads: &mut [u32], part: &mut [u32], nodes: usize, vars: u32)
@@ -60,7 +56,7 @@ pub fn begin(words: &[u32], heads: &mut [u32], room: &mut [u32], nodes: usize, v
     count_whole(
         words,
         heads,
-        &mut room[LINKS * nodes..END * nodes],
+        &mut room[LINKS * nodes..COUNTS_END * nodes],
         nodes,
         vars,
     );

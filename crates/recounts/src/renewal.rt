@@ -1,6 +1,4 @@
 // What is left at all nodes, worked out again from the last variable to the first where a child has changed.
-use crate::COUNTS;
-use crate::LINKS;
 use crate::changes::change;
 use crate::changes::is_above_change;
 use counts::table::count_at;
@@ -14,10 +12,13 @@ use diagram::node::word;
 use levels::head_of;
 use naturals::Natural;
 use naturals::add;
+use room_map::COUNTS;
+use room_map::LINKS;
 ghost use Rattle.naturals.specs.Natural.{Holds};
 ghost use Rattle.diagram.specs.Diagram.{varOf};
 ghost use Rattle.counts.specs.Table.{num, scaled as scaledBy};
-ghost use Rattle.recounts.specs.Kept.{countsFrom, Parting, Joining, Turning, Levelling, Passing, Renewed};
+ghost use Rattle.room_map.specs.Map.{countsFrom};
+ghost use Rattle.recounts.specs.Kept.{Parting, Joining, Turning, Levelling, Passing, Renewed};
 
 // What is left at a child, as it counts at its parent.
 fn part(words: &[u32], room: &[u32], nodes: usize, node: BddPointer, child: BddPointer) -> Natural

@@ -7,6 +7,7 @@ use lib.ListN.{length, take}
 use Rattle.diagram.specs.Limits.{maxNodes}
 use Rattle.diagram.specs.Diagram.{size, vars}
 use Rattle.diagram.specs.Verdict.{most}
+use Rattle.room_map.specs.Map.{weightsTo, searchTo}
 use Rattle.approximation.specs.Constants.{falseOf, trueOf}
 use Rattle.approximation.specs.Search.{answer, sizeSearch, underToSize}
 use Rattle.approximation.proofs.Targets.{to-size-none, to-size-true, to-size-false, to-size-same, to-size-search}
@@ -74,5 +75,5 @@ module _ {w r : List ℕ} {n v : ℕ} (a : Searching w r n v) where
               fits = f .fits;
               kept = f .kept ∙ p .kept;
               made = f .made;
-              beyond = f .beyond ∙ drop-more (17 * size w) (26 * most w) s r (omega arith) (p .beyond);
+              beyond = f .beyond ∙ drop-more (weightsTo (size w)) (searchTo (most w)) s r (omega arith) (p .beyond);
             })

@@ -7,6 +7,7 @@ use native.Mathlib.Numerals.{add-one}
 use lib.ListN.{length, take, drop}
 use Rattle.diagram.specs.Diagram.{size}
 use Rattle.diagram.specs.Verdict.{most}
+use Rattle.room_map.specs.Map.{answerFrom, tablesTo, searchTo}
 use Rattle.approximation.specs.Search.{Answer, answer, cutFirst, middle, sizeSearch}
 use Rattle.approximation.proofs.Search.{search-last, search-exact, search-fewer, search-more}
 use Rattle.cuts.proofs.Answering.{drop-more}
@@ -75,7 +76,7 @@ module _ (w : List ℕ) (t c : ℕ) where
 pub record Kept (w r s : List ℕ) : Type 0 where
   pub ready : Ready w s
   pub kept : length s ≡ length r
-  pub beyond : drop (23 * size w) s ≡ drop (23 * size w) r
+  pub beyond : drop (tablesTo (size w)) s ≡ drop (tablesTo (size w)) r
 
 module _ {w sent r : List ℕ} {t n v : ℕ} (a : Halving w sent r t n v) where
   pub kept-start : Kept w r r
@@ -117,9 +118,9 @@ module _ {w sent r : List ℕ} {t n v : ℕ} (a : Halving w sent r t n v) where
             words = x .words;
             fits = x .fits;
             kept = x .kept ∙ k .kept;
-            made = ap (λ (i : ℕ). take (3 * m) (drop (18 * i) u)) m-is ∙ x .made;
+            made = ap (λ (i : ℕ). take (3 * m) (drop (answerFrom i) u)) m-is ∙ x .made;
             beyond =
-                ap (λ (i : ℕ). drop (26 * i) u) m-is
-                ∙ drop-more (23 * size w) (26 * size w) u r (omega arith) (x .beyond ∙ k .beyond)
-                ∙ ap (λ (i : ℕ). drop (26 * i) r) (sym m-is);
+                ap (λ (i : ℕ). drop (searchTo i) u) m-is
+                ∙ drop-more (tablesTo (size w)) (searchTo (size w)) u r (omega arith) (x .beyond ∙ k .beyond)
+                ∙ ap (λ (i : ℕ). drop (searchTo i) r) (sym m-is);
           })

@@ -4,6 +4,7 @@ use mathlib.Core.Path.{_≡_}
 use mathlib.Core.List.{List}
 use lib.ListN.{length}
 use Rattle.diagram.specs.Diagram.{size, vars, Ordered}
+use Rattle.room_map.specs.Map.{searchTo}
 use Rattle.approximation.specs.Search.{sizeSearch}
 use Rattle.trials.specs.Trials.{Ready}
 
@@ -15,7 +16,7 @@ pub record Halving (w sent r : List ℕ) (t n v : ℕ) : Type 0 where
   pub least : 2 < t
   pub more : t < n
   pub copy : length w ≤ length sent
-  pub long : 26 * n ≤ length r
+  pub long : searchTo n ≤ length r
   pub ready : Ready w r
 
 -- The search stands between start and stop, after some trials, of which there are at most c.

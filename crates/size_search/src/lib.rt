@@ -3,6 +3,7 @@ use cuts::cut::SENT;
 use cuts::cut::constant;
 use diagram::lengths::most;
 use diagram::node::BddPointer;
+use room_map::ANSWER;
 use trials::answers::keep;
 use trials::first::cut_first;
 use trials::prepare;
@@ -74,7 +75,7 @@ fn constantly(room: &mut [u32], target: BddPointer, nodes: usize, vars: u32) -> 
     requires { ⌜ nodes ≤ maxNodes ⌝ }
     ensures { λ r. ⌜ Constant (max nodes 2) (target .0) vars (now (room .entry)) (now (room .exit)) (r .nodes) (r .trials) ⌝ }
 {
-    let made = constant(room, 18 * most(nodes), target, vars);
+    let made = constant(room, ANSWER * most(nodes), target, vars);
     Sized {
         nodes: made,
         trials: 0,

@@ -16,6 +16,7 @@ use Rattle.diagram.specs.declared.verdict.Verdict.{Verdict}
 use Rattle.diagram.specs.declared.verdict.Verdict.the-variants.{Accepted as Yes, Refused as No}
 use Rattle.diagram.specs.declared.verdict.Output.the-variants.{Diagram}
 use Rattle.diagram.proofs.Entering.{admitted}
+use Rattle.room_map.specs.Map.{tablesFrom}
 use Rattle.negation.specs.Negation.{negated}
 use Rattle.negation.proofs.Meaning.{negated-accepted, negated-count}
 use Rattle.approximation.specs.Cut.{between, underCountOf, overCountOf, Under}
@@ -46,7 +47,7 @@ module _ {w r out : List ℕ} {k n v : ℕ} (a : Counting true w r out k n v) {m
   pub over-few : m ≤ 4096
   over-few = let e = m-is in let few = a .targeting .accepted .formed .few in omega arith
 
-  pub over-countable : Countable w r (17 * m) n
+  pub over-countable : Countable w r (tablesFrom m) n
   over-countable = aiming-countable (record { searching = targeting-searches (a .targeting); target = under-open-accepted w 0 (λ e low high. omega arith) }) is-m
 
   module _ {s : List ℕ} (same : s ≡ r) where

@@ -16,6 +16,7 @@ use Rattle.diagram.specs.declared.verdict.Verdict.the-variants.{Accepted as Yes
 use Rattle.diagram.specs.declared.verdict.Output.the-variants.{Diagram}
 use Rattle.diagram.proofs.Reading.{accepted-ordered}
 use Rattle.diagram.proofs.Entering.{admitted, lent-fits, lent-zero}
+use Rattle.room_map.specs.Map.{answerFrom, searchTo}
 use Rattle.negation.specs.Negation.{negated, over, Ready}
 use Rattle.negation.proofs.Meaning.{negated-vars, negated-accepted, negated-twice, negated-most}
 use Rattle.approximation.specs.Cut.{Under}
@@ -51,12 +52,12 @@ module _ {w r out : List ℕ} {n v : ℕ} (a : Targeting w r out n v) where
     m-is = is-m ∙ ap (λ (k : ℕ). max k 2) (a .is-size)
 
     -- The room is as it was.
-    room-back : (s u : List ℕ) → length s ≡ length r → drop (26 * m) s ≡ drop (26 * m) r → u ≡ replicate (26 * m) 0 ++ drop (26 * m) s → u ≡ r
+    room-back : (s u : List ℕ) → length s ≡ length r → drop (searchTo m) s ≡ drop (searchTo m) r → u ≡ replicate (searchTo m) 0 ++ drop (searchTo m) s → u ≡ r
     room-back s u same rest e =
         let is = m-is in
         let long = a .long in
-        let all : 26 * m ≡ min (26 * m) (length s) = omega arith in
-        e ∙ ap (λ (i : ℕ). replicate i 0 ++ drop (26 * m) s) all ∙ zeros-back (26 * m) r s (omega arith) (λ j h. a .zero j (omega arith)) same rest
+        let all : searchTo m ≡ min (searchTo m) (length s) = omega arith in
+        e ∙ ap (λ (i : ℕ). replicate i 0 ++ drop (searchTo m) s) all ∙ zeros-back (searchTo m) r s (omega arith) (λ j h. a .zero j (omega arith)) same rest
 
     -- ---- as it is
 
@@ -72,10 +73,10 @@ module _ {w r out : List ℕ} {n v : ℕ} (a : Targeting w r out n v) where
           record { few = omega arith; nodes = omega arith; long = omega arith; output = omega arith }
 
       answer-is : answerIn m s k ≡ b .words
-      answer-is = ap (λ (i : ℕ). take (3 * k) (drop (18 * i) s)) m-is ∙ f .made
+      answer-is = ap (λ (i : ℕ). take (3 * k) (drop (answerFrom i) s)) m-is ∙ f .made
 
-      rest-is : drop (26 * m) s ≡ drop (26 * m) r
-      rest-is = ap (λ (i : ℕ). drop (26 * i) s) m-is ∙ f .beyond ∙ ap (λ (i : ℕ). drop (26 * i) r) (sym m-is)
+      rest-is : drop (searchTo m) s ≡ drop (searchTo m) r
+      rest-is = ap (λ (i : ℕ). drop (searchTo i) s) m-is ∙ f .beyond ∙ ap (λ (i : ℕ). drop (searchTo i) r) (sym m-is)
 
       pub found-hits : {u out′ : List ℕ} → Given m k s out u out′ → Hit b r u out out′ k trials
       found-hits {u} g = record {
@@ -144,7 +145,7 @@ module _ {w r out : List ℕ} {n v : ℕ} (a : Targeting w r out n v) where
       u-is = rw (e .words) at u
 
       answer-back : answerIn m s k ≡ b .words
-      answer-back = ap (λ (i : ℕ). take (3 * k) (drop (18 * i) s)) (mm ∙ sym most-same) ∙ f-is .made
+      answer-back = ap (λ (i : ℕ). take (3 * k) (drop (answerFrom i) s)) (mm ∙ sym most-same) ∙ f-is .made
 
       pub back-returns : Returning s out m k v
       back-returns =
@@ -168,8 +169,8 @@ module _ {w r out : List ℕ} {n v : ℕ} (a : Targeting w r out n v) where
       pub back-hits : {room-after out′ : List ℕ} {c : ℕ} → Returned m k s out room-after out′ c → Hit (back b) r room-after out out′ c trials
       unfolding back
       back-hits {room-after} {out′} {c} g =
-          let rest : drop (26 * m) s ≡ drop (26 * m) r =
-          ap (λ (i : ℕ). drop (26 * i) s) (mm ∙ sym most-same) ∙ f-is .beyond ∙ ap (λ (i : ℕ). drop (26 * i) r) (most-same ∙ sym mm) in
+          let rest : drop (searchTo m) s ≡ drop (searchTo m) r =
+          ap (λ (i : ℕ). drop (searchTo i) s) (mm ∙ sym most-same) ∙ f-is .beyond ∙ ap (λ (i : ℕ). drop (searchTo i) r) (most-same ∙ sym mm) in
           record {
             count = rw answer-back at (g .count);
             trials = f-is .trials;

@@ -14,6 +14,7 @@ use naturals::at_most;
 use naturals::excess;
 use naturals::power_of_two;
 use negation::negate;
+use room_map::TABLES;
 use trials::answers::give;
 use trials::answers::give_back;
 use trials::answers::keep;
@@ -78,7 +79,7 @@ fn over(
     ensures { λ r. ⌜ Hit (overToCount (now (words .entry)) (value (target .words))) (now (room .entry)) (now (room .exit)) (now (output .entry)) (now (output .exit)) (r .nodes) (r .trials) ⌝ }
 {
     let most = most(nodes);
-    let count = count_in(words, room, 17 * most, nodes);
+    let count = count_in(words, room, TABLES * most, nodes);
     if at_most(target, count) {
         keep(words, room, most);
         give(room, output, most, nodes);

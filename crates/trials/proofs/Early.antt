@@ -8,6 +8,7 @@ use Rattle.diagram.specs.Limits.{maxNodes}
 use Rattle.diagram.specs.Diagram.{vars, Ordered}
 use Rattle.diagram.specs.Verdict.{most}
 use Rattle.diagram.proofs.Reading.{accepted-ordered}
+use Rattle.room_map.specs.Map.{answerFrom, searchTo}
 use Rattle.approximation.specs.Constants.{falseOf, trueOf}
 use Rattle.approximation.specs.Search.{Answer, answer}
 use Rattle.cuts.proofs.Cutting.{false-words, true-words, constant-false, constant-true, none, all, none-length, all-length, none-beyond, all-beyond}
@@ -26,7 +27,7 @@ module _ {w r : List ℕ} {n v : ℕ} (a : Searching w r n v) where
 
   -- ---- a constant
 
-  found-false : {b : Answer} → b ≡ answer (falseOf (vars w)) 0 → Found w b r (none r (18 * max n 2) v) 1 0
+  found-false : {b : Answer} → b ≡ answer (falseOf (vars w)) 0 → Found w b r (none r (answerFrom (max n 2)) v) 1 0
   found-false e =
       let m = searching-most in
       let long = a .long in
@@ -35,12 +36,12 @@ module _ {w r : List ℕ} {n v : ℕ} (a : Searching w r n v) where
         count = refl;
         words = refl;
         fits = omega arith;
-        kept = none-length r (18 * max n 2) v;
-        made = ap (λ (k : ℕ). take 3 (drop (18 * k) (none r (18 * max n 2) v))) (sym m) ∙ false-words r (18 * max n 2) v (omega arith) ∙ ap falseOf (a .is-vars);
-        beyond = none-beyond r (18 * max n 2) v (26 * most w) (omega arith);
+        kept = none-length r (answerFrom (max n 2)) v;
+        made = ap (λ (k : ℕ). take 3 (drop (answerFrom k) (none r (answerFrom (max n 2)) v))) (sym m) ∙ false-words r (answerFrom (max n 2)) v (omega arith) ∙ ap falseOf (a .is-vars);
+        beyond = none-beyond r (answerFrom (max n 2)) v (searchTo (most w)) (omega arith);
       })
 
-  found-true : {b : Answer} → b ≡ answer (trueOf (vars w)) 0 → Found w b r (all r (18 * max n 2) v) 2 0
+  found-true : {b : Answer} → b ≡ answer (trueOf (vars w)) 0 → Found w b r (all r (answerFrom (max n 2)) v) 2 0
   found-true e =
       let m = searching-most in
       let long = a .long in
@@ -49,21 +50,21 @@ module _ {w r : List ℕ} {n v : ℕ} (a : Searching w r n v) where
         count = refl;
         words = refl;
         fits = omega arith;
-        kept = all-length r (18 * max n 2) v;
-        made = ap (λ (k : ℕ). take 6 (drop (18 * k) (all r (18 * max n 2) v))) (sym m) ∙ true-words r (18 * max n 2) v (omega arith) ∙ ap trueOf (a .is-vars);
-        beyond = all-beyond r (18 * max n 2) v (26 * most w) (omega arith);
+        kept = all-length r (answerFrom (max n 2)) v;
+        made = ap (λ (k : ℕ). take 6 (drop (answerFrom k) (all r (answerFrom (max n 2)) v))) (sym m) ∙ true-words r (answerFrom (max n 2)) v (omega arith) ∙ ap trueOf (a .is-vars);
+        beyond = all-beyond r (answerFrom (max n 2)) v (searchTo (most w)) (omega arith);
       })
 
   module _ {after : List ℕ} {k trials : ℕ} where
     pub falsely : {b : Answer} → Constant (max n 2) 0 v r after k trials → b ≡ answer (falseOf (vars w)) 0 → Found w b r after k trials
     falsely c e =
         let count : k ≡ 1 = c .count in
-        rw (c .room ∙ constant-false r (18 * max n 2) v 0 refl, count, c .trials) (found-false e)
+        rw (c .room ∙ constant-false r (answerFrom (max n 2)) v 0 refl, count, c .trials) (found-false e)
 
     pub truly : {b : Answer} → Constant (max n 2) 1 v r after k trials → b ≡ answer (trueOf (vars w)) 0 → Found w b r after k trials
     truly c e =
         let count : k ≡ 2 = c .count in
-        rw (c .room ∙ constant-true r (18 * max n 2) v 1 (λ z. omega arith), count, c .trials) (found-true e)
+        rw (c .room ∙ constant-true r (answerFrom (max n 2)) v 1 (λ z. omega arith), count, c .trials) (found-true e)
 
   pub searching-keeps : {m : ℕ} → m ≡ max n 2 → Keeping w r m
   searching-keeps e =
@@ -86,6 +87,6 @@ module _ {w r : List ℕ} {n v : ℕ} (a : Searching w r n v) where
         words = three;
         fits = omega arith;
         kept = k .kept;
-        made = ap (λ (i : ℕ). take i (drop (18 * most w) after)) (sym three) ∙ ap (λ (i : ℕ). take (length w) (drop (18 * i) after)) (sym m-most) ∙ k .made;
-        beyond = ap (λ (i : ℕ). drop (26 * i) after) (sym m-most) ∙ k .beyond ∙ ap (λ (i : ℕ). drop (26 * i) r) m-most;
+        made = ap (λ (i : ℕ). take i (drop (answerFrom (most w)) after)) (sym three) ∙ ap (λ (i : ℕ). take (length w) (drop (answerFrom i) after)) (sym m-most) ∙ k .made;
+        beyond = ap (λ (i : ℕ). drop (searchTo i) after) (sym m-most) ∙ k .beyond ∙ ap (λ (i : ℕ). drop (searchTo i) r) m-most;
       })

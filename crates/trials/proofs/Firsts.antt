@@ -11,6 +11,7 @@ use borrow.Rule.Slice.PartMut.{putMid, midOf, postOf, take-put, drop-put, mid-le
 use Rattle.diagram.specs.Limits.{maxNodes}
 use Rattle.diagram.specs.Diagram.{size, vars, root}
 use Rattle.diagram.specs.Verdict.{most}
+use Rattle.room_map.specs.Map.{marksTo, tablesFrom, answerFrom, tablesTo}
 use Rattle.approximation.specs.Cut.{cut, listed}
 use Rattle.approximation.specs.Search.{order, cutFirst}
 use Rattle.approximation.proofs.Cut.{cut-same}
@@ -25,37 +26,37 @@ use Rattle.trials.proofs.Readying.{ready-front, ready-marks}
 -- ---- no marks
 
 module _ {r : List ℕ} {n : ℕ} (a : Unmarkable r n) where
-  pub unmarked : {part : List ℕ} → part ≡ replicate (min n (length (midOf n (2 * n - n) r))) 0 ++ drop n (midOf n (2 * n - n) r)
-      → Unmarked n r (putMid n (2 * n - n) r part)
+  pub unmarked : {part : List ℕ} → part ≡ replicate (min n (length (midOf n (marksTo n - n) r))) 0 ++ drop n (midOf n (marksTo n - n) r)
+      → Unmarked n r (putMid n (marksTo n - n) r part)
   unfolding markedIn
   unmarked {part} e =
       let long = a .long in
-      let mid : length (midOf n (2 * n - n) r) ≡ n = mid-len n (2 * n) r long ∙ omega arith in
-      let all : min n (length (midOf n (2 * n - n) r)) ≡ n = omega arith in
+      let mid : length (midOf n (marksTo n - n) r) ≡ n = mid-len n (marksTo n) r long ∙ omega arith in
+      let all : min n (length (midOf n (marksTo n - n) r)) ≡ n = omega arith in
       let zeros = length-replicate {A = ℕ} n 0 in
-      let rest = length-drop n (midOf n (2 * n - n) r) in
-      let is : part ≡ replicate n 0 ++ drop n (midOf n (2 * n - n) r) = e ∙ ap (λ (k : ℕ). replicate k 0 ++ drop n (midOf n (2 * n - n) r)) all in
-      let size : length part ≡ n = ap (λ (l : List ℕ). length l) is ∙ length-append (replicate n 0) (drop n (midOf n (2 * n - n) r)) ∙ omega arith in
+      let rest = length-drop n (midOf n (marksTo n - n) r) in
+      let is : part ≡ replicate n 0 ++ drop n (midOf n (marksTo n - n) r) = e ∙ ap (λ (k : ℕ). replicate k 0 ++ drop n (midOf n (marksTo n - n) r)) all in
+      let size : length part ≡ n = ap (λ (l : List ℕ). length l) is ∙ length-append (replicate n 0) (drop n (midOf n (marksTo n - n) r)) ∙ omega arith in
       let front : length (take n r) ≡ n = length-take-le n r (omega arith) in
-      let after = putMid n (2 * n - n) r part in
+      let after = putMid n (marksTo n - n) r part in
       record {
         kept =
-            length-append (take n r) (part ++ postOf n (2 * n - n) r)
-            ∙ (let both = length-append part (postOf n (2 * n - n) r) in
-            let post = length-drop (2 * n - n) (drop n r) in
+            length-append (take n r) (part ++ postOf n (marksTo n - n) r)
+            ∙ (let both = length-append part (postOf n (marksTo n - n) r) in
+            let post = length-drop (marksTo n - n) (drop n r) in
             let tail = length-drop n r in
             omega arith);
         none = λ q h.
-            let at : getD (take n r ++ (part ++ postOf n (2 * n - n) r)) (length (take n r) + q) 0 ≡ 0 =
-            getD-append-add (take n r) (part ++ postOf n (2 * n - n) r) q 0
-            ∙ List·getD-append part (postOf n (2 * n - n) r) 0 q (omega arith)
+            let at : getD (take n r ++ (part ++ postOf n (marksTo n - n) r)) (length (take n r) + q) 0 ≡ 0 =
+            getD-append-add (take n r) (part ++ postOf n (marksTo n - n) r) q 0
+            ∙ List·getD-append part (postOf n (marksTo n - n) r) 0 q (omega arith)
             ∙ ap (λ (l : List ℕ). getD l q 0) is
-            ∙ List·getD-append (replicate n 0) (drop n (midOf n (2 * n - n) r)) 0 q (omega arith)
+            ∙ List·getD-append (replicate n 0) (drop n (midOf n (marksTo n - n) r)) 0 q (omega arith)
             ∙ getD-replicate n q 0 0 h in
             let place : n + q ≡ length (take n r) + q = omega arith in
-            ap (λ (x : ℕ). not (eqb x 0)) (ap (λ (i : ℕ). getD (take n r ++ (part ++ postOf n (2 * n - n) r)) i 0) place ∙ at);
-        before = take-put n (2 * n - n) r part (omega arith);
-        beyond = drop-put n (2 * n) r part (omega arith) long (omega arith);
+            ap (λ (x : ℕ). not (eqb x 0)) (ap (λ (i : ℕ). getD (take n r ++ (part ++ postOf n (marksTo n - n) r)) i 0) place ∙ at);
+        before = take-put n (marksTo n - n) r part (omega arith);
+        beyond = drop-put n (marksTo n) r part (omega arith) long (omega arith);
       }
 
 -- ---- marks of the first
@@ -166,11 +167,11 @@ module _ {w sent r : List ℕ} {c n v : ℕ} (a : Trying w sent r c n v) where
             words = ap (λ (l : List ℕ). length l) (sym cut-is) ∙ x .words;
             fits = x .fits;
             kept = x .kept ∙ kept ∙ same;
-            made = ap (λ (i : ℕ). take (3 * k) (drop (18 * i) u)) (sym most-is) ∙ x .made ∙ cut-is;
+            made = ap (λ (i : ℕ). take (3 * k) (drop (answerFrom i) u)) (sym most-is) ∙ x .made ∙ cut-is;
             ready = ready-front ready-marked (x .kept) (omega arith)
-                (ap (λ (i : ℕ). take (17 * i) u) (sym most-is) ∙ x .before ∙ ap (λ (i : ℕ). take (17 * i) t) most-is);
+                (ap (λ (i : ℕ). take (tablesFrom i) u) (sym most-is) ∙ x .before ∙ ap (λ (i : ℕ). take (tablesFrom i) t) most-is);
             beyond =
-                ap (λ (i : ℕ). drop (23 * i) u) (sym most-is) ∙ x .beyond ∙ ap (λ (i : ℕ). drop (23 * i) t) (most-is ∙ sym is)
-                ∙ drop-more (2 * n) (23 * n) t s (omega arith) (marks .beyond) ∙ drop-more (2 * n) (23 * n) s r (omega arith) (none .beyond)
-                ∙ ap (λ (i : ℕ). drop (23 * i) r) is;
+                ap (λ (i : ℕ). drop (tablesTo i) u) (sym most-is) ∙ x .beyond ∙ ap (λ (i : ℕ). drop (tablesTo i) t) (most-is ∙ sym is)
+                ∙ drop-more (marksTo n) (tablesTo n) t s (omega arith) (marks .beyond) ∙ drop-more (marksTo n) (tablesTo n) s r (omega arith) (none .beyond)
+                ∙ ap (λ (i : ℕ). drop (tablesTo i) r) is;
           }

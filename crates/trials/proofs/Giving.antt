@@ -7,6 +7,7 @@ use native.Mathlib.Decide.{decLt}
 use lib.ListN.{length, getD, set, take, drop, replicate, length-set, length-drop, take-append-drop}
 use lib.Seq.{getD-set-same, getD-set-other, getD-take, getD-drop, drop-set-lt, ext-getD, length-take-le}
 use Rattle.diagram.specs.Diagram.{size}
+use Rattle.room_map.specs.Map.{answerFrom, searchTo}
 use Rattle.reduction.specs.Room.{Copied}
 use Rattle.reduction.proofs.Answering.{copied-front}
 use Rattle.negation.specs.Negation.{negated, over, Ready}
@@ -18,14 +19,14 @@ use Rattle.trials.specs.Answers.{answerIn, Keeping, Kept, Giving, Given,
 pub record Keptso (w : List ℕ) (m : ℕ) (r : List ℕ) (i : ℕ) (s : List ℕ) : Type 0 where
   pub kept : length s ≡ length r
   pub most : i ≤ length w
-  pub words : (j : ℕ) → j < i → getD s (18 * m + j) 0 ≡ getD w j 0
-  pub beyond : drop (26 * m) s ≡ drop (26 * m) r
+  pub words : (j : ℕ) → j < i → getD s (answerFrom m + j) 0 ≡ getD w j 0
+  pub beyond : drop (searchTo m) s ≡ drop (searchTo m) r
 
 module _ {w r : List ℕ} {m : ℕ} (a : Keeping w r m) where
   pub keep-start : Keptso w m r 0 r
   keep-start = record { kept = refl; most = omega arith; words = λ j h. absurd (omega arith); beyond = refl }
 
-  pub keep-on : {i x : ℕ} {s t : List ℕ} → Keptso w m r i s → i < length w → x ≡ getD w i 0 → t ≡ set s (18 * m + i) x → Keptso w m r (i + 1) t
+  pub keep-on : {i x : ℕ} {s t : List ℕ} → Keptso w m r i s → i < length w → x ≡ getD w i 0 → t ≡ set s (answerFrom m + i) x → Keptso w m r (i + 1) t
   keep-on {i} {x} {s} {t} b h is e =
       let long = a .long in
       let fits = a .fits in
@@ -34,12 +35,12 @@ module _ {w r : List ℕ} {m : ℕ} (a : Keeping w r m) where
         kept = simp length-set (b .kept);
         most = omega arith;
         words = λ j l. elim (decLt j i) [
-          | yes before ↦ getD-set-other s (18 * m + i) (18 * m + j) x 0 (λ z. omega arith) ∙ b .words j before
+          | yes before ↦ getD-set-other s (answerFrom m + i) (answerFrom m + j) x 0 (λ z. omega arith) ∙ b .words j before
           | no not-before ↦
               let here : j ≡ i = omega arith in
-              rw here (getD-set-same s (18 * m + i) x 0 (omega arith) ∙ is)
+              rw here (getD-set-same s (answerFrom m + i) x 0 (omega arith) ∙ is)
         ];
-        beyond = drop-set-lt (26 * m) s (18 * m + i) x (omega arith) ∙ b .beyond;
+        beyond = drop-set-lt (searchTo m) s (answerFrom m + i) x (omega arith) ∙ b .beyond;
       })
 
   pub keep-ends : {i : ℕ} {s : List ℕ} → Keptso w m r i s → length w ≤ i → Kept w m r s
@@ -47,27 +48,27 @@ module _ {w r : List ℕ} {m : ℕ} (a : Keeping w r m) where
       let long = a .long in
       let fits = a .fits in
       let same = b .kept in
-      let rest = length-drop (18 * m) s in
-      let there : length w ≤ length (drop (18 * m) s) = omega arith in
+      let rest = length-drop (answerFrom m) s in
+      let there : length w ≤ length (drop (answerFrom m) s) = omega arith in
       record {
         kept = b .kept;
-        made = ext-getD 0 (take (length w) (drop (18 * m) s)) w (length-take-le (length w) (drop (18 * m) s) there) (λ j l.
-            let inside : j < length w = rw (length-take-le (length w) (drop (18 * m) s) there) at l in
-            getD-take (length w) (drop (18 * m) s) j 0 inside ∙ getD-drop (18 * m) s j 0 ∙ b .words j (omega arith));
+        made = ext-getD 0 (take (length w) (drop (answerFrom m) s)) w (length-take-le (length w) (drop (answerFrom m) s) there) (λ j l.
+            let inside : j < length w = rw (length-take-le (length w) (drop (answerFrom m) s) there) at l in
+            getD-take (length w) (drop (answerFrom m) s) j 0 inside ∙ getD-drop (answerFrom m) s j 0 ∙ b .words j (omega arith));
         beyond = b .beyond;
       }
 
 -- ---- given
 
 module _ {r out : List ℕ} {m k : ℕ} (a : Giving r out m k) where
-  cleared-room : {u : List ℕ} → u ≡ replicate (min (26 * m) (length r)) 0 ++ drop (26 * m) r → u ≡ replicate (26 * m) 0 ++ drop (26 * m) r
+  cleared-room : {u : List ℕ} → u ≡ replicate (min (searchTo m) (length r)) 0 ++ drop (searchTo m) r → u ≡ replicate (searchTo m) 0 ++ drop (searchTo m) r
   cleared-room e =
       let long = a .long in
-      let all : min (26 * m) (length r) ≡ 26 * m = omega arith in
-      e ∙ ap (λ (i : ℕ). replicate i 0 ++ drop (26 * m) r) all
+      let all : min (searchTo m) (length r) ≡ searchTo m = omega arith in
+      e ∙ ap (λ (i : ℕ). replicate i 0 ++ drop (searchTo m) r) all
 
-  pub given : {u out′ : List ℕ} → length out′ ≡ length out → Copied r (18 * m) out out′ (3 * k)
-      → u ≡ replicate (min (26 * m) (length r)) 0 ++ drop (26 * m) r → Given m k r out u out′
+  pub given : {u out′ : List ℕ} → length out′ ≡ length out → Copied r (answerFrom m) out out′ (3 * k)
+      → u ≡ replicate (min (searchTo m) (length r)) 0 ++ drop (searchTo m) r → Given m k r out u out′
   given {u} {out′} same copied e =
       let long = a .long in
       let nodes = a .nodes in
@@ -79,18 +80,18 @@ module _ {r out : List ℕ} {m k : ℕ} (a : Giving r out m k) where
       }
 
 -- The part of the room that is lent.
-lent-is : (m k : ℕ) (r : List ℕ) → take (18 * m + 3 * k - 18 * m) (drop (18 * m) r) ≡ answerIn m r k
-lent-is m k r = let e : 18 * m + 3 * k - 18 * m ≡ 3 * k = omega arith in ap (λ (i : ℕ). take i (drop (18 * m) r)) e
+lent-is : (m k : ℕ) (r : List ℕ) → take (answerFrom m + 3 * k - answerFrom m) (drop (answerFrom m) r) ≡ answerIn m r k
+lent-is m k r = let e : answerFrom m + 3 * k - answerFrom m ≡ 3 * k = omega arith in ap (λ (i : ℕ). take i (drop (answerFrom m) r)) e
 
 module _ {r out : List ℕ} {m k v : ℕ} (a : Returning r out m k v) where
   abbrev lent : List ℕ
-  lent = take (18 * m + 3 * k - 18 * m) (drop (18 * m) r)
+  lent = take (answerFrom m + 3 * k - answerFrom m) (drop (answerFrom m) r)
 
   pub returning-asks : (k ≡ size lent) × Ready lent v × (length (negated lent) ≤ length out)
   returning-asks = rw (lent-is m k r) (a .is-size, a .ready, a .fits)
 
   pub returned : {made : ℕ} {u out′ : List ℕ} → (made ≡ size (negated lent)) × (out′ ≡ over (negated lent) out)
-      → u ≡ replicate (min (26 * m) (length r)) 0 ++ drop (26 * m) r → Returned m k r out u out′ made
+      → u ≡ replicate (min (searchTo m) (length r)) 0 ++ drop (searchTo m) r → Returned m k r out u out′ made
   returned (count, written) e = record {
     room = cleared-room (a .giving) e;
     count = rw (lent-is m k r) at count;

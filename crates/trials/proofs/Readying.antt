@@ -8,6 +8,7 @@ use lib.Seq.{getD-take, getD-drop, ext-getD, take-take, length-take-le}
 use Rattle.naturals.specs.Natural.{wordCount, Holds}
 use Rattle.diagram.specs.Diagram.{size, vars}
 use Rattle.diagram.specs.Valuations.{weightOf}
+use Rattle.room_map.specs.Map.{weightsTo, tablesFrom}
 use Rattle.levels.specs.Chains.{Given}
 use Rattle.counts.specs.Table.{entry}
 use Rattle.weights.specs.Passes.{weightsFrom, Standing}
@@ -42,7 +43,7 @@ module _ {w r : List ℕ} {n v : ℕ} (a : Preparing w r n v) where
             weight = λ q h. rw (sym is, prioritised-entry p q) (weighed .weight q (omega arith));
           };
           kept = p .size ∙ weighed .kept;
-          beyond = rw (sym is) (drop-more (9 * n) (17 * n) t s (omega arith) (p .table) ∙ weighed .rest);
+          beyond = rw (sym is) (drop-more (weightsFrom n) (weightsTo n) t s (omega arith) (p .table) ∙ weighed .rest);
         }
 
 -- ---- they are kept
@@ -66,13 +67,13 @@ entry-within k base q s r ls lr same h =
 
 module _ {w r s : List ℕ} (a : Ready w r) (same : length s ≡ length r) where
   -- What comes behind them doesn't matter.
-  pub ready-front : 17 * size w ≤ length r → take (17 * size w) s ≡ take (17 * size w) r → Ready w s
+  pub ready-front : tablesFrom (size w) ≤ length r → take (tablesFrom (size w)) s ≡ take (tablesFrom (size w)) r → Ready w s
   ready-front long front =
       record {
         order =
-            sym (take-take (size w - 2) (17 * size w) s (omega arith)) ∙ ap (λ (l : List ℕ). take (size w - 2) l) front
-            ∙ take-take (size w - 2) (17 * size w) r (omega arith) ∙ a .order;
-        weight = λ p h. rw (entry-within (17 * size w) (weightsFrom (size w)) p s r (omega arith) long front (omega arith)) (a .weight p h);
+            sym (take-take (size w - 2) (tablesFrom (size w)) s (omega arith)) ∙ ap (λ (l : List ℕ). take (size w - 2) l) front
+            ∙ take-take (size w - 2) (tablesFrom (size w)) r (omega arith) ∙ a .order;
+        weight = λ p h. rw (entry-within (tablesFrom (size w)) (weightsFrom (size w)) p s r (omega arith) long front (omega arith)) (a .weight p h);
       }
 
   -- Nor do the marks.

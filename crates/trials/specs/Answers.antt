@@ -7,37 +7,38 @@ use lib.ListN.{length, take, drop, replicate}
 use lib.Dec.{eqb}
 use Rattle.diagram.specs.Limits.{maxNodes}
 use Rattle.diagram.specs.Diagram.{size}
+use Rattle.room_map.specs.Map.{answerFrom, searchTo}
 use Rattle.cuts.specs.Marks.{constantAt}
 use Rattle.negation.specs.Negation.{negated, over, Ready}
 
 -- The words of an answer of k nodes.
 abbrev pub answerIn : ℕ → List ℕ → ℕ → List ℕ
-answerIn m r k = take (3 * k) (drop (18 * m) r)
+answerIn m r k = take (3 * k) (drop (answerFrom m) r)
 
 -- A constant is the answer.
 pub record Constant (m t v : ℕ) (r after : List ℕ) (k made-trials : ℕ) : Type 0 where
-  pub room : after ≡ constantAt r (18 * m) t v
+  pub room : after ≡ constantAt r (answerFrom m) t v
   pub count : k ≡ cond (eqb t 0) 1 2
   pub trials : made-trials ≡ 0
 
 pub record Keeping (w r : List ℕ) (m : ℕ) : Type 0 where
   pub few : m ≤ maxNodes
   pub fits : length w ≤ 3 * m
-  pub long : 26 * m ≤ length r
+  pub long : searchTo m ≤ length r
 
 pub record Kept (w : List ℕ) (m : ℕ) (r after : List ℕ) : Type 0 where
   pub kept : length after ≡ length r
-  pub made : take (length w) (drop (18 * m) after) ≡ w
-  pub beyond : drop (26 * m) after ≡ drop (26 * m) r
+  pub made : take (length w) (drop (answerFrom m) after) ≡ w
+  pub beyond : drop (searchTo m) after ≡ drop (searchTo m) r
 
 pub record Giving (r out : List ℕ) (m k : ℕ) : Type 0 where
   pub few : m ≤ maxNodes
   pub nodes : k ≤ m
-  pub long : 26 * m ≤ length r
+  pub long : searchTo m ≤ length r
   pub output : 3 * m ≤ length out
 
 pub record Given (m k : ℕ) (r out r′ out′ : List ℕ) : Type 0 where
-  pub room : r′ ≡ replicate (26 * m) 0 ++ drop (26 * m) r
+  pub room : r′ ≡ replicate (searchTo m) 0 ++ drop (searchTo m) r
   pub written : out′ ≡ answerIn m r k ++ drop (3 * k) out
 
 pub record Returning (r out : List ℕ) (m k v : ℕ) : Type 0 where
@@ -47,6 +48,6 @@ pub record Returning (r out : List ℕ) (m k v : ℕ) : Type 0 where
   pub fits : length (negated (answerIn m r k)) ≤ length out
 
 pub record Returned (m k : ℕ) (r out r′ out′ : List ℕ) (made : ℕ) : Type 0 where
-  pub room : r′ ≡ replicate (26 * m) 0 ++ drop (26 * m) r
+  pub room : r′ ≡ replicate (searchTo m) 0 ++ drop (searchTo m) r
   pub count : made ≡ size (negated (answerIn m r k))
   pub written : out′ ≡ over (negated (answerIn m r k)) out

@@ -1,9 +1,5 @@
--- What the searches for a target share. No promise to a caller rests on this file. Everywhere m is the larger of the
--- diagram's number of nodes and 2. In the working room are
---     [0, m)        the non-terminals by priority
---     [m, 2m)       marks
---     [9m, 17m)     the weights
---     [17m, 26m)    the tables of reduction and of counting, with the words of a cut, or of the answer, from 18m on
+-- What the searches for a target share. No promise to a caller rests on this file. Where things stand in the working room
+-- crates/room_map says.
 use Prim.Native.Nat.{ℕ, _-_, _*_, _≤_, _<_}
 use mathlib.Core.Path.{_≡_}
 use mathlib.Core.List.{List}
@@ -12,6 +8,7 @@ use Rattle.naturals.specs.Natural.{Holds}
 use Rattle.diagram.specs.Diagram.{size, vars, Accepted, Ordered}
 use Rattle.diagram.specs.Verdict.{most}
 use Rattle.diagram.specs.Valuations.{weightOf}
+use Rattle.room_map.specs.Map.{weightsTo, answerFrom, tablesTo, searchTo}
 use Rattle.counts.specs.Table.{entry}
 use Rattle.weights.specs.Passes.{weightsFrom}
 use Rattle.approximation.specs.Search.{Answer, order, cutFirst}
@@ -21,8 +18,8 @@ pub record Searching (w r : List ℕ) (n v : ℕ) : Type 0 where
   pub accepted : Accepted w
   pub is-size : n ≡ size w
   pub is-vars : v ≡ vars w
-  pub long : 26 * most w ≤ length r
-  pub zero : (j : ℕ) → j < 26 * most w → getD r j 0 ≡ 0
+  pub long : searchTo (most w) ≤ length r
+  pub zero : (j : ℕ) → j < searchTo (most w) → getD r j 0 ≡ 0
 
 -- Priorities and weights stand in the room.
 pub record Ready (w r : List ℕ) : Type 0 where
@@ -34,12 +31,12 @@ pub record Preparing (w r : List ℕ) (n v : ℕ) : Type 0 where
   pub is-size : n ≡ size w
   pub is-vars : v ≡ vars w
   pub many : 2 < n
-  pub long : 17 * n ≤ length r
+  pub long : weightsTo n ≤ length r
 
 pub record Prepared (w r after : List ℕ) : Type 0 where
   pub ready : Ready w after
   pub kept : length after ≡ length r
-  pub beyond : drop (17 * size w) after ≡ drop (17 * size w) r
+  pub beyond : drop (weightsTo (size w)) after ≡ drop (weightsTo (size w)) r
 
 -- The cut by the first c priorities has k nodes and stands in the room.
 pub record Trying (w sent r : List ℕ) (c n v : ℕ) : Type 0 where
@@ -49,7 +46,7 @@ pub record Trying (w sent r : List ℕ) (c n v : ℕ) : Type 0 where
   pub many : 2 < n
   pub few : c ≤ n - 2
   pub copy : length w ≤ length sent
-  pub long : 23 * n ≤ length r
+  pub long : tablesTo n ≤ length r
   pub ready : Ready w r
 
 pub record Tried (w : List ℕ) (c : ℕ) (r after : List ℕ) (k : ℕ) : Type 0 where
@@ -57,9 +54,9 @@ pub record Tried (w : List ℕ) (c : ℕ) (r after : List ℕ) (k : ℕ) : Type 
   pub words : length (cutFirst w c) ≡ 3 * k
   pub fits : k ≤ most w
   pub kept : length after ≡ length r
-  pub made : take (3 * k) (drop (18 * size w) after) ≡ cutFirst w c
+  pub made : take (3 * k) (drop (answerFrom (size w)) after) ≡ cutFirst w c
   pub ready : Ready w after
-  pub beyond : drop (23 * size w) after ≡ drop (23 * size w) r
+  pub beyond : drop (tablesTo (size w)) after ≡ drop (tablesTo (size w)) r
 
 -- A search has found an answer of k nodes, whose words stand in the room.
 pub record Found (w : List ℕ) (a : Answer) (r after : List ℕ) (k made-trials : ℕ) : Type 0 where
@@ -68,5 +65,5 @@ pub record Found (w : List ℕ) (a : Answer) (r after : List ℕ) (k made-trials
   pub words : length (a .words) ≡ 3 * k
   pub fits : k ≤ most w
   pub kept : length after ≡ length r
-  pub made : take (3 * k) (drop (18 * most w) after) ≡ a .words
-  pub beyond : drop (26 * most w) after ≡ drop (26 * most w) r
+  pub made : take (3 * k) (drop (answerFrom (most w)) after) ≡ a .words
+  pub beyond : drop (searchTo (most w)) after ≡ drop (searchTo (most w)) r

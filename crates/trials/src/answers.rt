@@ -4,6 +4,8 @@ use diagram::room::clear;
 use diagram::room::put;
 use negation::negate;
 use reduction::answer::copy;
+use room_map::ANSWER;
+use room_map::END;
 ghost use Rattle.trials.specs.Answers.{Keeping, Kept, Giving, Given, Returning, Returned};
 
 // The input words are the answer.
@@ -13,7 +15,7 @@ pub fn keep(words: &[u32], room: &mut [u32], most: usize)
 {
     let mut i = 0;
     while i < words.len() {
-        put(room, 18 * most + i, words[i]);
+        put(room, ANSWER * most + i, words[i]);
         i += 1;
     }
 }
@@ -23,8 +25,8 @@ pub fn give(room: &mut [u32], output: &mut [u32], most: usize, count: usize)
     requires { ⌜ Giving (now room) (now output) most count ⌝ }
     ensures { λ _. ⌜ Given most count (now (room .entry)) (now (output .entry)) (now (room .exit)) (now (output .exit)) ⌝ }
 {
-    copy(room, 18 * most, output, 3 * count);
-    clear(room, 26 * most);
+    copy(room, ANSWER * most, output, 3 * count);
+    clear(room, END * most);
 }
 
 // The negation of an answer of `count` nodes goes to the output, and the room is cleared. The number of its nodes.
@@ -38,8 +40,8 @@ pub fn give_back(
     requires { ⌜ Returning (now room) (now output) most count vars ⌝ }
     ensures { λ r. ⌜ Returned most count (now (room .entry)) (now (output .entry)) (now (room .exit)) (now (output .exit)) r ⌝ }
 {
-    let from = 18 * most;
+    let from = ANSWER * most;
     let made = negate(&room[from..from + 3 * count], output, count, vars);
-    clear(room, 26 * most);
+    clear(room, END * most);
     made
 }
