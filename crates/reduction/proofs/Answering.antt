@@ -78,7 +78,7 @@ module _ {w r : List ℕ} {c n v : ℕ} (a : Asked w r c n v) {m : ℕ} (is-m : 
   pub make-empty : Empty m c r
   make-empty =
       let few = lent-few in
-      rw most-is (record { near = rw most-is at (lent-near few); few = a .few; two = a .two; long = a .long; heads = a .heads })
+      rw most-is (record { placed = record { near = rw most-is at (lent-near few); few = a .few; long = a .long }; two = a .two; heads = a .heads })
     where
       lent-near : m ≤ maxNodes → m ≤ farthest
       lent-near few = omega arith

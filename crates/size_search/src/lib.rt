@@ -6,6 +6,7 @@ use diagram::node::BddPointer;
 use room_map::ANSWER;
 use trials::answers::keep;
 use trials::first::cut_first;
+use trials::first::cut_first_within;
 use trials::prepare;
 ghost use mathlib.Core.Path.{_≡_};
 ghost use Prim.Native.Nat.{_-_, _<_, _≤_, max};
@@ -21,7 +22,8 @@ pub struct Sized {
     pub trials: usize,
 }
 
-// Between none and as many priorities as there are nodes too many, by halves.
+// Between none and as many priorities as there are nodes too many, by halves. A trial ends at one node over the target: that it
+// has more is all that is asked of it.
 fn search(
     words: &[u32],
     sent: &mut [u32],
@@ -38,7 +40,7 @@ fn search(
     let mut trials = 0;
     while start < stop {
         let check = (start + stop) / 2;
-        let made = cut_first(words, sent, room, check, nodes, vars);
+        let made = cut_first_within(words, sent, room, target, check, nodes, vars);
         if made == target {
             return Sized {
                 nodes: made,

@@ -1,41 +1,49 @@
 -- A store in the working room: how it begins, the search along a chain, and joining two children.
-use Prim.Native.Nat.{ℕ, _+_, _*_, _≤_, _<_}
+use Prim.Native.Nat.{ℕ, _+_, _-_, _*_, _≤_, _<_, min}
 use mathlib.Core.Path.{_≡_, refl, sym, ap, _∙_, subst}
 use mathlib.Core.Logic.{_≢_}
 use mathlib.Core.Bool.{true, false, true≢false, and-true}
 use mathlib.Core.List.{List, [], _∷_, _++_}
 use native.Mathlib.Omega.{arith}
-use lib.ListN.{length, getD}
+use lib.ListN.{length, getD, drop, replicate}
+use borrow.Rule.Slice.PartMut.{putMid, midOf}
 use lib.Dec.{ltb, eqb}
 use borrow.Author.Tests.{eq-eqb, lt-ltb, le-ltb}
 use Rattle.diagram.specs.Limits.{maxNodes}
 use Rattle.store.specs.Store.{Node, node, same, Built, built, join, terminals}
 use Rattle.store.specs.Build.{at, Seek}
-use Rattle.store.specs.Room.{nextFrom, headsFrom, storeTo, storeWords, wordIn, nextIn, headIn, storeIn, keyOf, Outside, started, entered, Stored, Empty, Started, Shelf, Sought, Standing, Done}
+use Rattle.store.specs.Room.{nextFrom, headsFrom, storeTo, storeWords, wordIn, nextIn, headIn, storeIn, keyOf, Outside, started, entered, Stored, Placed, Forgotten, Empty, Started, Shelf, Sought, Standing, Done}
 use Rattle.store.proofs.Store.{same-yes, same-no, node-discrete, length-add}
 use Rattle.store.proofs.Canon.{join-equal, join-there, join-new}
 use Rattle.store.proofs.Chains.{chains-start, chains-add, seek-start, seek-next, seek-falls, seek-found, seek-missing}
 use Rattle.store.proofs.Tables.{held-start, held-add, held-is, nodes-length, held-nodes, nodes-held}
-use Rattle.store.proofs.Zones.{key-below, started-other, started-length, started-0, started-1, started-2, started-3, started-4, started-5, entered-other, entered-length, entered-var, entered-low, entered-high, entered-head, entered-next}
+use Rattle.store.proofs.Zones.{key-below, started-other, started-length, started-0, started-1, started-2, started-3, started-4, started-5, entered-other, entered-length, entered-var, entered-low, entered-high, entered-head, entered-next, wiped-zero, wiped-other}
 
 -- ---- the start
 
+-- The keys' words are cleared.
+pub forgotten : {b c : ℕ} {r : List ℕ} → Placed b c r → {part : List ℕ}
+    → part ≡ replicate (min c (length (midOf (headsFrom b c) (storeTo b c - headsFrom b c) r))) 0 ++ drop c (midOf (headsFrom b c) (storeTo b c - headsFrom b c) r)
+    → Forgotten b c r (putMid (headsFrom b c) (storeTo b c - headsFrom b c) r part)
+forgotten {b} {c} {r} a e = record {
+  heads = wiped-zero (headsFrom b c) (storeTo b c) r (omega arith) (a .long) (omega arith) e;
+  beyond = wiped-other (headsFrom b c) (storeTo b c) r (omega arith) (a .long) (omega arith) e;
+}
+
 module _ {b c : ℕ} {r : List ℕ} (a : Empty b c r) where
   pub empty-near : b + 5 < length r
-  empty-near = let long = a .long in let two = a .two in omega arith
+  empty-near = let long = a .placed .long in let two = a .two in omega arith
 
   pub starts : {v : ℕ} {after : List ℕ} → after ≡ started b r v → Started b c v r after
   starts {v} {after} e =
       let two = a .two in
-      let long = a .long in
+      let long = a .placed .long in
       let near = empty-near in
       let first : b + 0 ≡ b = omega arith in
       rw e (record {
         stored = record {
-          near = a .near;
-          few = a .few;
+          placed = record { near = a .placed .near; few = a .placed .few; long = let l = started-length b r v in omega arith };
           fits = two;
-          long = let l = started-length b r v in omega arith;
           chains = chains-start (keyOf c) v c (headIn b c (started b r v)) (nextIn b c (started b r v))
               (λ h in-h. started-other b r v (headsFrom b c + h) (λ e. omega arith) (λ e. omega arith) (λ e. omega arith) (λ e. omega arith) (λ e. omega arith) (λ e. omega arith)
               ∙ a .heads h in-h);
@@ -197,15 +205,13 @@ module _ {b c : ℕ} {r : List ℕ} {k : ℕ} {n : Node} (s : Shelf b c r k n) w
         entered-stored =
             let all = count-is in
             let two = s .sound .enough in
-            let long = s .stored .long in
+            let long = s .stored .placed .long in
             let in-k = free in
             let in-x = key-small in
             let more = length-add (storeIn b r k) n in
             record {
-              near = s .stored .near;
-              few = s .stored .few;
+              placed = record { near = s .stored .placed .near; few = s .stored .placed .few; long = let e = entered-length b c r k x n in omega arith };
               fits = omega arith;
-              long = let e = entered-length b c r k x n in omega arith;
               chains = chains-add (keyOf c) c (storeIn b r k) (headIn b c r) (nextIn b c r) (headIn b c after) (nextIn b c after) n (s .stored .chains) two in-x
                   (entered-head b c r k x n long in-k in-x ∙ sym all)
                   (λ y in-y ne-y. other (headsFrom b c + y) (λ e. omega arith) (λ e. omega arith) (λ e. omega arith) (λ e. omega arith) (λ e. ne-y (omega arith)))

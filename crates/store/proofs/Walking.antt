@@ -28,10 +28,8 @@ stored-put : (b c : ℕ) (o : List Node) (r : List ℕ) (j x : ℕ) → Outside 
 stored-put b c o r j x out s =
     let fits = s .fits in
     record {
-      near = s .near;
-      few = s .few;
+      placed = record { near = s .placed .near; few = s .placed .few; long = simp length-set (s .placed .long) };
       fits = fits;
-      long = simp length-set (s .long);
       chains = chains-same (keyOf c) c o (headIn b c r) (nextIn b c r) (headIn b c (set r j x)) (nextIn b c (set r j x)) (s .chains)
           (λ h in-h. getD-set-other r j (headsFrom b c + h) x 0 (λ e. out (4 * c + h) (omega arith) (omega arith)))
           (λ q two in-q. getD-set-other r j (nextFrom b c + q) x 0 (λ e. out (3 * c + q) (omega arith) (omega arith)));
@@ -186,7 +184,7 @@ module _ {w : List ℕ} {q b c : ℕ} {r : List ℕ} {k p : ℕ} (a : Walking w 
                       let place = mine-place in
                       let e = standing .is-pointer in
                       let fits = standing .stored .fits in
-                      let few = standing .stored .few in
+                      let few = standing .stored .placed .few in
                       omega arith
 
                 pub walk-small : x < maxNodes

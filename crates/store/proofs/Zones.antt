@@ -1,15 +1,17 @@
 -- A store in the working room: keys are in range, and what the terminals' words and a new node write and leave.
-use Prim.Native.Nat.{ℕ, _+_, _*_, _/_, _%_, _^_, _≤_, _<_}
-use mathlib.Core.Path.{_≡_, ap, _∙_}
+use Prim.Native.Nat.{ℕ, _+_, _-_, _*_, _/_, _%_, _^_, _≤_, _<_, min}
+use mathlib.Core.Path.{_≡_, sym, ap, _∙_}
 use mathlib.Core.Logic.{_≢_}
-use mathlib.Core.List.{List}
+use mathlib.Core.List.{List, _++_}
 use native.Mathlib.Omega.{arith}
 use native.Mathlib.Nat.{mul-lt-mul-of-pos-right, mul-le-mul-left}
-use lib.ListN.{length, getD, set, length-set}
-use lib.Seq.{getD-set-same, getD-set-other}
+use native.Mathlib.Decide.{decLt}
+use lib.ListN.{length, getD, set, take, drop, replicate, length-set, length-append, length-drop, length-replicate, getD-replicate, List·getD-append}
+use lib.Seq.{getD-set-same, getD-set-other, getD-take, getD-drop, getD-append-add, length-take-le}
+use borrow.Rule.Slice.PartMut.{putMid, midOf, postOf, take-put, drop-put, mid-len}
 use Rattle.diagram.specs.Limits.{maxNodes}
 use Rattle.store.specs.Store.{Node}
-use Rattle.store.specs.Room.{nextFrom, headsFrom, storeTo, keyOf, started, written, chained, entered}
+use Rattle.store.specs.Room.{nextFrom, headsFrom, storeTo, keyOf, Outside, started, written, chained, entered}
 
 -- ---- keys
 
@@ -195,3 +197,57 @@ pub started-is : (b : ℕ) (r : List ℕ) (v : ℕ) {r₁ r₂ r₃ r₄ r₅ r�
     → r₄ ≡ set r₃ (b + 3) v → r₅ ≡ set r₄ (b + 4) 1 → r₆ ≡ set r₅ (b + 5) 1 → r₆ ≡ started b r v
 unfolding started
 started-is b r v e₁ e₂ e₃ e₄ e₅ e₆ = cc
+
+-- ---- a stretch that is cleared
+
+-- The words from a on and before e are zero, the others as they were.
+module _ (a e : ℕ) (r : List ℕ) (up : a ≤ e) (long : e ≤ length r) {n : ℕ} (is-n : n ≡ e - a) {part : List ℕ}
+    (cleared : part ≡ replicate (min n (length (midOf a (e - a) r))) 0 ++ drop n (midOf a (e - a) r)) where
+  abbrev wiped : List ℕ
+  wiped = putMid a (e - a) r part
+
+  part-is : part ≡ replicate n 0 ++ drop n (midOf a (e - a) r)
+  part-is =
+      let mid = mid-len a e r long in
+      let all : min n (length (midOf a (e - a) r)) ≡ n = omega arith in
+      cleared ∙ ap (λ (k : ℕ). replicate k 0 ++ drop n (midOf a (e - a) r)) all
+
+  part-length : length part ≡ e - a
+  part-length =
+      let mid = mid-len a e r long in
+      let rest = length-drop n (midOf a (e - a) r) in
+      let zeros = length-replicate {A = ℕ} n 0 in
+      ap (λ (l : List ℕ). length l) part-is ∙ length-append (replicate n 0) (drop n (midOf a (e - a) r)) ∙ omega arith
+
+  pub wiped-zero : (h : ℕ) → h < n → getD wiped (a + h) 0 ≡ 0
+  wiped-zero h in-n =
+      let front : length (take a r) ≡ a = length-take-le a r (omega arith) in
+      let zeros = length-replicate {A = ℕ} n 0 in
+      let size = part-length in
+      let place : a + h ≡ length (take a r) + h = omega arith in
+      ap (λ (i : ℕ). getD wiped i 0) place
+      ∙ getD-append-add (take a r) (part ++ postOf a (e - a) r) h 0
+      ∙ List·getD-append part (postOf a (e - a) r) 0 h (omega arith)
+      ∙ ap (λ (l : List ℕ). getD l h 0) part-is
+      ∙ List·getD-append (replicate n 0) (drop n (midOf a (e - a) r)) 0 h (omega arith)
+      ∙ getD-replicate n h 0 0 in-n
+
+  wiped-before : (j : ℕ) → j < a → getD wiped j 0 ≡ getD r j 0
+  wiped-before j h =
+      sym (getD-take a wiped j 0 h) ∙ ap (λ (l : List ℕ). getD l j 0) (take-put a (e - a) r part (omega arith)) ∙ getD-take a r j 0 h
+
+  wiped-after : (j : ℕ) → e ≤ j → getD wiped j 0 ≡ getD r j 0
+  wiped-after j h =
+      let place : e + (j - e) ≡ j = omega arith in
+      ap (λ (i : ℕ). getD wiped i 0) (sym place) ∙ sym (getD-drop e wiped (j - e) 0)
+      ∙ ap (λ (l : List ℕ). getD l (j - e) 0) (drop-put a e r part up long part-length)
+      ∙ getD-drop e r (j - e) 0 ∙ ap (λ (i : ℕ). getD r i 0) place
+
+  pub wiped-other : (j : ℕ) → Outside a n j → getD wiped j 0 ≡ getD r j 0
+  wiped-other j out = elim (decLt j a) [
+    | yes before ↦ wiped-before j before
+    | no from ↦ elim (decLt j e) [
+      | yes inside ↦ absurd (out (j - a) (omega arith) (omega arith))
+      | no after ↦ wiped-after j (omega arith)
+    ]
+  ]

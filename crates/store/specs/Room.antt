@@ -62,21 +62,28 @@ Outside from n j = (i : ℕ) → i < n → j ≢ from + i
 
 -- ---- a store
 
--- The nodes o stand in the room, with their chains.
-pub record Stored (b c : ℕ) (o : List Node) (r : List ℕ) : Type 0 where
+-- There is room for a store.
+pub record Placed (b c : ℕ) (r : List ℕ) : Type 0 where
   pub near : b ≤ farthest
   pub few : c ≤ maxNodes
-  pub fits : length o ≤ c
   pub long : storeTo b c ≤ length r
+
+-- The nodes o stand in the room, with their chains.
+pub record Stored (b c : ℕ) (o : List Node) (r : List ℕ) : Type 0 where
+  pub placed : Placed b c r
+  pub fits : length o ≤ c
   pub chains : Chains (keyOf c) c o (headIn b c r) (nextIn b c r)
   pub held : Held o (wordIn b r)
 
--- There is room for a store, and no key has a node.
+-- No key has a node; all other words are as they were.
+pub record Forgotten (b c : ℕ) (r after : List ℕ) : Type 0 where
+  pub heads : (h : ℕ) → h < c → headIn b c after h ≡ 0
+  pub beyond : (j : ℕ) → Outside (headsFrom b c) c j → getD after j 0 ≡ getD r j 0
+
+-- A store may begin: there is room for the terminals, and no key has a node.
 pub record Empty (b c : ℕ) (r : List ℕ) : Type 0 where
-  pub near : b ≤ farthest
-  pub few : c ≤ maxNodes
+  pub placed : Placed b c r
   pub two : 2 ≤ c
-  pub long : storeTo b c ≤ length r
   pub heads : (h : ℕ) → h < c → headIn b c r h ≡ 0
 
 -- A store with the terminals alone.

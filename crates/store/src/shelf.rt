@@ -7,13 +7,14 @@
 use diagram::node::BddPointer;
 use diagram::node::BddVariable;
 use diagram::node::word;
+use diagram::room::clear;
 use diagram::room::put;
 ghost use mathlib.Core.Path.{_≡_};
 ghost use Prim.Native.Nat.{_+_, _*_, _≤_};
 ghost use lib.ListN.{getD};
 ghost use Rattle.diagram.specs.Limits.{maxNodes};
 ghost use Rattle.store.specs.Store.{node, same, join as joinOf};
-ghost use Rattle.store.specs.Room.{farthest, storeTo, keyOf, storeIn, entered, Empty, Started, Shelf, Sought, Done};
+ghost use Rattle.store.specs.Room.{farthest, storeTo, keyOf, storeIn, entered, Placed, Forgotten, Empty, Started, Shelf, Sought, Done};
 
 pub const NEXT: usize = 3;
 
@@ -26,6 +27,17 @@ pub struct Made {
     pub pointer: BddPointer,
     pub count: usize,
     pub full: bool,
+}
+
+// Makes the keys' words zero, whatever stood there: what a store needs before it begins.
+pub fn forget(room: &mut [u32], base: usize, capacity: usize)
+    requires { ⌜ Placed base capacity (now room) ⌝ }
+    ensures { λ _. ⌜ Forgotten base capacity (now (room .entry)) (now (room .exit)) ⌝ }
+{
+    clear(
+        &mut room[base + HEADS * capacity..base + END * capacity],
+        capacity,
+    );
 }
 
 // Begins a store with the terminals alone. Only the keys' words have to be zero before.
