@@ -7,7 +7,7 @@ use native.Mathlib.Omega.{arith}
 use Rattle.diagram.specs.Limits.{maxVariables}
 use Rattle.diagram.specs.Diagram.{size, vars, root, holds, Accepted}
 use Rattle.diagram.proofs.Meeting.{walk-ends}
-use Rattle.reduction.specs.Reduce.{words}
+use Rattle.store.specs.Store.{words}
 use Rattle.reduction.proofs.Canonical.{reduced-accepted, reduced-never, reduced-always}
 use Rattle.approximation.specs.Constants.{falseOf, trueOf}
 

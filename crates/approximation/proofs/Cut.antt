@@ -16,8 +16,9 @@ use Rattle.diagram.specs.Verdict.{any}
 use Rattle.diagram.proofs.Tests.{by-test, not-both, and-both, both-and, cond-true, cond-false}
 use Rattle.diagram.proofs.Reading.{layered, root-in, pass-in}
 use Rattle.diagram.proofs.Meeting.{meet, meet-nil, meet-cons, meet-here, meets-is-meet}
-use Rattle.reduction.specs.Reduce.{words, reduced, reduce}
-use Rattle.reduction.proofs.Canon.{Same}
+use Rattle.store.specs.Store.{words}
+use Rattle.reduction.specs.Reduce.{reduced, reduce}
+use Rattle.store.proofs.Canon.{Same}
 use Rattle.reduction.proofs.Count.{count, count-nodes}
 use Rattle.reduction.proofs.Fewest.{Closed}
 use Rattle.reduction.proofs.Canonical.{reduced-vars, reduced-accepted, reduced-holds, reduced-never, reduced-always, reduce-size, reduce-size-live}

@@ -6,7 +6,8 @@ use Rattle.diagram.specs.Verdict.{row, short, lengthsOf, isTerminal, terminalsO
 use Rattle.diagram.specs.Valuations.{tally, meets}
 use Rattle.counts.specs.Paths.{paths}
 use Rattle.weights.specs.Weighed.{weightsVerdict}
-use Rattle.reduction.specs.Reduce.{words, same, find, join, canon, reduced}
+use Rattle.store.specs.Store.{words, same, find, join, canon}
+use Rattle.reduction.specs.Reduce.{reduced}
 use Rattle.approximation.specs.Links.{table}
 use Rattle.negation.specs.Negation.{exchanged, exchangedLinks, negated}
 use Rattle.approximation.specs.Cut.{cutHolds, cut, listed, listOf, between, underCountOf, overCountOf}

@@ -12,8 +12,9 @@ use Rattle.diagram.specs.Reading.{tests, pass, eval}
 use Rattle.diagram.proofs.Tests.{by-test, by-eq}
 use Rattle.diagram.proofs.Reading.{layered, by-two, root-in, pass-tests, pass-ends, child-in, eval-nil, eval-cons, eval-ends, var-most, holds-is-eval}
 use Rattle.diagram.proofs.Meeting.{meet, meet-nil, meet-cons, meet-here, meets-is-meet}
-use Rattle.reduction.specs.Reduce.{node, terminals, reduced, reduce}
-use Rattle.reduction.proofs.Canon.{Same, canon-cong}
+use Rattle.store.specs.Store.{node, terminals}
+use Rattle.reduction.specs.Reduce.{reduced, reduce}
+use Rattle.store.proofs.Canon.{Same, canon-cong}
 use Rattle.approximation.specs.Cut.{cutHolds, cut, send}
 use Rattle.approximation.proofs.Relink.{relinked-size, relinked-length, relinked-root, relinked-var, relinked-low, relinked-high, relinked-ordered}
 

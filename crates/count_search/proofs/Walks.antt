@@ -24,7 +24,8 @@ use Rattle.approximation.proofs.Cut.{cut-same}
 use Rattle.approximation.proofs.Members.{order-length, order-nodes}
 use Rattle.approximation.proofs.Search.{first-all, false-count, walk-out, walk-covers, walk-on, count-enough, count-on}
 use Rattle.approximation.proofs.Targets.{to-count-search}
-use Rattle.cuts.specs.Marks.{markedIn, Cutting, CutIn}
+use Rattle.cuts.specs.Marks.{markedIn, Cutting, CutIn, CutWithin}
+use Rattle.cuts.proofs.Cutting.{within-most}
 use Rattle.cuts.proofs.Steps.{present}
 use Rattle.cuts.proofs.Marking.{set-marks, listed-take}
 use Rattle.cuts.proofs.Answering.{drop-more}
@@ -240,7 +241,7 @@ module _ {w heads sent start : List ℕ} {k count n v : ℕ} (a : Seeking w head
           stale = x .stale;
         }
 
-    pub taken-cutting : {copy : List ℕ} → length copy ≡ length sent → Cutting w copy r 0 n v
+    pub taken-cutting : {copy : List ℕ} → length copy ≡ length sent → Cutting w copy r n 0 n v
     taken-cutting {copy} e =
         let long = taken-long in
         let fits = a .copy in
@@ -250,6 +251,8 @@ module _ {w heads sent start : List ℕ} {k count n v : ℕ} (a : Seeking w head
           ordered = a .ordered;
           is-size = is;
           is-vars = a .is-vars;
+          two = omega arith;
+          within = omega arith;
           terminal = omega arith;
           copy = omega arith;
           long = omega arith;
@@ -330,10 +333,11 @@ module _ {w heads sent start : List ℕ} {k count n v : ℕ} (a : Seeking w head
           ∙ ap (λ (i : ℕ). answer (cutFirst w i) (suc trials)) (sym (y .same))
           ∙ ap (λ (j : ℕ). answer (cutFirst w c) j) (sym (add-one trials))
 
-      pub round-done : left ≤ k → {after : List ℕ} {found : ℕ} → CutIn w 0 r′ after found → Found w (underToCount w k) start after found (trials + 1)
-      round-done h {after} {found} t =
+      pub round-done : left ≤ k → {after : List ℕ} {found : ℕ} → CutWithin w n 0 r′ after found → Found w (underToCount w k) start after found (trials + 1)
+      round-done h {after} {found} x =
           let is = a .is-size in
           let many = a .many in
+          let t : CutIn w 0 r′ after found = within-most (a .ordered) (omega arith) (omega arith) x in
           let is-most : most w ≡ size w = omega arith in
           let made : cut w (markedIn (most w) r′) 0 ≡ cutFirst w c = rw is-most (cut-is round-counted) in
           rw (answer-is h) (record {

@@ -15,7 +15,7 @@ use trials::answers::Answer;
 ghost use lib.ListN.{getD};
 ghost use Rattle.naturals.specs.Natural.{value};
 ghost use Rattle.approximation.specs.Search.{underToCount};
-ghost use Rattle.cuts.specs.Marks.{Cutting, CutIn};
+ghost use Rattle.cuts.specs.Marks.{Cutting, CutWithin};
 ghost use Rattle.trials.specs.Trials.{Found};
 ghost use Rattle.count_search.specs.Rounds.{Takeable, Took, Seeking};
 
@@ -32,10 +32,10 @@ fn take_node(changed: &mut [u32], room: &mut [u32], nodes: usize, taken: usize) 
 
 // The cut by the nodes that are taken: they are marked already.
 fn cut_taken(words: &[u32], sent: &mut [u32], room: &mut [u32], nodes: usize, vars: u32) -> usize
-    requires { ⌜ Cutting (now words) (now sent) (now room) 0 nodes vars ⌝ }
-    ensures { λ r. ⌜ CutIn (now (words .entry)) 0 (now (room .entry)) (now (room .exit)) r ⌝ }
+    requires { ⌜ Cutting (now words) (now sent) (now room) nodes 0 nodes vars ⌝ }
+    ensures { λ r. ⌜ CutWithin (now (words .entry)) nodes 0 (now (room .entry)) (now (room .exit)) r ⌝ }
 {
-    cut(words, sent, room, BddPointer(0), nodes, vars)
+    cut(words, sent, room, nodes, BddPointer(0), nodes, vars)
 }
 
 // The inner walk ends with the node whose weight reaches the rest. Weights of nodes that share a valuation count it twice, so

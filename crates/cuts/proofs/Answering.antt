@@ -22,7 +22,8 @@ use Rattle.reduction.proofs.Answering.{copied-front}
 use Rattle.approximation.specs.Cut.{cut, listed, listOf}
 use Rattle.approximation.proofs.Cut.{cut-same}
 use Rattle.approximation.proofs.Listing.{Listable, by-list, outside-refused, ending-refused}
-use Rattle.cuts.specs.Marks.{markedIn, Markable, Marked, Cutting, CutIn, Listing, Listed}
+use Rattle.cuts.proofs.Cutting.{within-most}
+use Rattle.cuts.specs.Marks.{markedIn, Markable, Marked, Cutting, CutIn, CutWithin, Listing, Listed}
 use Rattle.cuts.specs.Approximates.{cutVerdict, Approximates}
 
 -- ---- a room that is given back
@@ -73,7 +74,7 @@ module _ {w list : List ℕ} {t : ℕ} {r out : List ℕ} {n v : ℕ} (a : Listi
         ap (λ (k : ℕ). markedIn k s q) (sym e) ∙ marks .marks q
         ∙ ap (λ (x : ℕ). not (eqb x 0) || listed list q) (a .zero (m + q) (omega arith))
 
-    pub listing-cutting : {sent : List ℕ} → 3 * maxNodes ≤ length sent → Cutting w sent s t n v
+    pub listing-cutting : {sent : List ℕ} → 3 * maxNodes ≤ length sent → Cutting w sent s m t n v
     listing-cutting long-sent =
         let o = accepted-ordered w (a .accepted) in
         let few = o .formed .few in
@@ -84,12 +85,17 @@ module _ {w list : List ℕ} {t : ℕ} {r out : List ℕ} {n v : ℕ} (a : Listi
           ordered = o;
           is-size = a .is-size;
           is-vars = a .is-vars;
+          two = let e = listing-most in omega arith;
+          within = let e = listing-most in omega arith;
           terminal = a .terminal;
           copy = omega arith;
           long = omega arith;
         }
 
-    module _ {after : List ℕ} {k : ℕ} (c : CutIn w t s after k) where
+    module _ {after : List ℕ} {k : ℕ} (within : CutWithin w m t s after k) where
+      c : CutIn w t s after k
+      c = within-most (accepted-ordered w (a .accepted)) (a .terminal) (let e = listing-most in omega arith) within
+
       cut-is : cut w (markedIn (most w) s) t ≡ cut w (listed list) t
       cut-is = cut-same w (accepted-ordered w (a .accepted)) (markedIn (most w) s) (listed list) t marks-are
 

@@ -15,12 +15,13 @@ use Rattle.diagram.specs.Verdict.{most}
 use Rattle.diagram.proofs.Tests.{by-eq}
 use Rattle.room_map.specs.Map.{tablesFrom, answerFrom, tablesTo}
 use Rattle.reduction.specs.Reduce.{reduce}
-use Rattle.reduction.specs.Room.{Asked, Shelved}
+use Rattle.store.specs.Room.{storeTo, Placed as PlacedAt, Forgotten}
+use Rattle.reduction.specs.Room.{memoFrom, Asked, Placed, Shelved}
 use Rattle.approximation.specs.Constants.{falseOf, trueOf}
 use Rattle.approximation.specs.Cut.{cut, send}
 use Rattle.approximation.proofs.Send.{send-size, send-var, send-ordered, send-is-cut}
-use Rattle.approximation.proofs.Cut.{cut-root-under, cut-root-over}
-use Rattle.cuts.specs.Marks.{markedIn, constantAt, Sent, Building, Built, Cutting, CutIn}
+use Rattle.approximation.proofs.Cut.{cut-root-under, cut-root-over, cut-most}
+use Rattle.cuts.specs.Marks.{markedIn, constantAt, Sent, Building, Built, Cutting, CutIn, CutWithin}
 
 -- ---- building on a shelf
 
@@ -29,25 +30,43 @@ zeros-at zero s j h = absurd (omega arith)
 zeros-at (suc k) s zero h = refl
 zeros-at (suc k) s (suc j) h = zeros-at k s j (omega arith)
 
-module _ {w shelf : List ℕ} {n v : ℕ} (b : Building w shelf n v) where
-  pub shelf-asked : (used : ℕ) → used ≡ length shelf → {after : List ℕ} → after ≡ replicate (min used (length shelf)) 0 ++ drop used shelf
-      → Asked w after n v
-  shelf-asked used e {after} f =
-      let all : min used (length shelf) ≡ 6 * most w = let l = b .long in omega arith in
-      let is : after ≡ replicate (6 * most w) 0 ++ drop used shelf = f ∙ ap (λ (k : ℕ). replicate k 0 ++ drop used shelf) all in
-      let rest = length-drop used shelf in
-      let zeros = length-replicate {A = ℕ} (6 * most w) 0 in
-      let whole = length-append (replicate (6 * most w) 0) (drop used shelf) in
-      rw is (record {
+module _ {w shelf : List ℕ} {c n v : ℕ} (b : Building w shelf c n v) {m : ℕ} (is-m : m ≡ max n 2) where
+  shelf-most : m ≡ most w
+  shelf-most = is-m ∙ ap (λ (k : ℕ). max k 2) (b .is-size)
+
+  pub shelf-placed : {cleared : List ℕ} → length cleared ≡ length shelf → PlacedAt m c cleared
+  shelf-placed same =
+      let is-most = shelf-most in
+      let few = b .ordered .formed .few in
+      let within = b .within in
+      let long = b .long in
+      record { near = omega arith; few = omega arith; long = omega arith }
+
+  -- memo and keys are cleared
+  pub shelf-asked : {cleared : List ℕ} → cleared ≡ replicate (min m (length shelf)) 0 ++ drop m shelf → {after : List ℕ} → length after ≡ length shelf
+      → Forgotten m c cleared after → Asked w after c n v
+  shelf-asked {cleared} e {after} same forgotten =
+      let is-most = shelf-most in
+      let few = b .ordered .formed .few in
+      let within = b .within in
+      let long = b .long in
+      let all : min m (length shelf) ≡ m = omega arith in
+      let is : cleared ≡ replicate m 0 ++ drop m shelf = e ∙ ap (λ (k : ℕ). replicate k 0 ++ drop m shelf) all in
+      record {
         ordered = b .ordered;
         is-size = b .is-size;
         is-vars = b .is-vars;
+        two = b .two;
+        few = omega arith;
         long = omega arith;
-        zero = λ j h. zeros-at (6 * most w) (drop used shelf) j h;
-      })
+        memo = λ p h.
+            forgotten .beyond (memoFrom + p) (λ i in-i e. omega arith) ∙ ap (λ (l : List ℕ). getD l (memoFrom + p) 0) is
+            ∙ zeros-at m (drop m shelf) (memoFrom + p) (omega arith);
+        heads = rw (sym is-most) (forgotten .heads);
+      }
 
-pub shelf-built : {w shelf cleared after : List ℕ} {k : ℕ} → Shelved w cleared after k → length after ≡ length shelf → Built w shelf after k
-shelf-built s same = record { count = s .count; words = s .words; fits = s .fits; kept = same; store = s .store }
+pub shelf-built : {w shelf cleared after : List ℕ} {c k : ℕ} → Shelved w cleared after c k → length after ≡ length shelf → Built w shelf after c k
+shelf-built s same = record { count = s .count; placed = s .placed; kept = same }
 
 -- ---- a marked root
 
@@ -165,7 +184,16 @@ module _ (r : List ℕ) (at v : ℕ) where
   unfolding constantAt
   constant-true t ne = rw (ne-eqb t 0 ne) refl
 
-module _ {w sent r : List ℕ} {t n v : ℕ} (a : Cutting w sent r t n v) {m : ℕ} (is-m : m ≡ max n 2) where
+-- A cut that stands in the room is one within the limit.
+in-within : {w : List ℕ} {c t : ℕ} {r after : List ℕ} {k : ℕ} → k ≤ c → CutIn w t r after k → CutWithin w c t r after k
+in-within h x = record { count = let e = x .count in omega arith; cut-in = λ l. x; kept = x .kept; before = x .before; beyond = x .beyond }
+
+-- Where there are as many places as the array has nodes, no cut has more.
+pub within-most : {w : List ℕ} → Ordered w → {c t : ℕ} → t < 2 → most w ≤ c → {r after : List ℕ} {k : ℕ} → CutWithin w c t r after k → CutIn w t r after k
+within-most {w} o {c} {t} terminal wide {r} x =
+    x .cut-in (let e = x .count in let least = cut-most w o (markedIn (most w) r) t terminal in omega arith)
+
+module _ {w sent r : List ℕ} {c t n v : ℕ} (a : Cutting w sent r c t n v) {m : ℕ} (is-m : m ≡ max n 2) where
   pub cutting-most : m ≡ most w
   cutting-most = is-m ∙ ap (λ (k : ℕ). max k 2) (a .is-size)
 
@@ -214,14 +242,14 @@ module _ {w sent r : List ℕ} {t n v : ℕ} (a : Cutting w sent r t n v) {m : �
             beyond = all-beyond r (answerFrom m) v (tablesTo (most w)) (omega arith);
           }
 
-      pub cut-rooted : {after : List ℕ} {k : ℕ} → (after ≡ constantAt r (answerFrom m) t v) × (k ≡ cond (eqb t 0) 1 2) → CutIn w t r after k
+      pub cut-rooted : {after : List ℕ} {k : ℕ} → (after ≡ constantAt r (answerFrom m) t v) × (k ≡ cond (eqb t 0) 1 2) → CutWithin w c t r after k
       cut-rooted {after} {k} (e, f) = by-eq t 0
           (λ z.
           let k-is : k ≡ 1 = f ∙ (rw (eq-eqb t 0 z) refl) in
-          rw (e ∙ constant-false r (answerFrom m) v t z, k-is) (rooted-false z))
+          rw (e ∙ constant-false r (answerFrom m) v t z, k-is) (in-within (let two = a .two in omega arith) (rooted-false z)))
           (λ z.
           let k-is : k ≡ 2 = f ∙ (rw (ne-eqb t 0 z) refl) in
-          rw (e ∙ constant-true r (answerFrom m) v t z, k-is) (rooted-true z))
+          rw (e ∙ constant-true r (answerFrom m) v t z, k-is) (in-within (a .two) (rooted-true z)))
 
     -- ---- a root that isn't marked
     module _ (no-case : x ≡ false) {copy : List ℕ} (s : Sent w (markedIn m r) t sent copy) where
@@ -243,11 +271,13 @@ module _ {w sent r : List ℕ} {t n v : ℕ} (a : Cutting w sent r t n v) {m : �
       sent-is-ordered : Ordered (take (3 * n) copy)
       sent-is-ordered = rw sent-words (send-ordered w (a .ordered) (markedIn m r) t (a .terminal))
 
-      pub sent-building : Building (take (3 * n) copy) (midOf (tablesFrom m) (tablesTo m - tablesFrom m) r) n v
+      pub sent-building : Building (take (3 * n) copy) (midOf (tablesFrom m) (tablesTo m - tablesFrom m) r) c n v
       sent-building = record {
         ordered = sent-is-ordered;
         is-size = a .is-size ∙ sym sent-size;
         is-vars = a .is-vars ∙ sym sent-vars;
+        two = a .two;
+        within = let e = sent-most in let within = a .within in omega arith;
         long =
             let e = sent-most in
             let f = cutting-most in
@@ -261,39 +291,62 @@ module _ {w sent r : List ℕ} {t n v : ℕ} (a : Cutting w sent r t n v) {m : �
           ap reduce sent-words ∙ send-is-cut w (a .ordered) (markedIn m r) t (a .terminal) (ap (λ (k : ℕ). markedIn k r (root w)) cutting-most ∙ root-is false no-case)
           ∙ ap (λ (k : ℕ). cut w (markedIn k r) t) cutting-most
 
-      module _ {shelf : List ℕ} {k : ℕ} (b : Built (take (3 * n) copy) (midOf (tablesFrom m) (tablesTo m - tablesFrom m) r) shelf k) where
-        shelf-long : length shelf ≡ 6 * m
+      module _ {shelf : List ℕ} {k : ℕ} (b : Built (take (3 * n) copy) (midOf (tablesFrom m) (tablesTo m - tablesFrom m) r) shelf c k) where
+        abbrev after : List ℕ
+        after = putMid (tablesFrom m) (tablesTo m - tablesFrom m) r shelf
+
+        shelf-long : length shelf ≡ storeTo m m
         shelf-long = let e = b .kept in let f = sent-building .long in let g = sent-most in let h = cutting-most in omega arith
 
-        shelf-store : take (3 * k) (drop (answerFrom m) (putMid (tablesFrom m) (tablesTo m - tablesFrom m) r shelf)) ≡ cut w (markedIn (most w) r) t
-        shelf-store =
-            let long = a .long in
-            let is-most = cutting-most in
-            let l = shelf-long in
-            let fits = b .fits in
-            let same = sent-most in
-            let front : length (take (tablesFrom m) r) ≡ tablesFrom m = length-take-le (tablesFrom m) r (omega arith) in
-            let place : answerFrom m ≡ length (take (tablesFrom m) r) + m = omega arith in
-            let rest = length-drop m shelf in
-            ap (λ (i : ℕ). take (3 * k) (drop i (putMid (tablesFrom m) (tablesTo m - tablesFrom m) r shelf))) place
-            ∙ ap (λ (s : List ℕ). take (3 * k) s) (drop-append-add (take (tablesFrom m) r) (shelf ++ postOf (tablesFrom m) (tablesTo m - tablesFrom m) r) m
-            ∙ drop-append-le m shelf (postOf (tablesFrom m) (tablesTo m - tablesFrom m) r) (omega arith))
-            ∙ take-append-le (3 * k) (drop m shelf) (postOf (tablesFrom m) (tablesTo m - tablesFrom m) r) (omega arith)
-            ∙ ap (λ (i : ℕ). take (3 * k) (drop i shelf)) (is-most ∙ sym same)
-            ∙ b .store ∙ sent-cut
+        after-kept : length after ≡ length r
+        after-kept = same-len-mid (tablesFrom m) (tablesTo m - tablesFrom m) r shelf (b .kept)
 
-        pub cut-built : CutIn w t r (putMid (tablesFrom m) (tablesTo m - tablesFrom m) r shelf) k
-        cut-built =
+        after-before : take (tablesFrom (most w)) after ≡ take (tablesFrom (most w)) r
+        after-before =
             let long = a .long in
             let is-most = cutting-most in
-            record {
-              count = b .count ∙ ap (λ (l : List ℕ). size l) sent-cut;
-              words = ap (λ (l : List ℕ). length l) (sym sent-cut) ∙ b .words;
-              fits = let same = sent-most in let fits = b .fits in omega arith;
-              kept = same-len-mid (tablesFrom m) (tablesTo m - tablesFrom m) r shelf (b .kept);
-              made = ap (λ (i : ℕ). take (3 * k) (drop (answerFrom i) (putMid (tablesFrom m) (tablesTo m - tablesFrom m) r shelf))) (sym is-most) ∙ shelf-store;
-              before = ap (λ (i : ℕ). take (tablesFrom i) (putMid (tablesFrom m) (tablesTo m - tablesFrom m) r shelf)) (sym is-most)
-                  ∙ take-put (tablesFrom m) (tablesTo m - tablesFrom m) r shelf (omega arith) ∙ ap (λ (i : ℕ). take (tablesFrom i) r) is-most;
-              beyond = ap (λ (i : ℕ). drop (tablesTo i) (putMid (tablesFrom m) (tablesTo m - tablesFrom m) r shelf)) (sym is-most)
-                  ∙ drop-put (tablesFrom m) (tablesTo m) r shelf (omega arith) (omega arith) (let l = shelf-long in omega arith) ∙ ap (λ (i : ℕ). drop (tablesTo i) r) is-most;
-            }
+            ap (λ (i : ℕ). take (tablesFrom i) after) (sym is-most)
+            ∙ take-put (tablesFrom m) (tablesTo m - tablesFrom m) r shelf (omega arith) ∙ ap (λ (i : ℕ). take (tablesFrom i) r) is-most
+
+        after-beyond : drop (tablesTo (most w)) after ≡ drop (tablesTo (most w)) r
+        after-beyond =
+            let long = a .long in
+            let is-most = cutting-most in
+            ap (λ (i : ℕ). drop (tablesTo i) after) (sym is-most)
+            ∙ drop-put (tablesFrom m) (tablesTo m) r shelf (omega arith) (omega arith) (let l = shelf-long in omega arith) ∙ ap (λ (i : ℕ). drop (tablesTo i) r) is-most
+
+        nodes-are : k ≡ min (size (cut w (markedIn (most w) r) t)) (suc c)
+        nodes-are = b .count ∙ ap (λ (l : List ℕ). min (size l) (suc c)) sent-cut
+
+        -- not more nodes than places
+        module _ (few : k ≤ c) where
+          shelf-store : take (3 * k) (drop (answerFrom m) after) ≡ cut w (markedIn (most w) r) t
+          shelf-store =
+              let long = a .long in
+              let is-most = cutting-most in
+              let l = shelf-long in
+              let fits = b .placed few .fits in
+              let same = sent-most in
+              let front : length (take (tablesFrom m) r) ≡ tablesFrom m = length-take-le (tablesFrom m) r (omega arith) in
+              let place : answerFrom m ≡ length (take (tablesFrom m) r) + m = omega arith in
+              let rest = length-drop m shelf in
+              ap (λ (i : ℕ). take (3 * k) (drop i after)) place
+              ∙ ap (λ (s : List ℕ). take (3 * k) s) (drop-append-add (take (tablesFrom m) r) (shelf ++ postOf (tablesFrom m) (tablesTo m - tablesFrom m) r) m
+              ∙ drop-append-le m shelf (postOf (tablesFrom m) (tablesTo m - tablesFrom m) r) (omega arith))
+              ∙ take-append-le (3 * k) (drop m shelf) (postOf (tablesFrom m) (tablesTo m - tablesFrom m) r) (omega arith)
+              ∙ ap (λ (i : ℕ). take (3 * k) (drop i shelf)) (is-most ∙ sym same)
+              ∙ b .placed few .store ∙ sent-cut
+
+          shelf-in : CutIn w t r after k
+          shelf-in = record {
+            count = let e = nodes-are in omega arith;
+            words = ap (λ (l : List ℕ). length l) (sym sent-cut) ∙ b .placed few .words;
+            fits = let same = sent-most in let fits = b .placed few .fits in omega arith;
+            kept = after-kept;
+            made = ap (λ (i : ℕ). take (3 * k) (drop (answerFrom i) after)) (sym cutting-most) ∙ shelf-store;
+            before = after-before;
+            beyond = after-beyond;
+          }
+
+        pub cut-built : CutWithin w c t r after k
+        cut-built = record { count = nodes-are; cut-in = shelf-in; kept = after-kept; before = after-before; beyond = after-beyond }

@@ -1,6 +1,6 @@
 -- Marks and cuts in the working room, which stand where crates/room_map says, and what the inner functions ask and promise. No
 -- promise to a caller rests on this file. Everywhere m is the larger of the diagram's number of nodes and 2.
-use Prim.Native.Nat.{ℕ, _+_, _*_, _≤_, _<_, max}
+use Prim.Native.Nat.{ℕ, suc, _+_, _*_, _≤_, _<_, min, max}
 use mathlib.Core.Path.{_≡_}
 use mathlib.Core.Bool.{Bool, cond, not, _||_}
 use mathlib.Core.List.{List, _++_}
@@ -10,7 +10,9 @@ use Rattle.diagram.specs.Limits.{maxNodes}
 use Rattle.diagram.specs.Diagram.{size, vars, Formed, Ordered, Accepted}
 use Rattle.diagram.specs.Verdict.{most, roomOf}
 use Rattle.room_map.specs.Map.{marksTo, tablesFrom, answerFrom, tablesTo}
+use Rattle.store.specs.Room.{storeTo}
 use Rattle.reduction.specs.Reduce.{reduce}
+use Rattle.reduction.specs.Room.{Placed}
 use Rattle.approximation.specs.Cut.{cut, send, listed}
 
 -- ---- marks
@@ -57,24 +59,27 @@ constantAt r at t v =
     let none = set (set (set r at v) (at + 1) 0) (at + 2) 0 in
     cond (eqb t 0) none (set (set (set none (at + 3) v) (at + 4) 1) (at + 5) 1)
 
-pub record Building (w shelf : List ℕ) (n v : ℕ) : Type 0 where
+-- A shelf for the tables of a store that has as many places as the array has nodes, of which c are used.
+pub record Building (w shelf : List ℕ) (c n v : ℕ) : Type 0 where
   pub ordered : Ordered w
   pub is-size : n ≡ size w
   pub is-vars : v ≡ vars w
-  pub long : length shelf ≡ 6 * most w
+  pub two : 2 ≤ c
+  pub within : c ≤ most w
+  pub long : length shelf ≡ storeTo (most w) (most w)
 
--- The reduced words stand behind the first m words.
-pub record Built (w shelf after : List ℕ) (k : ℕ) : Type 0 where
-  pub count : k ≡ size (reduce w)
-  pub words : length (reduce w) ≡ 3 * k
-  pub fits : k ≤ most w
+-- The reduced words stand behind the first m words, unless there are more nodes than places.
+pub record Built (w shelf after : List ℕ) (c k : ℕ) : Type 0 where
+  pub count : k ≡ min (size (reduce w)) (suc c)
+  pub placed : k ≤ c → Placed w after k
   pub kept : length after ≡ length shelf
-  pub store : take (3 * k) (drop (most w) after) ≡ reduce w
 
-pub record Cutting (w sent r : List ℕ) (t n v : ℕ) : Type 0 where
+pub record Cutting (w sent r : List ℕ) (c t n v : ℕ) : Type 0 where
   pub ordered : Ordered w
   pub is-size : n ≡ size w
   pub is-vars : v ≡ vars w
+  pub two : 2 ≤ c
+  pub within : c ≤ most w
   pub terminal : t < 2
   pub copy : length w ≤ length sent
   pub long : tablesTo (most w) ≤ length r
@@ -86,6 +91,14 @@ pub record CutIn (w : List ℕ) (t : ℕ) (r after : List ℕ) (k : ℕ) : Type 
   pub fits : k ≤ most w
   pub kept : length after ≡ length r
   pub made : take (3 * k) (drop (answerFrom (most w)) after) ≡ cut w (markedIn (most w) r) t
+  pub before : take (tablesFrom (most w)) after ≡ take (tablesFrom (most w)) r
+  pub beyond : drop (tablesTo (most w)) after ≡ drop (tablesTo (most w)) r
+
+-- The cut by the marks, if it has at most c nodes; else only that it has more is known, and k is one more than c.
+pub record CutWithin (w : List ℕ) (c t : ℕ) (r after : List ℕ) (k : ℕ) : Type 0 where
+  pub count : k ≡ min (size (cut w (markedIn (most w) r) t)) (suc c)
+  pub cut-in : k ≤ c → CutIn w t r after k
+  pub kept : length after ≡ length r
   pub before : take (tablesFrom (most w)) after ≡ take (tablesFrom (most w)) r
   pub beyond : drop (tablesTo (most w)) after ≡ drop (tablesTo (most w)) r
 

@@ -9,13 +9,14 @@ use reduction::answer::make;
 use room_map::ANSWER;
 use room_map::TABLES;
 use room_map::TABLES_END;
+use store::shelf::forget;
 ghost use mathlib.Core.Path.{_≡_};
 ghost use mathlib.Core.Bool.{cond};
 ghost use lib.Dec.{eqb};
 ghost use Prim.Native.Nat.{_+_, _*_, _≤_};
 ghost use lib.ListN.{length};
 ghost use Rattle.diagram.specs.Limits.{maxNodes};
-ghost use Rattle.cuts.specs.Marks.{Built, Building, Cutting, CutIn, constantAt};
+ghost use Rattle.cuts.specs.Marks.{Built, Building, Cutting, CutWithin, constantAt};
 
 // As many words as a diagram may have: the copy with sent links is as long as the diagram.
 pub const SENT: usize = 12288;
@@ -38,26 +39,28 @@ pub fn constant(room: &mut [u32], at: usize, target: BddPointer, vars: u32) -> u
 }
 
 // Builds the reduced words of the copy on a shelf, whatever stood there before.
-fn build(sent: &[u32], shelf: &mut [u32], nodes: usize, vars: u32) -> usize
-    requires { ⌜ Building (now sent) (now shelf) nodes vars ⌝ }
-    ensures { λ r. ⌜ Built (now (sent .entry)) (now (shelf .entry)) (now (shelf .exit)) r ⌝ }
+fn build(sent: &[u32], shelf: &mut [u32], limit: usize, nodes: usize, vars: u32) -> usize
+    requires { ⌜ Building (now sent) (now shelf) limit nodes vars ⌝ }
+    ensures { λ r. ⌜ Built (now (sent .entry)) (now (shelf .entry)) (now (shelf .exit)) limit r ⌝ }
 {
-    let used = shelf.len();
-    clear(shelf, used);
-    make(sent, shelf, nodes, vars)
+    let base = most(nodes);
+    clear(shelf, base);
+    forget(shelf, base, limit);
+    make(sent, shelf, limit, nodes, vars)
 }
 
-// The cut by the marks, and its number of nodes.
+// The cut by the marks with at most `limit` nodes, and its number of nodes: one more than the limit where it has more.
 pub fn cut(
     words: &[u32],
     sent: &mut [u32],
     room: &mut [u32],
+    limit: usize,
     target: BddPointer,
     nodes: usize,
     vars: u32,
 ) -> usize
-    requires { ⌜ Cutting (now words) (now sent) (now room) (target .0) nodes vars ⌝ }
-    ensures { λ r. ⌜ CutIn (now (words .entry)) (target .0) (now (room .entry)) (now (room .exit)) r ⌝ }
+    requires { ⌜ Cutting (now words) (now sent) (now room) limit (target .0) nodes vars ⌝ }
+    ensures { λ r. ⌜ CutWithin (now (words .entry)) limit (target .0) (now (room .entry)) (now (room .exit)) r ⌝ }
 {
     let most = most(nodes);
     if is_marked(room, most, BddPointer((nodes - 1) as u32)) {
@@ -67,6 +70,7 @@ pub fn cut(
     build(
         &sent[..3 * nodes],
         &mut room[TABLES * most..TABLES_END * most],
+        limit,
         nodes,
         vars,
     )

@@ -43,7 +43,7 @@ fn approximate(
     let most = most(nodes);
     let mut sent = [0u32; SENT];
     mark_all(list, room, most);
-    let count = cut(words, &mut sent, room, target, nodes, vars);
+    let count = cut(words, &mut sent, room, most, target, nodes, vars);
     copy(room, ANSWER * most, output, 3 * count);
     clear(room, TABLES_END * most);
     count

@@ -1,66 +1,29 @@
 -- The reduced diagram from a room that is zero: how the walk starts, and what is left in output and room.
 use Prim.Native.Nat.{ℕ, zero, suc, _+_, _-_, _*_, _≤_, _<_, min, max}
-use mathlib.Core.Path.{_≡_, refl, sym, ap, _∙_}
-use mathlib.Core.Logic.{_≢_}
+use mathlib.Core.Path.{_≡_, refl, sym, ap, _∙_, subst}
+use mathlib.Core.Bool.{Bool, true, false}
 use mathlib.Core.List.{List, _++_}
 use native.Mathlib.Omega.{arith}
-use native.Mathlib.Decide.{decLt}
-use lib.ListN.{length, getD, set, take, drop, replicate, length-set, length-append, length-drop, length-replicate, take-append-drop, List·getD-append}
+use lib.ListN.{length, getD, set, take, drop, replicate, length-append, length-drop, length-replicate, take-append-drop, List·getD-append}
 use lib.Seq.{getD-set-same, getD-set-other, getD-take, getD-drop, getD-append-add, ext-getD, length-take-le}
 use Rattle.diagram.specs.Limits.{maxNodes}
-use Rattle.diagram.specs.Diagram.{size, vars, root}
+use Rattle.diagram.specs.Diagram.{size, vars, root, holds}
+use Rattle.diagram.specs.Verdict.{most as most-of}
 use Rattle.diagram.proofs.Reading.{layered, root-in}
-use Rattle.reduction.specs.Reduce.{Node, words, Built, terminals, reduce}
-use Rattle.reduction.specs.Build.{own}
-use Rattle.reduction.specs.Room.{keyOf, memoIn, wordIn, nextIn, headIn, storeIn, On, Walking, Walked, started, Copied, Asked, Shelved, Lent, Answered}
-use Rattle.reduction.proofs.Store.{length-words, size-words}
-use Rattle.reduction.proofs.Graph.{own-means, reduce-is}
+use Rattle.store.specs.Store.{Node, words, Built, terminals}
+use Rattle.store.specs.Build.{Held, own}
+use Rattle.store.specs.Room.{farthest, headsFrom, storeTo, wordIn, memoIn, storeIn, Stored, Empty, Started, On, Walking, Arrived, Walked}
+use Rattle.store.proofs.Store.{length-words, size-words}
+use Rattle.store.proofs.Sound.{sound-terminals}
+use Rattle.store.proofs.Graph.{own-means}
+use Rattle.store.proofs.Tables.{take-words, memo-start}
+use Rattle.store.proofs.Joining.{stands}
+use Rattle.reduction.specs.Reduce.{reduce}
+use Rattle.reduction.specs.Room.{memoFrom, Copied, Asked, Placed, Shelved, Lent, Answered}
+use Rattle.reduction.proofs.Reached.{canon-last}
+use Rattle.reduction.proofs.Rooted.{reduce-own, reduce-is}
 use Rattle.reduction.proofs.Fewest.{store-fits}
-use Rattle.reduction.proofs.Tables.{take-words}
-use Rattle.reduction.proofs.Bench.{bench-start}
-use Rattle.reduction.proofs.Joining.{stands}
-use Rattle.reduction.proofs.Walking.{walk-place}
-
--- ---- the terminals' words
-
-module _ (m : ℕ) (r : List ℕ) (v : ℕ) where
-  started-other : (j : ℕ) → j ≢ m → j ≢ m + 3 → j ≢ m + 4 → j ≢ m + 5 → getD (started m r v) j 0 ≡ getD r j 0
-  unfolding started
-  started-other j a b c d =
-      getD-set-other (set (set (set r m v) (m + 3) v) (m + 4) 1) (m + 5) j 1 0 d
-      ∙ getD-set-other (set (set r m v) (m + 3) v) (m + 4) j 1 0 c
-      ∙ getD-set-other (set r m v) (m + 3) j v 0 b
-      ∙ getD-set-other r m j v 0 a
-
-  started-length : length (started m r v) ≡ length r
-  unfolding started
-  started-length = simp length-set
-
-  module _ (long : m + 5 < length r) where
-    started-zero : getD (started m r v) m 0 ≡ v
-    unfolding started
-    started-zero =
-        getD-set-other (set (set (set r m v) (m + 3) v) (m + 4) 1) (m + 5) m 1 0 (λ e. omega arith)
-        ∙ getD-set-other (set (set r m v) (m + 3) v) (m + 4) m 1 0 (λ e. omega arith)
-        ∙ getD-set-other (set r m v) (m + 3) m v 0 (λ e. omega arith)
-        ∙ getD-set-same r m v 0 (omega arith)
-
-    started-three : getD (started m r v) (m + 3) 0 ≡ v
-    unfolding started
-    started-three =
-        getD-set-other (set (set (set r m v) (m + 3) v) (m + 4) 1) (m + 5) (m + 3) 1 0 (λ e. omega arith)
-        ∙ getD-set-other (set (set r m v) (m + 3) v) (m + 4) (m + 3) 1 0 (λ e. omega arith)
-        ∙ getD-set-same (set r m v) (m + 3) v 0 (simp length-set (omega arith))
-
-    started-four : getD (started m r v) (m + 4) 0 ≡ 1
-    unfolding started
-    started-four =
-        getD-set-other (set (set (set r m v) (m + 3) v) (m + 4) 1) (m + 5) (m + 4) 1 0 (λ e. omega arith)
-        ∙ getD-set-same (set (set r m v) (m + 3) v) (m + 4) 1 0 (simp length-set (omega arith))
-
-    started-five : getD (started m r v) (m + 5) 0 ≡ 1
-    unfolding started
-    started-five = getD-set-same (set (set (set r m v) (m + 3) v) (m + 4) 1) (m + 5) 1 0 (simp length-set (omega arith))
+use Rattle.reduction.proofs.Canonical.{reduce-size}
 
 -- ---- lists that begin with zeros
 
@@ -93,111 +56,152 @@ zeros-again k r s same fits none kept =
 
 -- ---- the whole
 
-module _ {w r : List ℕ} {n v : ℕ} (a : Asked w r n v) {m : ℕ} (is-m : m ≡ max n 2) where
-  most : m ≡ max (size w) 2
-  most = is-m ∙ ap (λ (k : ℕ). max k 2) (a .is-size)
+module _ {w r : List ℕ} {c n v : ℕ} (a : Asked w r c n v) {m : ℕ} (is-m : m ≡ max n 2) where
+  most-is : m ≡ most-of w
+  most-is = is-m ∙ ap (λ (k : ℕ). max k 2) (a .is-size)
 
   pub lent-few : m ≤ maxNodes
-  lent-few = let e = most in let few = a .ordered .formed .few in omega arith
+  lent-few = let e = most-is in let few = a .ordered .formed .few in omega arith
 
   pub lent-some : 0 < n
   lent-some = let e = a .is-size in let some = a .ordered .formed .some in omega arith
 
-  on-start : {s : List ℕ} → s ≡ started m r v → On w m (terminals (vars w)) s
-  on-start e =
-      let is-most = most in
-      let long = a .long in
-      let none = a .zero in
-      let var = a .is-vars in
-      rw e (record {
-        ordered = a .ordered;
-        most = most;
-        long = let l = started-length m r v in omega arith;
-        bench = bench-start w (vars w) (size w) (keyOf m) m (memoIn (started m r v)) (headIn m (started m r v)) (nextIn m (started m r v)) (wordIn m (started m r v))
-            (λ p h. started-other m r v p (λ e. omega arith) (λ e. omega arith) (λ e. omega arith) (λ e. omega arith) ∙ none p (omega arith))
-            (λ x h. started-other m r v (5 * m + x) (λ e. omega arith) (λ e. omega arith) (λ e. omega arith) (λ e. omega arith) ∙ none (5 * m + x) (omega arith))
-            (let at-m : m + 0 ≡ m = omega arith in ap (λ (j : ℕ). getD (started m r v) j 0) at-m ∙ started-zero m r v (omega arith) ∙ var)
-            (started-other m r v (m + 1) (λ e. omega arith) (λ e. omega arith) (λ e. omega arith) (λ e. omega arith) ∙ none (m + 1) (omega arith))
-            (started-other m r v (m + 2) (λ e. omega arith) (λ e. omega arith) (λ e. omega arith) (λ e. omega arith) ∙ none (m + 2) (omega arith))
-            (started-three m r v (omega arith) ∙ var)
-            (started-four m r v (omega arith))
-            (started-five m r v (omega arith));
-      })
+  pub make-empty : Empty m c r
+  make-empty =
+      let few = lent-few in
+      rw most-is (record { placed = record { near = rw most-is at (lent-near few); few = a .few; long = a .long }; two = a .two; heads = a .heads })
+    where
+      lent-near : m ≤ maxNodes → m ≤ farthest
+      lent-near few = omega arith
 
-  module _ {s : List ℕ} (is-s : s ≡ started m r v) where
+  module _ {s : List ℕ} (started : Started m c v r s) (same-s : length s ≡ length r) where
+    on-start : On w memoFrom m c (terminals (vars w)) s
+    on-start =
+        let is-most = most-is in
+        let long = a .long in
+        record {
+          ordered = a .ordered;
+          sound = sound-terminals (vars w);
+          stored = subst (λ (x : ℕ). Stored m c (terminals x) s) (a .is-vars) (started .stored);
+          near = omega arith;
+          inside = omega arith;
+          apart = λ p h i in-i e. omega arith;
+          noted = memo-start w (vars w) (size w) (terminals (vars w)) (memoIn memoFrom s)
+              (λ p h. started .beyond (memoFrom + p) (λ i in-i e. omega arith) ∙ a .memo p h);
+        }
+
     first-store : storeIn m s 2 ≡ terminals (vars w)
-    first-store = stands w m (terminals (vars w)) s (on-start is-s) 2 refl
+    first-store = stands m c (terminals (vars w)) s (on-start .stored) 2 refl
 
-    pub walk-start : {p : ℕ} → p ≡ n - 1 → Walking w m s 2 p
+    pub walk-start : {p : ℕ} → p ≡ n - 1 → Walking w memoFrom m c s 2 p
     walk-start {p} e =
         let at-root : p ≡ root w = e ∙ ap (λ (k : ℕ). k - 1) (a .is-size) in
-        rw at-root (record {
-          on = rw first-store (on-start is-s);
-          node = root-in w (a .ordered);
-          fits = rw first-store (let fits = store-fits w (a .ordered) in let e = most in omega arith);
-        })
+        rw at-root (record { on = rw first-store on-start; node = root-in w (a .ordered) })
 
-    module _ {p : ℕ} (is-p : p ≡ n - 1) {t : List ℕ} {x k : ℕ} (walked : Walked w m s 2 p t x k) where
-      made : own w (vars w) p (storeIn m s 2) ≡ own w (vars w) (root w) (terminals (vars w))
+    -- what is built
+    whole : Built
+    whole = own w (vars w) (root w) (terminals (vars w))
+
+    pointer-in : whole .pointer < length (whole .store)
+    unfolding whole
+    pointer-in = own-means w (vars w) (size w) (layered w (a .ordered)) (root w) (root-in w (a .ordered)) (terminals (vars w)) (sound-terminals (vars w)) .place
+
+    result : words (take (suc (whole .pointer)) (whole .store)) ≡ reduce w
+    unfolding whole
+    result = sym (reduce-is w (a .ordered))
+
+    taken : length (take (suc (whole .pointer)) (whole .store)) ≡ suc (whole .pointer)
+    taken = length-take-le (suc (whole .pointer)) (whole .store) pointer-in
+
+    result-nodes : size (reduce w) ≡ suc (whole .pointer)
+    result-nodes = ap (λ (l : List ℕ). size l) (sym result) ∙ size-words (take (suc (whole .pointer)) (whole .store)) ∙ taken
+
+    result-length : length (reduce w) ≡ 3 * suc (whole .pointer)
+    result-length = ap length (sym result) ∙ length-words (take (suc (whole .pointer)) (whole .store)) ∙ ap (λ (k : ℕ). 3 * k) taken
+
+    -- The root is the last node, unless there are only the terminals.
+    pointer-last : 2 < length (whole .store) → suc (whole .pointer) ≡ length (whole .store)
+    unfolding whole
+    pointer-last = rw (reduce-own w (a .ordered)) at (canon-last (vars w) (vars w) 0 (holds w) (terminals (vars w)) (sound-terminals (vars w)) (omega arith))
+
+    whole-fits : length (whole .store) ≤ most-of w
+    unfolding whole
+    whole-fits = store-fits w (a .ordered)
+
+    module _ {p : ℕ} (is-p : p ≡ n - 1) {t : List ℕ} {x k : ℕ} {full : Bool} (walked : Walked w memoFrom m c s 2 p t x k full) where
+      made : own w (vars w) p (storeIn m s 2) ≡ whole
+      unfolding whole
       made =
           let at-root : p ≡ root w = is-p ∙ ap (λ (k : ℕ). k - 1) (a .is-size) in
           rw (at-root, first-store) refl
 
-      pub answer-small : x < m
-      answer-small = let place = walk-place (walk-start is-p) in let e = walked .is-pointer in omega arith
+      told-full : full ≡ ltb c (length (whole .store))
+      told-full = walked .is-full ∙ ap (λ (b : Built). ltb c (length (b .store))) made
 
-      -- c nodes stand in the room.
-      module _ {c : ℕ} (is-c : c ≡ x + 1) where
-        store : List Node
-        store = own w (vars w) p (storeIn m s 2) .store
+      module _ (same : length t ≡ length r) where
+        kept-beyond : (j : ℕ) → storeTo (most-of w) c ≤ j → getD t j 0 ≡ getD r j 0
+        kept-beyond j far =
+            let is-most = most-is in
+            walked .beyond j (λ i h e. omega arith) (λ i h e. omega arith) ∙ started .beyond j (λ i h e. omega arith)
 
-        in-store : c ≤ length store
-        unfolding store
-        in-store =
-            let inside = own-means w (vars w) (size w) (layered w (a .ordered)) p (walk-start is-p .node) (storeIn m s 2) (walk-start is-p .on .bench .sound) .place in
-            let e = walked .is-pointer in
-            omega arith
+        pub make-full : full ≡ true → Shelved w r t c (c + 1)
+        make-full e =
+            let over = ltb-true c (length (whole .store)) (sym told-full ∙ e) in
+            let two = a .two in
+            let last = pointer-last (omega arith) in
+            let nodes = result-nodes in
+            record { count = omega arith; placed = λ h. absurd (omega arith); kept = same; beyond = kept-beyond }
 
-        result : words (take c store) ≡ reduce w
-        unfolding store
-        result =
-            let pointer : c ≡ suc (own w (vars w) p (storeIn m s 2) .pointer) = let e = walked .is-pointer in omega arith in
-            ap (λ (k : ℕ). words (take k (own w (vars w) p (storeIn m s 2) .store))) pointer
-            ∙ ap (λ (b : Built). words (take (suc (b .pointer)) (b .store))) made
-            ∙ sym (reduce-is w (a .ordered))
+        module _ (no-full : full ≡ false) where
+          arrived : Arrived w memoFrom m c s 2 p t x k
+          arrived = walked .arrived no-full
 
-        result-nodes : size (reduce w) ≡ c
-        result-nodes = ap (λ (l : List ℕ). size l) (sym result) ∙ size-words (take c store) ∙ length-take-le c store in-store
+          is-pointer : x ≡ whole .pointer
+          is-pointer = arrived .is-pointer ∙ ap (λ (b : Built). b .pointer) made
 
-        result-length : length (reduce w) ≡ 3 * c
-        result-length = ap length (sym result) ∙ length-words (take c store) ∙ ap (λ (k : ℕ). 3 * k) (length-take-le c store in-store)
+          pub answer-small : x < maxNodes
+          answer-small =
+              let e = is-pointer in
+              let inside = pointer-in in
+              let fits = ltb-false c (length (whole .store)) (sym told-full ∙ no-full) in
+              let few = a .few in
+              omega arith
 
-        module _ (same : length t ≡ length r) where
-          stored : take (3 * c) (drop m t) ≡ reduce w
-          unfolding store
+          stored : take (3 * suc (whole .pointer)) (drop (most-of w) t) ≡ reduce w
           stored =
-              let small = answer-small in
-              let is-most = most in
+              let held = arrived .on .stored .held in
+              let inside = pointer-in in
+              let fits = ltb-false c (length (whole .store)) (sym told-full ∙ no-full) in
               let long = a .long in
-              let rest = length-drop m t in
-              take-words (own w (vars w) p (storeIn m s 2) .store) (wordIn m t) (walked .on .bench .held) (drop m t) c in-store (omega arith)
-              (λ j h. getD-drop m t j 0)
+              let rest = length-drop (most-of w) t in
+              take-words (whole .store) (wordIn m t) (subst (λ (b : Built). Held (b .store) (wordIn m t)) made held) (drop (most-of w) t) (suc (whole .pointer)) inside (omega arith)
+              (λ j h. getD-drop (most-of w) t j 0 ∙ ap (λ (i : ℕ). getD t (i + j) 0) (sym most-is))
               ∙ result
 
-          pub make-ends : Shelved w r t c
-          make-ends =
-              let small = answer-small in
-              let is-most = most in
-              record {
-                count = sym result-nodes;
-                words = result-length;
-                fits = omega arith;
+          pub make-ends : {y : ℕ} → y ≡ x + 1 → Shelved w r t c y
+          make-ends {y} e =
+              let is = is-pointer in
+              let is-y : y ≡ suc (whole .pointer) = omega arith in
+              let nodes = result-nodes in
+              let inside = pointer-in in
+              let fits = ltb-false c (length (whole .store)) (sym told-full ∙ no-full) in
+              let least = whole-fits in
+              rw is-y (record {
+                count = omega arith;
+                placed = λ h. record { words = result-length; fits = omega arith; store = stored };
                 kept = same;
-                store = ap (λ (k : ℕ). take (3 * c) (drop k t)) (sym most) ∙ stored;
-                beyond = λ j far.
-                    walked .beyond j (omega arith) ∙ ap (λ (l : List ℕ). getD l j 0) is-s
-                    ∙ started-other m r v j (λ z. omega arith) (λ z. omega arith) (λ z. omega arith) (λ z. omega arith);
-              }
+                beyond = kept-beyond;
+              })
+
+-- ---- copying
+
+-- One word more has been copied.
+pub copy-more : (r out : List ℕ) (from i x : ℕ) → x ≡ getD r (from + i) 0 → i < length out → ((j : ℕ) → j < i → getD out j 0 ≡ getD r (from + j) 0)
+    → (j : ℕ) → j < i + 1 → getD (set out i x) j 0 ≡ getD r (from + j) 0
+copy-more r out from i x e inside below j h = elim (ℕ-discrete j i) [
+  | yes same ↦ rw same (getD-set-same out i x 0 inside ∙ e)
+  | no other ↦ getD-set-other out i j x 0 other ∙ below j (omega arith)
+]
 
 -- Words that were copied, as lists.
 pub copied-front : {r before after : List ℕ} {from k : ℕ} → Copied r from before after k → k ≤ length after → from + k ≤ length r
@@ -210,29 +214,40 @@ copied-front {r} {before} {after} {from} {k} c fits room =
     let inside : j < k = rw (length-take-le k after fits) at h in
     rw (getD-take k after j 0 inside, getD-take k (drop from r) j 0 inside, getD-drop from r j 0) (c .first j inside))
 
--- The made words are copied, and the tables cleared.
-module _ {w r out : List ℕ} {n v : ℕ} (lent : Lent w r out n v) {m : ℕ} (is-m : m ≡ max n 2) {t : List ℕ} {c : ℕ} (made : Shelved w r t c) where
-  pub answer-fits : 3 * c ≤ length out
-  answer-fits = let fits = made .fits in let room = lent .output in omega arith
+-- The made words are copied, and the tables cleared. There are as many places as the array has nodes, so none is missing.
+module _ {w r out : List ℕ} {n v : ℕ} (lent : Lent w r out n v) {m : ℕ} (is-m : m ≡ max n 2) where
+  pub lent-most : m ≡ most-of w
+  lent-most = most-is (lent .asked) is-m
 
-  pub answer-few : c ≤ maxNodes
-  answer-few = let fits = made .fits in let e = most (lent .asked) is-m in let few = lent-few (lent .asked) is-m in omega arith
+  pub lent-asked : Asked w r m n v
+  lent-asked = rw lent-most (lent .asked)
 
-  module _ {out′ : List ℕ} (kept : length out′ ≡ length out) (copied : Copied t (max (size w) 2) out out′ (3 * c)) where
-    front : take (3 * c) out′ ≡ reduce w
-    front =
-        let fits = answer-fits in
-        let few = made .fits in
-        let long = lent .asked .long in
-        let same = made .kept in
-        copied-front copied (omega arith) (omega arith) ∙ made .store
+  module _ {t : List ℕ} {c : ℕ} (made : Shelved w r t m c) where
+    never-full : c ≤ m
+    never-full = let e = made .count in let least = reduce-size w (lent .asked .ordered) in let is-most = lent-most in omega arith
 
-    pub answer-ends : {u : List ℕ} → u ≡ replicate (min (6 * m) (length t)) 0 ++ drop (6 * m) t → Answered w r out u out′ c
-    answer-ends e =
-        let is-most = most (lent .asked) is-m in
-        let long = lent .asked .long in
-        record {
-          count = made .count;
-          room = e ∙ zeros-again (6 * m) r t (made .kept) (omega arith) (λ j h. lent .asked .zero j (omega arith)) (λ j far. made .beyond j (omega arith));
-          output = sym (take-append-drop (3 * c) out′) ∙ (rw (front, copied .rest, made .words) refl);
-        }
+    placed : Placed w t c
+    placed = made .placed never-full
+
+    pub answer-fits : 3 * c ≤ length out
+    answer-fits = let fits = placed .fits in let room = lent .output in omega arith
+
+    module _ {out′ : List ℕ} (kept : length out′ ≡ length out) (copied : Copied t (max (size w) 2) out out′ (3 * c)) where
+      front : take (3 * c) out′ ≡ reduce w
+      front =
+          let fits = answer-fits in
+          let few = placed .fits in
+          let long = lent .asked .long in
+          let same = made .kept in
+          copied-front copied (omega arith) (omega arith) ∙ placed .store
+
+      pub answer-ends : {u : List ℕ} → u ≡ replicate (min (storeTo m m) (length t)) 0 ++ drop (storeTo m m) t → Answered w r out u out′ c
+      answer-ends e =
+          let is-most = lent-most in
+          let long = lent .asked .long in
+          let fits = never-full in
+          record {
+            count = let e = made .count in omega arith;
+            room = e ∙ zeros-again (storeTo m m) r t (made .kept) (omega arith) (λ j h. lent .zero j (omega arith)) (λ j far. made .beyond j (omega arith));
+            output = sym (take-append-drop (3 * c) out′) ∙ (rw (front, copied .rest, placed .words) refl);
+          }

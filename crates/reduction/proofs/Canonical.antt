@@ -12,15 +12,17 @@ use Rattle.diagram.specs.Limits.{maxNodes, maxVariables}
 use Rattle.diagram.specs.Diagram.{varOf, lowOf, highOf, size, vars, root, holds, start, Terminal, Above, Formed, Ordered, Accepted}
 use Rattle.diagram.specs.Reading.{eval}
 use Rattle.diagram.proofs.Reading.{layered, by-two, eval-ends, holds-is-eval, accepted-ordered, root-in}
-use Rattle.reduction.specs.Reduce.{Node, node, words, find, Built, canon, terminals, reduced, reduce}
+use Rattle.store.specs.Store.{Node, node, words, find, Built, canon, terminals}
+use Rattle.reduction.specs.Reduce.{reduced, reduce}
 use Rattle.reduction.specs.Demand3.{Agree, Always, Numbering, Demand3}
-use Rattle.reduction.specs.Build.{at, Sound, own}
-use Rattle.reduction.proofs.Store.{node-path, length-words, size-words, var-words, low-words, high-words, extends-refl}
-use Rattle.reduction.proofs.Canon.{Same, canon-cong, canon-constant}
-use Rattle.reduction.proofs.Sound.{sound-terminals, terminal-at, sound-layered, Means, canon-means}
+use Rattle.store.specs.Build.{at, Sound, own}
+use Rattle.store.proofs.Store.{node-path, length-words, size-words, var-words, low-words, high-words, extends-refl}
+use Rattle.store.proofs.Canon.{Same, canon-cong, canon-constant}
+use Rattle.store.proofs.Sound.{sound-terminals, terminal-at, sound-layered, Means, canon-means}
 use Rattle.reduction.proofs.Reached.{canon-last, canon-reach}
 use Rattle.reduction.proofs.Numbering.{canon-numbers}
-use Rattle.reduction.proofs.Graph.{own-terminal, reduce-own}
+use Rattle.store.proofs.Graph.{own-terminal}
+use Rattle.reduction.proofs.Rooted.{reduce-own}
 use Rattle.reduction.proofs.Count.{count}
 use Rattle.reduction.proofs.Only.{reduce-only}
 use Rattle.reduction.proofs.Fewest.{Closed, own-fits, store-fits}

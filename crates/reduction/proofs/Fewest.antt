@@ -11,12 +11,12 @@ use lib.Dec.{leb}
 use borrow.Author.Tests.{le-leb}
 use Rattle.diagram.specs.Diagram.{varOf, lowOf, highOf, size, vars, root, Ordered}
 use Rattle.diagram.proofs.Reading.{Layered, layered, by-two, root-in}
-use Rattle.reduction.specs.Reduce.{Node, node, Built, join, terminals}
-use Rattle.reduction.specs.Build.{own}
+use Rattle.store.specs.Store.{Node, node, Built, join, terminals}
+use Rattle.store.specs.Build.{own}
 use Rattle.reduction.proofs.Count.{count, by-test, count-mono, count-nodes, marked, marked-other, count-mark}
-use Rattle.reduction.proofs.Store.{Extends, extends-refl, length-add}
-use Rattle.reduction.proofs.Canon.{by-join}
-use Rattle.reduction.proofs.Graph.{own-extends, own-again, own-terminal, own-node, lowBuilt, highBuilt}
+use Rattle.store.proofs.Store.{Extends, extends-refl, length-add}
+use Rattle.store.proofs.Canon.{by-join}
+use Rattle.store.proofs.Graph.{own-extends, own-again, own-terminal, own-node, lowBuilt, highBuilt}
 
 -- ---- marks
 

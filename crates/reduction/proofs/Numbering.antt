@@ -7,12 +7,12 @@ use mathlib.Core.List.{List, [], _∷_, _++_}
 use native.Mathlib.Omega.{arith}
 use lib.ListN.{length}
 use Rattle.diagram.specs.Diagram.{lowOf, highOf}
-use Rattle.reduction.specs.Reduce.{Node, node, words, find, Built, built, join, half, canon}
+use Rattle.store.specs.Store.{Node, node, words, find, Built, built, join, half, canon}
 use Rattle.reduction.specs.Demand3.{Numbering, there, after}
-use Rattle.reduction.specs.Build.{at, Sound}
-use Rattle.reduction.proofs.Store.{low-words, high-words, find-at, Extends, extends-trans, extends-at, length-add, at-new}
-use Rattle.reduction.proofs.Canon.{by-join, join-extends, canon-zero, lower, upper, canon-suc, canon-extends}
-use Rattle.reduction.proofs.Sound.{Means, canon-means}
+use Rattle.store.specs.Build.{at, Sound}
+use Rattle.store.proofs.Store.{low-words, high-words, find-at, Extends, extends-trans, extends-at, length-add, at-new}
+use Rattle.store.proofs.Canon.{by-join, join-extends, canon-zero, lower, upper, canon-suc, canon-extends}
+use Rattle.store.proofs.Sound.{Means, canon-means}
 use Rattle.reduction.proofs.Reached.{two-at}
 
 -- Numbers are only given out: none at a node that has one, and else the node's is the last.

@@ -9,14 +9,16 @@ use lib.ListN.{length, getD, take}
 use lib.Seq.{take-all}
 use Rattle.diagram.specs.Diagram.{varOf, lowOf, highOf, size, vars, root, Ordered}
 use Rattle.diagram.proofs.Reading.{layered, by-two}
-use Rattle.reduction.specs.Reduce.{Node, node, words, find, Built, built, terminals, reduce}
+use Rattle.store.specs.Store.{Node, node, words, find, Built, built, terminals}
+use Rattle.reduction.specs.Reduce.{reduce}
 use Rattle.reduction.specs.Demand3.{Lean, Distinct, Numbering, there, after}
-use Rattle.reduction.specs.Build.{at, nodes, own}
-use Rattle.reduction.proofs.Store.{node-discrete, node-path, find-here, find-later, find-most, find-at}
-use Rattle.reduction.proofs.Canon.{join-there, join-new}
+use Rattle.store.specs.Build.{at, nodes, own}
+use Rattle.store.proofs.Store.{node-discrete, node-path, find-here, find-later, find-most, find-at}
+use Rattle.store.proofs.Canon.{join-there, join-new}
 use Rattle.reduction.proofs.Numbering.{numbers-grow, numbers-in}
-use Rattle.reduction.proofs.Graph.{own-terminal, own-node, reduce-is}
-use Rattle.reduction.proofs.Tables.{nodes-length, held-nodes, held-is, take-words}
+use Rattle.store.proofs.Graph.{own-terminal, own-node}
+use Rattle.reduction.proofs.Rooted.{reduce-is}
+use Rattle.store.proofs.Tables.{nodes-length, held-nodes, held-is, take-words}
 
 -- What is there is found.
 find-there : (n : Node) (o : List Node) (p : ℕ) → p < length o → at o p ≡ n → find n o < length o

@@ -8,11 +8,11 @@ use native.Mathlib.Omega.{arith}
 use native.Mathlib.Decide.{decLt}
 use lib.ListN.{length}
 use Rattle.diagram.specs.Diagram.{lowOf, highOf, Reach, by-low, by-high}
-use Rattle.reduction.specs.Reduce.{Node, node, words, find, Built, built, join, half, canon}
-use Rattle.reduction.specs.Build.{at, Sound}
-use Rattle.reduction.proofs.Store.{low-words, high-words, find-at, Extends, extends-trans, extends-length, extends-at, length-add, at-new}
-use Rattle.reduction.proofs.Canon.{by-join, join-extends, canon-zero, lower, upper, canon-suc, canon-extends}
-use Rattle.reduction.proofs.Sound.{not-terminal, Means, canon-means}
+use Rattle.store.specs.Store.{Node, node, words, find, Built, built, join, half, canon}
+use Rattle.store.specs.Build.{at, Sound}
+use Rattle.store.proofs.Store.{low-words, high-words, find-at, Extends, extends-trans, extends-length, extends-at, length-add, at-new}
+use Rattle.store.proofs.Canon.{by-join, join-extends, canon-zero, lower, upper, canon-suc, canon-extends}
+use Rattle.store.proofs.Sound.{not-terminal, Means, canon-means}
 
 -- ---- the last node
 

@@ -1,18 +1,18 @@
 -- From the check to the answer.
-use Prim.Native.Nat.{ℕ, _*_, max}
+use Prim.Native.Nat.{ℕ, _+_}
 use mathlib.Core.Path.{_≡_, refl, _∙_}
 use mathlib.Core.List.{List}
 use native.Mathlib.Omega.{arith}
 use lib.ListN.{length}
-use Rattle.diagram.specs.Diagram.{size}
-use Rattle.diagram.specs.Verdict.{verdictFor, Checked}
+use Rattle.diagram.specs.Verdict.{most, verdictFor, Checked}
 use Rattle.diagram.specs.declared.verdict.Output.the-variants.{Diagram}
 use Rattle.diagram.specs.declared.verdict.Verdict.{Verdict}
 use Rattle.diagram.specs.declared.verdict.Verdict.the-variants.{Accepted, Refused}
 use Rattle.diagram.proofs.Entering.{refusal-is, verdict-is, admitted, ordered, lent-fits, lent-word, lent-enough, builds-refused, builds-accepted}
 use Rattle.reduction.specs.Reduce.{reduce}
 use Rattle.reduction.specs.Answer.{Reduces}
-use Rattle.reduction.specs.Room.{Lent, Answered}
+use Rattle.store.specs.Room.{headsFrom, storeTo}
+use Rattle.reduction.specs.Room.{memoFrom, Lent, Answered}
 
 module _ {w room room′ : List ℕ} (out : List ℕ) {r : Verdict} (c : Checked w (Diagram (length out)) room room′ r) where
   pub reduce-refused : {k p : ℕ} → r ≡ Refused k p → Reduces w room room′ out out r 0
@@ -27,9 +27,13 @@ module _ {w room room′ : List ℕ} (out : List ℕ) {r : Verdict} (c : Checked
             ordered = ordered c e;
             is-size = given .nodes;
             is-vars = given .variables;
-            long = lent-fits c e (6 * max (size w) 2) (omega arith);
-            zero = lent-word c e (6 * max (size w) 2) (omega arith);
+            two = omega arith;
+            few = let few = given .accepted .formed .few in omega arith;
+            long = lent-fits c e (storeTo (most w) (most w)) (omega arith);
+            memo = λ p h. lent-word c e (storeTo (most w) (most w)) (omega arith) (memoFrom + p) (omega arith);
+            heads = λ h in-h. lent-word c e (storeTo (most w) (most w)) (omega arith) (headsFrom (most w) (most w) + h) (omega arith);
           };
+          zero = lent-word c e (storeTo (most w) (most w)) (omega arith);
           output = lent-enough w (length out) (given .lent);
         }
 

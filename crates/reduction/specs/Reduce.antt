@@ -1,70 +1,13 @@
 -- Reduction (document 01, port 7; Bryant 1986). It is defined from the function that a diagram stands for and not from
--- its graph: a pointer to a function is made from pointers to its two halves, with no node where these are equal and no
--- node twice. Nodes are numbered on the way back, low half first. That this gives an accepted diagram of the same
--- function, the same words for the same function, and the fewest nodes is stated in Demand3.antt and proved in
--- proofs/Canonical.antt.
-use Prim.Native.Nat.{ℕ, zero, suc}
-use mathlib.Core.Bool.{Bool, true, false, cond, _&&_}
-use mathlib.Core.List.{List, [], _∷_, _++_}
-use lib.ListN.{length, take}
-use lib.Dec.{eqb, ltb}
+-- its graph: the function is built on the two terminals (`canon`, crates/store/specs/Store.antt). That this gives an accepted
+-- diagram of the same function, the same words for the same function, and the fewest nodes is stated in Demand3.antt and
+-- proved in proofs/Canonical.antt.
+use Prim.Native.Nat.{ℕ, suc}
+use mathlib.Core.Bool.{Bool}
+use mathlib.Core.List.{List}
+use lib.ListN.{take}
 use Rattle.diagram.specs.Diagram.{vars, holds}
-
--- A node: variable, low link, high link.
-pub record Node : Type 0 where
-  pub var : ℕ
-  pub low : ℕ
-  pub high : ℕ
-
-abbrev pub node : ℕ → ℕ → ℕ → Node
-node v l h = record { var = v; low = l; high = h }
-
--- The nodes' words, three for a node.
-unfoldable pub words : List Node → List ℕ
-words [] = []
-words (n ∷ o) = n .var ∷ n .low ∷ n .high ∷ words o
-
--- Two nodes are equal.
-unfoldable pub same : Node → Node → Bool
-same a b = eqb (a .var) (b .var) && (eqb (a .low) (b .low) && eqb (a .high) (b .high))
-
--- The place of a node among the nodes made so far; where it isn't there, how many there are.
-unfoldable pub find : Node → List Node → ℕ
-find n [] = zero
-find n (m ∷ o) = cond (same n m) zero (suc (find n o))
-
--- What building gives: the nodes made so far, the two terminals included, and a pointer to one of them.
-pub record Built : Type 0 where
-  pub store : List Node
-  pub pointer : ℕ
-
-abbrev pub built : List Node → ℕ → Built
-built o p = record { store = o; pointer = p }
-
--- A pointer to variable i with children l and h: where l = h the child itself, where the node is there already its
--- place, else a new node at the end.
-unfoldable pub join : ℕ → ℕ → ℕ → List Node → Built
-join i l h o =
-    let n = node i l h in
-    let p = find n o in
-    cond (eqb l h) (built o l) (cond (ltb p (length o)) (built o p) (built (o ++ (n ∷ [])) p))
-
--- The half of a function in which its first bit is b.
-abbrev pub half : Bool → (List Bool → Bool) → List Bool → Bool
-half b f bs = f (b ∷ bs)
-
--- A pointer to the function f of k bits, the first of which is variable i: the terminal that f says where no bit is
--- left; else the low half is built, then the high half, and then, on the way back, the node over them.
-unfoldable pub canon : ℕ → ℕ → (List Bool → Bool) → List Node → Built
-canon zero i f o = built o (cond (f []) 1 0)
-canon (suc k) i f o =
-    let low = canon k (suc i) (half false f) o in
-    let high = canon k (suc i) (half true f) (low .store) in
-    join i (low .pointer) (high .pointer) (high .store)
-
--- Node 0, the zero terminal, and node 1, the one terminal.
-abbrev pub terminals : ℕ → List Node
-terminals v = node v 0 0 ∷ node v 1 1 ∷ []
+use Rattle.store.specs.Store.{words, canon, terminals}
 
 -- The reduced diagram of a function of v variables: what was made, up to the pointer to the function, which is the
 -- root. So false has one node, and true two.

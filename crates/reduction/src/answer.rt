@@ -1,27 +1,20 @@
-// The reduced diagram of an accepted one: built in the working room, copied to the output, and cleared away.
-use crate::walk::build;
+// The reduced diagram of an ordered array: built in the working room, and for `reduce` copied to the output and cleared away.
+// For m the larger of the number of nodes and 2, the memo stands in the room's first words, and the store from m on.
 use diagram::lengths::most;
 use diagram::node::BddPointer;
 use diagram::node::word;
 use diagram::room::clear;
-use diagram::room::put;
+use store::shelf::END;
+use store::shelf::start;
+use store::walk::build;
 ghost use mathlib.Core.Path.{_≡_};
 ghost use Prim.Native.Nat.{_+_, _*_, _≤_, max};
 ghost use lib.ListN.{length};
 ghost use Rattle.diagram.specs.Limits.{maxNodes, roomPerNode};
 ghost use Rattle.diagram.specs.Diagram.{size};
-ghost use Rattle.reduction.specs.Room.{started, Copied, Asked, Shelved, Lent, Answered};
+ghost use Rattle.reduction.specs.Room.{Copied, Asked, Shelved, Lent, Answered};
 
-// Writes the terminals' words to a room that is zero.
-fn start(room: &mut [u32], most: usize, vars: u32)
-    requires { ⌜ most ≤ maxNodes ⌝ }
-    ensures { λ _. ⌜ now (room .exit) ≡ started most (now (room .entry)) vars ⌝ }
-{
-    put(room, most, vars);
-    put(room, most + 3, vars);
-    put(room, most + 4, 1);
-    put(room, most + 5, 1);
-}
+const MEMO: usize = 0;
 
 // Copies `count` words of the room, from a place on, to the output.
 pub fn copy(room: &[u32], from: usize, output: &mut [u32], count: usize)
@@ -35,15 +28,19 @@ pub fn copy(room: &[u32], from: usize, output: &mut [u32], count: usize)
     }
 }
 
-// Builds the reduced diagram of an ordered array in a room that is zero, and gives its number of nodes. Its words stand
-// behind the memo.
-pub fn make(words: &[u32], room: &mut [u32], nodes: usize, vars: u32) -> usize
-    requires { ⌜ Asked (now words) (now room) nodes vars ⌝ }
-    ensures { λ r. ⌜ Shelved (now (words .entry)) (now (room .entry)) (now (room .exit)) r ⌝ }
+// Builds the reduced diagram of an ordered array with at most `limit` nodes, and gives its number of nodes: one more than the
+// limit where it has more. Its words stand behind the memo. Only memo and keys have to be zero before.
+pub fn make(words: &[u32], room: &mut [u32], limit: usize, nodes: usize, vars: u32) -> usize
+    requires { ⌜ Asked (now words) (now room) limit nodes vars ⌝ }
+    ensures { λ r. ⌜ Shelved (now (words .entry)) (now (room .entry)) (now (room .exit)) limit r ⌝ }
 {
-    let most = most(nodes);
-    start(room, most, vars);
-    let made = build(words, room, most, 2, BddPointer((nodes - 1) as u32));
+    let base = most(nodes);
+    start(room, base, limit, vars);
+    let root = BddPointer((nodes - 1) as u32);
+    let made = build(words, room, MEMO, base, limit, 2, root);
+    if made.full {
+        return limit + 1;
+    }
     made.pointer.to_index() + 1
 }
 
@@ -57,7 +54,7 @@ fn hand_over(words: &[u32], room: &[u32], output: &mut [u32], count: usize)
     copy(room, memo, output, 3 * count);
 }
 
-// Reduces an ordered array in a room that is zero, and gives the number of nodes.
+// Reduces an ordered array in a room that is zero, and gives the number of nodes. It has no more than the array.
 pub(crate) fn answer(
     words: &[u32],
     room: &mut [u32],
@@ -69,8 +66,8 @@ pub(crate) fn answer(
     ensures { λ r. ⌜ Answered (now (words .entry)) (now (room .entry)) (now (output .entry)) (now (room .exit)) (now (output .exit)) r ⌝ }
 {
     let most = most(nodes);
-    let count = make(words, room, nodes, vars);
+    let count = make(words, room, most, nodes, vars);
     hand_over(words, room, output, count);
-    clear(room, 6 * most);
+    clear(room, most + END * most);
     count
 }

@@ -12,6 +12,7 @@ use Rattle.approximation.specs.Search.{Answer, answer, cutFirst, middle, sizeSe
 use Rattle.approximation.proofs.Search.{search-last, search-exact, search-fewer, search-more}
 use Rattle.cuts.proofs.Answering.{drop-more}
 use Rattle.trials.specs.Trials.{Ready, Trying, Tried, Found}
+use Rattle.trials.specs.First.{Limited, TriedWithin}
 use Rattle.size_search.specs.Search.{Halving, At}
 
 -- ---- the definition's steps
@@ -101,10 +102,16 @@ module _ {w sent r : List ℕ} {t n v : ℕ} (a : Halving w sent r t n v) where
           ready = k .ready;
         }
 
-    module _ {c m : ℕ} {u : List ℕ} (x : Tried w c s u m) where
-      pub kept-on : Kept w r u
-      kept-on = record { ready = x .ready; kept = x .kept ∙ k .kept; beyond = x .beyond ∙ k .beyond }
+    pub halving-limited : {c : ℕ} {sent′ : List ℕ} → length sent′ ≡ length sent → c ≤ n - t → Limited w sent′ s t c n v
+    halving-limited same h =
+        let least = a .least in
+        let more = a .more in
+        record { trying = halving-tries same h; two = omega arith; within = omega arith }
 
+    pub kept-on : {c m : ℕ} {u : List ℕ} → TriedWithin w t c s u m → Kept w r u
+    kept-on x = record { ready = x .ready; kept = x .kept ∙ k .kept; beyond = x .beyond ∙ k .beyond }
+
+    module _ {c m : ℕ} {u : List ℕ} (x : Tried w c s u m) where
       is-most : most w ≡ size w
       is-most = let least = a .least in let more = a .more in let is = a .is-size in omega arith
 

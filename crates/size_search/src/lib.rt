@@ -6,13 +6,15 @@ use trials::answers::Answer;
 use trials::answers::constantly;
 use trials::answers::keep;
 use trials::first::cut_first;
+use trials::first::cut_first_within;
 use trials::prepare;
 ghost use Prim.Native.Nat.{_-_, _<_};
 ghost use Rattle.approximation.specs.Search.{sizeSearch, underToSize};
 ghost use Rattle.trials.specs.Trials.{Searching, Found};
 ghost use Rattle.size_search.specs.Search.{Halving};
 
-// Between none and as many priorities as there are nodes too many, by halves.
+// Between none and as many priorities as there are nodes too many, by halves. A trial ends at one node over the target: that it
+// has more is all that is asked of it.
 fn search(
     words: &[u32],
     sent: &mut [u32],
@@ -29,7 +31,7 @@ fn search(
     let mut trials = 0;
     while start < stop {
         let check = (start + stop) / 2;
-        let made = cut_first(words, sent, room, check, nodes, vars);
+        let made = cut_first_within(words, sent, room, target, check, nodes, vars);
         if made == target {
             return Answer {
                 nodes: made,

@@ -1,5 +1,5 @@
 -- The cut by the first priorities.
-use Prim.Native.Nat.{ℕ, _+_, _-_, _*_, _≤_, _<_, max, min}
+use Prim.Native.Nat.{ℕ, suc, _+_, _-_, _*_, _≤_, _<_, max, min}
 use mathlib.Core.Path.{_≡_, refl, sym, ap, _∙_}
 use mathlib.Core.Bool.{Bool, true, false, not, _||_}
 use mathlib.Core.List.{List, _++_}
@@ -14,13 +14,13 @@ use Rattle.diagram.specs.Verdict.{most}
 use Rattle.room_map.specs.Map.{marksTo, tablesFrom, answerFrom, tablesTo}
 use Rattle.approximation.specs.Cut.{cut, listed}
 use Rattle.approximation.specs.Search.{order, cutFirst}
-use Rattle.approximation.proofs.Cut.{cut-same}
+use Rattle.approximation.proofs.Cut.{cut-same, cut-most}
 use Rattle.approximation.proofs.Members.{order-length, order-nodes}
-use Rattle.cuts.specs.Marks.{markedIn, Markable, Marked, Cutting, CutIn}
+use Rattle.cuts.specs.Marks.{markedIn, Markable, Marked, Cutting, CutWithin}
 use Rattle.cuts.proofs.Steps.{present}
 use Rattle.cuts.proofs.Answering.{drop-more}
 use Rattle.trials.specs.Trials.{Ready, Trying, Tried}
-use Rattle.trials.specs.First.{Unmarkable, Unmarked, FirstMarkable}
+use Rattle.trials.specs.First.{Unmarkable, Unmarked, FirstMarkable, Limited, TriedWithin}
 use Rattle.trials.proofs.Readying.{ready-front, ready-marks}
 
 -- ---- no marks
@@ -136,8 +136,8 @@ module _ {w sent r : List ℕ} {c n v : ℕ} (a : Trying w sent r c n v) where
           ap (λ (k : ℕ). markedIn k t q) is-most ∙ marks .marks q ∙ ap (λ (b : Bool). b || listed (take c s) q) (none .none q (omega arith))
           ∙ ap (λ (l : List ℕ). listed l q) first-is
 
-      pub trying-cutting : Cutting w sent t 0 n v
-      trying-cutting =
+      pub trying-cutting : {l : ℕ} → 2 ≤ l → l ≤ n → Cutting w sent t l 0 n v
+      trying-cutting two within =
           let m = is-most in
           let long = a .long in
           let same = none .kept in
@@ -146,32 +146,72 @@ module _ {w sent r : List ℕ} {c n v : ℕ} (a : Trying w sent r c n v) where
             ordered = a .ordered;
             is-size = a .is-size;
             is-vars = a .is-vars;
+            two = two;
+            within = omega arith;
             terminal = omega arith;
             copy = a .copy;
             long = omega arith;
           }
 
-      pub tried : {u : List ℕ} {k : ℕ} → CutIn w 0 t u k → Tried w c r u k
+      cut-is : cut w (markedIn (most w) t) 0 ≡ cutFirst w c
       unfolding cutFirst
-      tried {u} {k} x =
-          let m = is-most in
-          let is = a .is-size in
-          let long = a .long in
-          let same = none .kept in
-          let kept = marks .kept in
-          let cut-is : cut w (markedIn (most w) t) 0 ≡ cut w (listed (take c (order w))) 0 =
-          cut-same w (a .ordered) (markedIn (most w) t) (listed (take c (order w))) 0 marks-are in
-          let most-is : most w ≡ size w = omega arith in
-          record {
-            count = x .count ∙ ap (λ (l : List ℕ). size l) cut-is;
-            words = ap (λ (l : List ℕ). length l) (sym cut-is) ∙ x .words;
-            fits = x .fits;
-            kept = x .kept ∙ kept ∙ same;
-            made = ap (λ (i : ℕ). take (3 * k) (drop (answerFrom i) u)) (sym most-is) ∙ x .made ∙ cut-is;
-            ready = ready-front ready-marked (x .kept) (omega arith)
-                (ap (λ (i : ℕ). take (tablesFrom i) u) (sym most-is) ∙ x .before ∙ ap (λ (i : ℕ). take (tablesFrom i) t) most-is);
-            beyond =
-                ap (λ (i : ℕ). drop (tablesTo i) u) (sym most-is) ∙ x .beyond ∙ ap (λ (i : ℕ). drop (tablesTo i) t) (most-is ∙ sym is)
-                ∙ drop-more (marksTo n) (tablesTo n) t s (omega arith) (marks .beyond) ∙ drop-more (marksTo n) (tablesTo n) s r (omega arith) (none .beyond)
-                ∙ ap (λ (i : ℕ). drop (tablesTo i) r) is;
-          }
+      cut-is = cut-same w (a .ordered) (markedIn (most w) t) (listed (take c (order w))) 0 marks-are
+
+      most-is : most w ≡ size w
+      most-is = is-most ∙ a .is-size
+
+      module _ {l : ℕ} {u : List ℕ} {k : ℕ} (x : CutWithin w l 0 t u k) where
+        kept-all : length u ≡ length r
+        kept-all = x .kept ∙ marks .kept ∙ none .kept
+
+        ready-all : Ready w u
+        ready-all =
+            let m = is-most in
+            let long = a .long in
+            let is = a .is-size in
+            let same = none .kept in
+            let kept = marks .kept in
+            ready-front ready-marked (x .kept) (omega arith)
+            (ap (λ (i : ℕ). take (tablesFrom i) u) (sym most-is) ∙ x .before ∙ ap (λ (i : ℕ). take (tablesFrom i) t) most-is)
+
+        beyond-all : drop (tablesTo (size w)) u ≡ drop (tablesTo (size w)) r
+        beyond-all =
+            let is = a .is-size in
+            ap (λ (i : ℕ). drop (tablesTo i) u) (sym most-is) ∙ x .beyond ∙ ap (λ (i : ℕ). drop (tablesTo i) t) (most-is ∙ sym is)
+            ∙ drop-more (marksTo n) (tablesTo n) t s (omega arith) (marks .beyond) ∙ drop-more (marksTo n) (tablesTo n) s r (omega arith) (none .beyond)
+            ∙ ap (λ (i : ℕ). drop (tablesTo i) r) is
+
+        all-tried : k ≤ l → Tried w c r u k
+        all-tried few =
+            let y = x .cut-in few in
+            record {
+              count = y .count ∙ ap (λ (i : List ℕ). size i) cut-is;
+              words = ap (λ (i : List ℕ). length i) (sym cut-is) ∙ y .words;
+              fits = y .fits;
+              kept = kept-all;
+              made = ap (λ (i : ℕ). take (3 * k) (drop (answerFrom i) u)) (sym most-is) ∙ y .made ∙ cut-is;
+              ready = ready-all;
+              beyond = beyond-all;
+            }
+
+        pub tried-within : TriedWithin w l c r u k
+        tried-within = record {
+          count = x .count ∙ ap (λ (i : List ℕ). min (size i) (suc l)) cut-is;
+          tried = all-tried;
+          kept = kept-all;
+          ready = ready-all;
+          beyond = beyond-all;
+        }
+
+  -- With as many places as there are nodes.
+  pub all-limited : Limited w sent r n c n v
+  all-limited = record { trying = a; two = let many = a .many in omega arith; within = omega arith }
+
+  pub tried : {u : List ℕ} {k : ℕ} → TriedWithin w n c r u k → Tried w c r u k
+  unfolding cutFirst
+  tried x =
+      let few = cut-most w (a .ordered) (listed (take c (order w))) 0 (omega arith) in
+      let e = x .count in
+      let is = a .is-size in
+      let many = a .many in
+      x .tried (omega arith)

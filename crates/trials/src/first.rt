@@ -8,7 +8,7 @@ ghost use Prim.Native.Nat.{_≤_};
 ghost use lib.ListN.{take};
 ghost use Rattle.cuts.specs.Marks.{Marked};
 ghost use Rattle.trials.specs.Trials.{Trying, Tried};
-ghost use Rattle.trials.specs.First.{Unmarkable, Unmarked, FirstMarkable};
+ghost use Rattle.trials.specs.First.{Unmarkable, Unmarked, FirstMarkable, Limited, TriedWithin};
 
 // No node is marked.
 pub fn unmark(room: &mut [u32], nodes: usize)
@@ -30,6 +30,26 @@ fn mark_first(room: &mut [u32], nodes: usize, count: usize)
     }
 }
 
+// The cut by the first `count` priorities with at most `limit` nodes, and its number of nodes: one more than the limit where it
+// has more.
+pub fn cut_first_within(
+    words: &[u32],
+    sent: &mut [u32],
+    room: &mut [u32],
+    limit: usize,
+    count: usize,
+    nodes: usize,
+    vars: u32,
+) -> usize
+    requires { ⌜ Limited (now words) (now sent) (now room) limit count nodes vars ⌝ }
+    ensures { λ r. ⌜ TriedWithin (now (words .entry)) limit count (now (room .entry)) (now (room .exit)) r ⌝ }
+{
+    unmark(room, nodes);
+    mark_first(room, nodes, count);
+    cut(words, sent, room, limit, BddPointer(0), nodes, vars)
+}
+
+// The cut by the first `count` priorities, whatever its number of nodes: it has no more than the diagram.
 pub fn cut_first(
     words: &[u32],
     sent: &mut [u32],
@@ -41,7 +61,5 @@ pub fn cut_first(
     requires { ⌜ Trying (now words) (now sent) (now room) count nodes vars ⌝ }
     ensures { λ r. ⌜ Tried (now (words .entry)) count (now (room .entry)) (now (room .exit)) r ⌝ }
 {
-    unmark(room, nodes);
-    mark_first(room, nodes, count);
-    cut(words, sent, room, BddPointer(0), nodes, vars)
+    cut_first_within(words, sent, room, nodes, count, nodes, vars)
 }

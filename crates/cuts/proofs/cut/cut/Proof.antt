@@ -9,11 +9,11 @@ use Rattle.cuts.proofs.cut.cut.Tie as tie
 most-requires : tie.Need-most-requires
 most-requires c κs = search needs
 
-sub-t11 : tie.Need-sub-t11
-sub-t11 c = omega (arith, cutting-some (c .before .before .before .before .before .pre) (c .before .most .ensures))
+sub-t12 : tie.Need-sub-t12
+sub-t12 c = omega (arith, cutting-some (c .before .before .before .before .before .pre) (c .before .most .ensures))
 
-cast-t12 : tie.Need-cast-t12
-cast-t12 c = omega (arith, c .before .before .before .before .before .pre .is-size, c .before .before .before .before .before .pre .ordered .formed .few)
+cast-t13 : tie.Need-cast-t13
+cast-t13 c = omega (arith, c .before .before .before .before .before .pre .is-size, c .before .before .before .before .before .pre .ordered .formed .few)
 
 is-marked-requires : tie.Need-is-marked-requires
 is-marked-requires c κs = cutting-few (c .before .before .before .before .before .pre) (c .before .most .ensures)
@@ -77,8 +77,8 @@ cut-spec =
     tie.close
     (tie.spec
     most-requires
-    sub-t11
-    cast-t12
+    sub-t12
+    cast-t13
     is-marked-requires
     mul-constant
     constant-requires

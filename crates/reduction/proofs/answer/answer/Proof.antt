@@ -1,6 +1,6 @@
-use Rattle.reduction.proofs.Answering.{lent-few, answer-fits, answer-ends}
-use native.Mathlib.Omega.{arith}
+use Rattle.reduction.proofs.Answering.{lent-few, lent-asked, answer-fits, answer-ends}
 use borrow.Author.Needs.{needs}
+use native.Mathlib.Omega.{arith}
 use Rattle.reduction.proofs.answer.answer.Statement.{statement}
 use Rattle.reduction.proofs.answer.answer.Tie as tie
 
@@ -8,13 +8,16 @@ most-requires : tie.Need-most-requires
 most-requires c κs = search needs
 
 make-requires : tie.Need-make-requires
-make-requires c κs = c .before .before .before .before .before .pre .asked
+make-requires c κs = lent-asked (c .before .before .before .before .before .pre) (c .before .most .ensures)
 
 hand-over-requires : tie.Need-hand-over-requires
 hand-over-requires c κs = (c .before .before .before .before .before .before .before .before .before .before .pre .asked .ordered .formed .few, answer-fits (c .before .before .before .before .before .before .before .before .before .before .pre) (c .before .before .before .before .before .before .most .ensures) (c .before .before .before .before .make .ensures))
 
 mul-clear : tie.Need-mul-clear
 mul-clear c = omega (arith, lent-few (c .before .before .before .before .before .before .before .before .before .before .before .before .before .before .pre .asked) (c .before .before .before .before .before .before .before .before .before .before .most .ensures))
+
+add-clear : tie.Need-add-clear
+add-clear c = omega (arith, lent-few (c .before .before .before .before .before .before .before .before .before .before .before .before .before .before .pre .asked) (c .before .before .before .before .before .before .before .before .before .before .most .ensures))
 
 clear-requires : tie.Need-clear-requires
 clear-requires c κs = search needs
@@ -36,6 +39,7 @@ answer-spec =
     make-requires
     hand-over-requires
     mul-clear
+    add-clear
     clear-requires
     same-length
     same-length-2

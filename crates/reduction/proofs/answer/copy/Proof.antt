@@ -1,4 +1,4 @@
-use Rattle.reduction.proofs.Zones.{copy-more}
+use Rattle.reduction.proofs.Answering.{copy-more}
 use denote.Ref.{now}
 use lib.Seq.{drop-set-lt}
 use lib.ListN.{length, getD, drop, length-set}

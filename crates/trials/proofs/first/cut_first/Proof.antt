@@ -1,16 +1,10 @@
-use Rattle.trials.proofs.Firsts.{trying-unmarkable, trying-markable, trying-cutting, tried}
+use Rattle.trials.proofs.Firsts.{all-limited, tried}
 use borrow.Author.Needs.{needs}
 use Rattle.trials.proofs.first.cut_first.Statement.{statement}
 use Rattle.trials.proofs.first.cut_first.Tie as tie
 
-unmark-requires : tie.Need-unmark-requires
-unmark-requires c κs = trying-unmarkable (c .before .before .before .before .pre)
-
-mark-first-requires : tie.Need-mark-first-requires
-mark-first-requires c κs = trying-markable (c .before .before .before .before .before .before .before .before .pre) (c .before .before .before .unmark .ensures)
-
-cut-requires : tie.Need-cut-requires
-cut-requires c κs = trying-cutting (c .before .before .before .before .before .before .before .before .before .before .before .before .before .pre) (c .before .before .before .before .before .before .before .before .unmark .ensures) (c .before .before .before .before .mark-first .ensures)
+cut-first-within-requires : tie.Need-cut-first-within-requires
+cut-first-within-requires c κs = all-limited (c .before .before .before .before .before .pre)
 
 same-length : tie.Need-same-length
 same-length c = search needs
@@ -19,9 +13,7 @@ same-length-2 : tie.Need-same-length-2
 same-length-2 c = search needs
 
 returns : tie.Need-returns
-returns c = tried (c .before .before .before .before .before .before .before .before .before .before .before .before .before .before .before .before .before .before .pre) (c .before .before .before .before .before .before .before .before .before .before .before .before .before .unmark .ensures) (c .before .before .before .before .before .before .before .before .before .mark-first .ensures) (c .before .before .before .before .cut .ensures)
+returns c = tried (c .before .before .before .before .before .before .before .before .before .before .pre) (c .before .before .before .before .cut-first-within .ensures)
 
 pub cut-first-spec : {M : Type 1} → statement M
-cut-first-spec =
-    tie.close
-    (tie.spec unmark-requires mark-first-requires cut-requires same-length same-length-2 returns)
+cut-first-spec = tie.close (tie.spec cut-first-within-requires same-length same-length-2 returns)
