@@ -1,13 +1,13 @@
 -- From what a search finds to what is answered: as it is, or negated back.
-use Prim.Native.Nat.{ℕ, _+_, _-_, _*_, _≤_, _<_, max, min}
+use Prim.Native.Nat.{ℕ, _+_, _-_, _*_, _≤_, max, min}
 use mathlib.Core.Path.{_≡_, refl, sym, ap, _∙_}
 use mathlib.Core.List.{List, _++_}
 use mathlib.Core.Bool.{Bool}
 use native.Mathlib.Omega.{arith}
-use lib.ListN.{length, getD, take, drop, replicate}
-use lib.Seq.{getD-take, take-append-seam, length-take-le}
+use lib.ListN.{length, take, drop, replicate}
+use lib.Seq.{take-append-seam}
 use Rattle.diagram.specs.Limits.{maxNodes}
-use Rattle.diagram.specs.Diagram.{size, vars, Accepted, Ordered}
+use Rattle.diagram.specs.Diagram.{size, Accepted, Ordered}
 use Rattle.diagram.specs.Verdict.{Outcome, accepted, refused, most, roomOf, roomAfter, verdictFor, Checked}
 use Rattle.diagram.specs.declared.verdict.Verdict.{Verdict}
 use Rattle.diagram.specs.declared.verdict.Verdict.the-variants.{Accepted as Yes, Refused as No}
