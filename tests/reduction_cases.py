@@ -3,11 +3,12 @@ from truth tables where there are few variables, and else from node lists with a
 import os
 import sys
 
-from reading import ROOM, most, verdict
+from limits import MAX_NODES, MAX_VARS, ROOM
+from reading import most, verdict
 
 sys.setrecursionlimit(10000)
 HERE = os.path.dirname(os.path.abspath(__file__))
-LENT, LENT_ROOM = 12291, 262150
+LENT, LENT_ROOM = 3 * (MAX_NODES + 1), ROOM * MAX_NODES + 6
 
 
 def from_nodes(words):
@@ -174,17 +175,17 @@ lines = [
     long('4,096 nodes, all', every()),
     small('no words', []),
     small('broken words', [3, 0, 0, 3]),
-    small('4,097 nodes', [0] * 12291),
+    small(f'{MAX_NODES + 1:,} nodes', [0] * 3 * (MAX_NODES + 1)),
     small('bad terminal', [3, 0, 0, 3, 1, 0]),
-    small('256 variables', [256, 0, 0]),
+    small(f'{MAX_VARS + 1} variables', [MAX_VARS + 1, 0, 0]),
     small('bad variable', [3, 0, 0, 3, 1, 1, 3, 0, 1]),
     small('bad low link', [3, 0, 0, 3, 1, 1, 0, 3, 1]),
     small('bad high link', [3, 0, 0, 3, 1, 1, 0, 1, 3]),
     small('bad order', [3, 0, 0, 3, 1, 1, 1, 0, 1, 1, 2, 0]),
     small('unreached', [3, 0, 0, 3, 1, 1, 1, 0, 1, 1, 1, 0]),
-    small('short output', D, lent=14, room=320),
-    small('output and room that fit', D, lent=15, room=320),
-    small('short room', D, lent=15, room=319),
+    small('short output', D, lent=14, room=5 * ROOM),
+    small('output and room that fit', D, lent=15, room=5 * ROOM),
+    small('short room', D, lent=15, room=5 * ROOM - 1),
 ]
 for v in range(4):
     lines.append(functions('all functions of', v, [[f >> x & 1 for x in range(2 ** v)] for f in range(2 ** 2 ** v)]))
