@@ -5,7 +5,7 @@ use mathlib.Core.Path.{_≡_}
 use mathlib.Core.List.{List}
 use lib.ListN.{length, getD, set, take, drop, replicate}
 use Rattle.naturals.specs.Natural.{Holds}
-use Rattle.diagram.specs.Limits.{maxNodes}
+use Rattle.diagram.specs.Limits.{maxNodes, roomPerNode}
 use Rattle.diagram.specs.Diagram.{size, vars, Ordered}
 use Rattle.diagram.specs.Verdict.{accepted}
 use Rattle.diagram.specs.Valuations.{countOf}
@@ -21,7 +21,7 @@ use Rattle.trials.specs.Trials.{Ready, Searching}
 pub record Countable (w r : List ℕ) (at n : ℕ) : Type 0 where
   pub ordered : Ordered w
   pub is-size : n ≡ size w
-  pub place : at ≤ 64 * maxNodes
+  pub place : at ≤ roomPerNode * maxNodes
   pub long : at + 9 * n ≤ length r
   pub zero : take (9 * n) (drop at r) ≡ replicate (9 * n) 0
 

@@ -13,6 +13,7 @@ use borrow.Rule.Slice.PartMut.{putMid, midOf, postOf, take-put, drop-put, same-l
 use Rattle.naturals.specs.Natural.{value, wordCount, Holds, Fitted}
 use Rattle.naturals.specs.declared.Fit.{Fit}
 use Rattle.naturals.proofs.Answer.{holds-as, fitted-below}
+use Rattle.diagram.specs.Limits.{maxNodes}
 use Rattle.diagram.specs.Diagram.{varOf, size, vars, root, Ordered}
 use Rattle.diagram.specs.Valuations.{countOf}
 use Rattle.diagram.proofs.Tests.{by-test, by-eq, or-right}
@@ -44,7 +45,7 @@ module _ {w heads changed room : List ℕ} {n v : ℕ} (a : Recounting w heads c
   abbrev o : Ordered w
   o = a .given .ordered
 
-  pub recount-few : n ≤ 4096
+  pub recount-few : n ≤ maxNodes
   recount-few = let few = o .formed .few in let e = a .given .nodes in omega arith
 
   abbrev old : ℕ → Bool
@@ -153,7 +154,7 @@ module _ (at e : ℕ) (r part : List ℕ) (order : at ≤ e) (inside : e ≤ len
       ∙ List·getD-append part (postOf at (e - at) r) 0 i h
 
 module _ {w heads room : List ℕ} {n v : ℕ} (a : Beginning w heads room n v) where
-  pub begin-few : n ≤ 4096
+  pub begin-few : n ≤ maxNodes
   begin-few = let few = a .given .ordered .formed .few in let e = a .given .nodes in omega arith
 
   pub begin-long : n + wordCount * n ≤ length (midOf (linksFrom n) (countsTo n - linksFrom n) room)

@@ -10,6 +10,7 @@ use lib.ListN.{length, getD, set, length-set}
 use lib.Seq.{getD-set-same, getD-set-other}
 use Rattle.reduction.specs.Reduce.{Node}
 use Rattle.reduction.specs.Room.{keyOf, written, chained, entered, started}
+use Rattle.diagram.specs.Limits.{maxNodes}
 
 -- ---- keys
 
@@ -21,7 +22,7 @@ unfolding keyOf
 key-below m n some = scaled ((n .var * 608135817 + n .low * 1013904223 + n .high * 736899889) % 4294967296) m (omega arith) some
 
 -- the product fits 64 bits
-pub key-fits : (x m : ℕ) → m ≤ 4096 → x % 4294967296 * m < 2 ^ 64
+pub key-fits : (x m : ℕ) → m ≤ maxNodes → x % 4294967296 * m < 2 ^ 64
 key-fits x m h = let p = mul-le-mul-left (x % 4294967296) h in omega arith
 
 -- ---- one node more

@@ -8,6 +8,10 @@
 mod arrays;
 mod tables;
 
+use diagram::limits::MAX_NODES;
+use diagram::limits::MAX_VARIABLES;
+use diagram::limits::MAX_WORDS;
+use diagram::limits::ROOM_PER_NODE;
 use diagram::node::word;
 use diagram::verdict::Verdict;
 use libc::STDOUT_FILENO;
@@ -15,9 +19,10 @@ use reduction::reduce::Reduced;
 use reduction::reduce::reduce;
 ghost use Prim.Native.Nat.{_≤_};
 
-const WORDS: usize = 12291;
+// The words of one node more than a diagram may have, and more room than is asked for.
+const WORDS: usize = MAX_WORDS + 3;
 
-const ROOM: usize = 262150;
+const ROOM: usize = ROOM_PER_NODE * MAX_NODES + 6;
 
 const D: [u32; 15] = [3, 0, 0, 3, 1, 1, 2, 0, 1, 1, 2, 1, 0, 2, 3];
 
@@ -65,7 +70,7 @@ const BROKEN: [u32; 4] = [3, 0, 0, 3];
 
 const BAD_TERMINAL: [u32; 6] = [3, 0, 0, 3, 1, 0];
 
-const MANY_VARIABLES: [u32; 3] = [256, 0, 0];
+const MANY_VARIABLES: [u32; 3] = [MAX_VARIABLES as u32 + 1, 0, 0];
 
 const BAD_VARIABLE: [u32; 9] = [3, 0, 0, 3, 1, 1, 3, 0, 1];
 
@@ -260,19 +265,19 @@ fn odd() {
 }
 
 fn few() {
-    let mut words = [0u32; 12288];
+    let mut words = [0u32; MAX_WORDS];
     arrays::few(&mut words);
     run(b"4,096 nodes, few", &words);
 }
 
 fn all() {
-    let mut words = [0u32; 12288];
+    let mut words = [0u32; MAX_WORDS];
     arrays::all(&mut words);
     run(b"4,096 nodes, all", &words);
 }
 
 fn many() {
-    let words = [0u32; 12291];
+    let words = [0u32; WORDS];
     run(b"4,097 nodes", &words);
 }
 
@@ -281,7 +286,8 @@ fn refused() {
     run(b"broken words", &BROKEN);
     many();
     run(b"bad terminal", &BAD_TERMINAL);
-    run(b"256 variables", &MANY_VARIABLES);
+    io::print_decimal(STDOUT_FILENO, MANY_VARIABLES[0] as u64);
+    run(b" variables", &MANY_VARIABLES);
     run(b"bad variable", &BAD_VARIABLE);
     run(b"bad low link", &BAD_LOW);
     run(b"bad high link", &BAD_HIGH);
@@ -291,19 +297,19 @@ fn refused() {
 
 fn short_output() {
     let mut output = [7u32; 14];
-    let mut room = [9u32; 320];
+    let mut room = [9u32; 5 * ROOM_PER_NODE];
     run_in(b"short output", &D, &mut output, &mut room);
 }
 
 fn enough() {
     let mut output = [7u32; 15];
-    let mut room = [9u32; 320];
+    let mut room = [9u32; 5 * ROOM_PER_NODE];
     run_in(b"output and room that fit", &D, &mut output, &mut room);
 }
 
 fn short_room() {
     let mut output = [7u32; 15];
-    let mut room = [9u32; 319];
+    let mut room = [9u32; 5 * ROOM_PER_NODE - 1];
     run_in(b"short room", &D, &mut output, &mut room);
 }
 
@@ -315,7 +321,7 @@ fn right(table: &[u32], size: usize, vars: u32) -> usize
     let mut words = [0u32; 771];
     tables::plant(&mut words, table, size, vars);
     let mut output = [0u32; 771];
-    let mut room = [0u32; 16448];
+    let mut room = [0u32; 257 * ROOM_PER_NODE];
     let r = reduce(
         first(&words, tables::tree_nodes(table, size)),
         &mut room,

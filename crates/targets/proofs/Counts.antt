@@ -8,7 +8,7 @@ use lib.ListN.{length, take}
 use lib.Dec.{leb, ltb, eqb}
 use borrow.Author.Tests.{leb-true, leb-false}
 use Rattle.naturals.specs.Natural.{value, Holds}
-use Rattle.diagram.specs.Limits.{maxVariables}
+use Rattle.diagram.specs.Limits.{maxVariables, maxNodes}
 use Rattle.diagram.specs.Diagram.{size, vars}
 use Rattle.diagram.specs.Valuations.{countOf}
 use Rattle.diagram.specs.Verdict.{Outcome, accepted, refused, said, row, andThen, verdictOf, most, Checked}
@@ -43,7 +43,7 @@ module _ {w r out : List ℕ} {k n v : ℕ} (a : Counting true w r out k n v) {m
   m-is : m ≡ most w
   m-is = is-m ∙ ap (λ (i : ℕ). max i 2) (a .targeting .is-size)
 
-  pub over-few : m ≤ 4096
+  pub over-few : m ≤ maxNodes
   over-few = let e = m-is in let few = a .targeting .accepted .formed .few in omega arith
 
   pub over-countable : Countable w r (17 * m) n

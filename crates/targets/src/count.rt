@@ -4,8 +4,8 @@ use crate::told::tell;
 use count_search::Answer;
 use count_search::counting::count_in;
 use count_search::under_count;
-use cuts::cut::SENT;
 use diagram::lengths::most;
+use diagram::limits::MAX_WORDS;
 use diagram::validate::admit;
 use diagram::verdict::Output;
 use diagram::verdict::Verdict;
@@ -54,7 +54,7 @@ fn negate_and_back(
     requires { ⌜ Fewer (now words) (now room) (now output) (value (target .words)) nodes vars ⌝ }
     ensures { λ r. ⌜ Hit (overToCount (now (words .entry)) (value (target .words))) (now (room .entry)) (now (room .exit)) (now (output .entry)) (now (output .exit)) (r .nodes) (r .trials) ⌝ }
 {
-    let mut flipped = [0u32; SENT];
+    let mut flipped = [0u32; MAX_WORDS];
     let made = negate(words, &mut flipped, nodes, vars);
     let all = power_of_two(vars);
     let left = excess(all.natural, target);
