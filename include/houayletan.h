@@ -2,7 +2,8 @@
  *
  * A diagram is three words a node: variable, low link, high link. Node 0 is the zero terminal (v, 0, 0), node 1 the one
  * terminal (v, 1, 1), v the variable count; one node alone is false, two are true; the root is the last node.
- * At most 4,096 nodes and 255 variables. Nodes may stand in any order, equal nodes and nodes with low = high are taken.
+ * At most HOUAYLETAN_NODES nodes and HOUAYLETAN_VARS variables: these and all other numbers are in houayletan_limits.h.
+ * Nodes may stand in any order, equal nodes and nodes with low = high are taken.
  * A valuation's path starts at the root and follows low for 0, high for 1; the diagram holds where the path ends at node 1.
  *
  * Any words may be offered: what is no diagram is refused, with a number and a place. Lengths are counted in words. A
@@ -12,22 +13,24 @@
  *
  * Below, n is the number of nodes of the input and m the larger of n and 2.
  *
- *   room      at least HOUAYLETAN_ROOM(n) words, 64 x m. What it holds at first does not matter. Refusal 5 and those before
- *             it leave it as it was; those after it, and all answers, leave its first 64 x m words zero and the rest as it was.
- *   output    at least HOUAYLETAN_OUTPUT(n) words, 3 x m, for a diagram; 8 x n for weights; 255 for sizes by variable,
- *             whatever the answer needs. A refusal leaves it as it was; an answer leaves it as it was beyond the result.
- *   count     8 words of 32 bits, least first.
+ *   room      at least HOUAYLETAN_ROOM(n) words, HOUAYLETAN_ROOM_PER_NODE x m. What it holds at first does not matter. Refusal
+ *             5 and those before it leave it as it was; those after it, and all answers, leave its first HOUAYLETAN_ROOM(n)
+ *             words zero and the rest as it was.
+ *   output    at least HOUAYLETAN_OUTPUT(n) words, 3 x m, for a diagram; HOUAYLETAN_WEIGHTS(n), a count for each node, for
+ *             weights; HOUAYLETAN_VARS for sizes by variable, whatever the answer needs. A refusal leaves it as it was; an
+ *             answer leaves it as it was beyond the result.
+ *   count     HOUAYLETAN_COUNT_WORDS words of 32 bits, least first.
  *
  * Numbers of refusal, in the order in which the checks run:
  *
  *   no.  given when                                                     place
  *    1   no words                                                       0
  *    2   the number of words is not a multiple of 3                     0
- *    3   more than 4,096 nodes                                          0
+ *    3   more than HOUAYLETAN_NODES nodes                               0
  *    4   the output, where there is one, is too short                   0
  *    5   the working room is too short                                  0
  *    6   node 0 or node 1 is no terminal of count v                     the first such node
- *    7   v is over 255                                                  0
+ *    7   v is over HOUAYLETAN_VARS                                      0
  *    8   a variable is v or more                                        the node
  *    9   a low link is past the nodes                                   the node
  *   10   a high link is past the nodes                                  the node
@@ -45,6 +48,7 @@
 #ifndef HOUAYLETAN_H
 #define HOUAYLETAN_H
 
+#include "houayletan_limits.h"
 #include <stddef.h>
 #include <stdint.h>
 
@@ -52,13 +56,10 @@
 extern "C" {
 #endif
 
-#define HOUAYLETAN_NODES 4096
-#define HOUAYLETAN_VARS 255
-
 /* The words of working room, of a diagram output and of a weight output for an input of n nodes. */
-#define HOUAYLETAN_ROOM(n) (64 * ((size_t)(n) < 2 ? (size_t)2 : (size_t)(n)))
+#define HOUAYLETAN_ROOM(n) (HOUAYLETAN_ROOM_PER_NODE * ((size_t)(n) < 2 ? (size_t)2 : (size_t)(n)))
 #define HOUAYLETAN_OUTPUT(n) (3 * ((size_t)(n) < 2 ? (size_t)2 : (size_t)(n)))
-#define HOUAYLETAN_WEIGHTS(n) (8 * (size_t)(n))
+#define HOUAYLETAN_WEIGHTS(n) (HOUAYLETAN_COUNT_WORDS * (size_t)(n))
 
 /* number 0: accepted, with the counts of nodes and of variables, and place 0.
  * Any other number: refused; place is as in the table, nodes and vars are 0. */
@@ -72,7 +73,7 @@ typedef struct {
 /* A verdict with a count, which is 0 where the input is refused. */
 typedef struct {
     HouayletanVerdict verdict;
-    uint32_t count[8];
+    uint32_t count[HOUAYLETAN_COUNT_WORDS];
 } HouayletanCount;
 
 /* A verdict with a count as a double, which is 0.0 where the input is refused. */
@@ -99,8 +100,8 @@ HouayletanFloat houayletan_cardinality(const uint32_t *words, size_t words_len, 
 /* How many paths lead from the root to node 1, in the array as it stands. Refusals 1 to 3 and 5 to 12. */
 HouayletanCount houayletan_exact_clause_cardinality(const uint32_t *words, size_t words_len, uint32_t *room, size_t room_len);
 
-/* For each node, in 8 words of the output, how many valuations that the diagram holds for have a path that visits it.
- * The output is 8 x n words. Refusals 1 to 12 and 15. */
+/* For each node, in HOUAYLETAN_COUNT_WORDS words of the output, how many valuations that the diagram holds for have a path
+ * that visits it. The output is HOUAYLETAN_WEIGHTS(n) words. Refusals 1 to 12 and 15. */
 HouayletanVerdict houayletan_node_valuation_weights(const uint32_t *words, size_t words_len, uint32_t *room, size_t room_len,
                                                     uint32_t *output, size_t output_len);
 
@@ -125,9 +126,9 @@ typedef struct {
     size_t trials;
 } HouayletanApproximation;
 
-/* A number of 8 words, least first: a count target, by value. */
+/* A number of as many words as a count, least first: a count target, by value. */
 typedef struct {
-    uint32_t words[8];
+    uint32_t words[HOUAYLETAN_COUNT_WORDS];
 } HouayletanNatural;
 
 /* The number of nodes of the array, and of variables. Refusals 1 to 3 and 5 to 12. */
@@ -143,7 +144,7 @@ HouayletanAmount houayletan_is_false(const uint32_t *words, size_t words_len, ui
 HouayletanAmount houayletan_is_clause(const uint32_t *words, size_t words_len, uint32_t *room, size_t room_len);
 HouayletanAmount houayletan_is_valuation(const uint32_t *words, size_t words_len, uint32_t *room, size_t room_len);
 
-/* How many nodes each variable has: the first v words of an output of at least 255. Refusals 1 to 12. */
+/* How many nodes each variable has: the first v words of an output of at least HOUAYLETAN_VARS. Refusals 1 to 12. */
 HouayletanVerdict houayletan_size_per_variable(const uint32_t *words, size_t words_len, uint32_t *room, size_t room_len,
                                                uint32_t *output, size_t output_len);
 

@@ -15,20 +15,20 @@ static inline Refused reading(const uint32_t *w, size_t len, size_t room, Output
     if (len == 0) return (Refused){1, 0};
     if (len % 3) return (Refused){2, 0};
     size_t n = len / 3, count = 0;
-    if (n > 4096) return (Refused){3, 0};
+    if (n > HOUAYLETAN_NODES) return (Refused){3, 0};
     if (output < output_asked(kind, n)) return (Refused){4, 0};
-    if (room < 64 * (n < 2 ? 2 : n)) return (Refused){5, 0};
+    if (room < HOUAYLETAN_ROOM_PER_NODE * (n < 2 ? 2 : n)) return (Refused){5, 0};
     uint32_t v = w[0];
     if (w[1] != 0 || w[2] != 0) return (Refused){6, 0};
     if (n >= 2 && (w[3] != v || w[4] != 1 || w[5] != 1)) return (Refused){6, 1};
-    if (v > 255) return (Refused){7, 0};
+    if (v > HOUAYLETAN_VARS) return (Refused){7, 0};
     for (size_t p = 2; p < n; p++) {
         if (w[3 * p] >= v) return (Refused){8, p};
         if (w[3 * p + 1] >= n) return (Refused){9, p};
         if (w[3 * p + 2] >= n) return (Refused){10, p};
     }
-    static bool met[4096];
-    static uint32_t queue[4096];
+    static bool met[HOUAYLETAN_NODES];
+    static uint32_t queue[HOUAYLETAN_NODES];
     memset(met, 0, sizeof met);
     met[n - 1] = true;
     queue[count++] = (uint32_t)n - 1;
@@ -49,7 +49,7 @@ static inline Refused reading(const uint32_t *w, size_t len, size_t room, Output
 }
 
 static inline int compare_counts(const uint32_t *a, const uint32_t *b) {
-    for (int i = 7; i >= 0; i--) {
+    for (int i = HOUAYLETAN_COUNT_WORDS - 1; i >= 0; i--) {
         if (a[i] != b[i]) return a[i] < b[i] ? -1 : 1;
     }
     return 0;
@@ -71,7 +71,7 @@ static inline Refused reading_argument(const Operation *o, const Request *q) {
     }
     if (o->argument == COUNT_TARGET) {
         bool over = o->name[0] == 'o';
-        uint32_t all[8] = {0}, none[8] = {0};
+        uint32_t all[HOUAYLETAN_COUNT_WORDS] = {0}, none[HOUAYLETAN_COUNT_WORDS] = {0};
         all[q->words[0] / 32] = (uint32_t)1 << q->words[0] % 32;
         int to_all = compare_counts(q->target, all);
         if (over && to_all > 0) return (Refused){16, 0};

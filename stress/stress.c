@@ -22,7 +22,11 @@ static uint64_t next(void) {
 static size_t below(size_t n) { return next() % n; }
 static bool one_in(size_t n) { return below(n) == 0; }
 
-#define MOST 4200
+/* The most variables, the words and bits of a count; and more nodes than are taken. */
+#define VARS HOUAYLETAN_VARS
+#define COUNT_WORDS HOUAYLETAN_COUNT_WORDS
+#define COUNT_BITS (32 * COUNT_WORDS)
+#define MOST (HOUAYLETAN_NODES + 104)
 static uint32_t words[3 * MOST], list[MOST];
 
 /* An accepted diagram of at most `most` nodes: each node but the root hangs at a free link of an earlier level, and the
@@ -30,7 +34,7 @@ static uint32_t words[3 * MOST], list[MOST];
 static size_t accepted(size_t most) {
     static uint32_t free_links[2 * MOST], var[MOST], place[MOST];
     static uint32_t link[2 * MOST];
-    uint32_t v = (uint32_t)(one_in(2) ? below(9) : one_in(8) ? 255 : below(256));
+    uint32_t v = (uint32_t)(one_in(2) ? below(9) : one_in(8) ? VARS : below(VARS + 1));
     words[0] = v, words[1] = words[2] = 0;
     if (one_in(20)) return 3;
     words[3] = v, words[4] = words[5] = 1;
@@ -82,7 +86,7 @@ static size_t accepted(size_t most) {
 static size_t damaged(size_t len) {
     if (len < 3) return len;
     size_t n = len / 3, at = below(3 * n);
-    uint32_t edges[] = {0, 1, 2, 255, 256, 65536, UINT32_MAX, (uint32_t)n, (uint32_t)n - 1, (uint32_t)n + 1, words[0], words[0] - 1};
+    uint32_t edges[] = {0, 1, 2, VARS, VARS + 1, 65536, UINT32_MAX, (uint32_t)n, (uint32_t)n - 1, (uint32_t)n + 1, words[0], words[0] - 1};
     switch (below(9)) {
     case 0: return below(len + 1);
     case 1: return 3 * below(n + 1);
@@ -103,7 +107,7 @@ static size_t damaged(size_t len) {
 
 static size_t any_words(void) {
     size_t most = below(100);
-    most = most < 80 ? 2 + below(12) : most < 95 ? 10 + below(100) : most < 99 ? 100 + below(700) : 1000 + below(3097);
+    most = most < 80 ? 2 + below(12) : most < 95 ? 10 + below(100) : most < 99 ? 100 + below(700) : 1000 + below(HOUAYLETAN_NODES - 999);
     if (one_in(50)) {
         size_t len = below(40);
         uint32_t range = one_in(2) ? 4 : UINT32_MAX;
@@ -114,7 +118,7 @@ static size_t any_words(void) {
     if (one_in(3)) {
         for (size_t times = 1 + below(3); times && len; times--) len = damaged(len);
     }
-    return one_in(5000) ? 3 * 4097 : len;
+    return one_in(5000) ? 3 * (HOUAYLETAN_NODES + 1) : len;
 }
 
 static size_t any_list(size_t n) {
@@ -127,28 +131,28 @@ static size_t any_list(size_t n) {
 }
 
 static void any_target(const Operation *o, size_t n, uint32_t v, uint32_t *target) {
-    memset(target, 0, 32);
+    memset(target, 0, COUNT_WORDS * sizeof target[0]);
     if (o->argument == SIZE_TARGET) {
         target[0] = one_in(10) ? (uint32_t)next() : (uint32_t)below(n + 3);
     } else if (o->argument == COUNT_TARGET) {
-        uint32_t bits = one_in(6) ? 256 : (v > 255 ? 255 : v) + (uint32_t)one_in(8);
+        uint32_t bits = one_in(6) ? COUNT_BITS : (v > VARS ? VARS : v) + (uint32_t)one_in(8);
         bits -= (uint32_t)below(1 + (one_in(2) ? bits : bits < 4 ? bits : 4));
-        for (uint32_t i = 0; i < 8; i++) {
+        for (uint32_t i = 0; i < COUNT_WORDS; i++) {
             uint32_t here = bits > 32 * i ? bits - 32 * i : 0;
             target[i] = here >= 32 ? (uint32_t)next() : here ? (uint32_t)next() & (((uint32_t)1 << here) - 1) : 0;
         }
-        if (one_in(10)) memset(target, 0, 32);
-        if (one_in(10) && v < 256) memset(target, 0, 32), target[v / 32] = (uint32_t)1 << v % 32;
+        if (one_in(10)) memset(target, 0, COUNT_WORDS * sizeof target[0]);
+        if (one_in(10) && v < COUNT_BITS) memset(target, 0, COUNT_WORDS * sizeof target[0]), target[v / 32] = (uint32_t)1 << v % 32;
     }
 }
 
 static unsigned long made, refused[32];
 
-static uint32_t spare_room[64 * 4096];
+static uint32_t spare_room[HOUAYLETAN_ROOM_PER_NODE * HOUAYLETAN_NODES];
 
 static void count_of(const uint32_t *w, size_t len, uint32_t *count) {
     HouayletanCount c = houayletan_exact_cardinality(w, len, spare_room, sizeof spare_room / 4);
-    memcpy(count, c.count, 32);
+    memcpy(count, c.count, sizeof c.count);
 }
 
 /* NULL, or what is wrong with an answer's diagram. */
@@ -158,7 +162,7 @@ static const char *wrong_result(const Operation *o, const Request *q, const Repl
     size_t len = r->written;
     if (len != 3 * r->value[0]) return "nodes and words of the result";
     if (reading(out, len, SIZE_MAX, NO_OUTPUT, 0).number || out[0] != q->words[0]) return "the result is no diagram";
-    uint32_t before[8], after[8];
+    uint32_t before[COUNT_WORDS], after[COUNT_WORDS];
     count_of(q->words, q->words_len, before);
     count_of(out, len, after);
     int way = compare_counts(after, before);
@@ -171,7 +175,7 @@ static const char *wrong_result(const Operation *o, const Request *q, const Repl
     if (strcmp(o->name, "reduce") == 0 && way != 0) return "the reduced diagram holds for others";
     if (strcmp(o->name, "not") == 0) {
         uint64_t sum = 0;
-        for (uint32_t i = 0; i < 8; i++) {
+        for (uint32_t i = 0; i < COUNT_WORDS; i++) {
             sum += (uint64_t)before[i] + after[i];
             if ((uint32_t)sum != (out[0] / 32 == i ? (uint32_t)1 << out[0] % 32 : 0)) return "the counts of both don't add up to all";
             sum >>= 32;
@@ -185,7 +189,7 @@ static void stop(const Operation *o, const Request *q, const Reply *r, Refused e
            r->verdict.number, r->verdict.place, q->room_len, q->output_len);
     for (size_t i = 0; i < q->list_len; i++) printf(" %u", q->list[i]);
     printf("; target");
-    for (int i = 0; i < 8; i++) printf(" %u", q->target[i]);
+    for (int i = 0; i < COUNT_WORDS; i++) printf(" %u", q->target[i]);
     printf("; words");
     for (size_t i = 0; i < q->words_len; i++) printf(" %u", q->words[i]);
     printf("\n");
@@ -217,7 +221,7 @@ static void one_request(size_t guard) {
     const Operation *o = &operations[below(OPERATIONS)];
     size_t len = any_words(), n = len / 3;
     size_t list_len = o->argument == LIST ? any_list(n) : 0;
-    uint32_t target[8];
+    uint32_t target[COUNT_WORDS];
     any_target(o, n, len ? words[0] : 0, target);
     /* one after the other, so that a seed means the same with every compiler */
     size_t room_len = any_length(HOUAYLETAN_ROOM(n));
@@ -231,11 +235,11 @@ static void one_request(size_t guard) {
 
 /* ---- the longest paths */
 
-/* 255 levels, 16 columns and a tree above them: 4,096 nodes. Each column goes to itself and to the next one. Order 0:
+/* A level for each variable, columns and a tree above them: as many nodes as are taken. Each column goes to itself and to the next one. Order 0:
  * children first; 1: children last, the root apart. */
 static size_t ladder(int order, uint32_t skew) {
-    size_t levels = 255, n = 4096, count = n - 2, start = 0;
-    static uint32_t var[4096], low[4096], high[4096];
+    size_t levels = VARS, n = HOUAYLETAN_NODES, count = n - 2, start = 0;
+    static uint32_t var[HOUAYLETAN_NODES], low[HOUAYLETAN_NODES], high[HOUAYLETAN_NODES];
     for (size_t x = 0, width = 1; x < levels; x++) {
         size_t left = count - start - width, after = levels - x - 1;
         size_t wider = x + 1 < levels ? (left / after < 2 * width ? left / after : 2 * width) : 0;
@@ -249,7 +253,7 @@ static size_t ladder(int order, uint32_t skew) {
         width = wider;
     }
     n = start + 2;
-    words[0] = words[3] = 255, words[1] = words[2] = 0, words[4] = words[5] = 1;
+    words[0] = words[3] = VARS, words[1] = words[2] = 0, words[4] = words[5] = 1;
     for (size_t i = 0; i < start; i++) {
         size_t at = order == 0 ? n - 1 - i : i == 0 ? n - 1 : i + 1;
         uint32_t links[2] = {low[i], high[i]};
@@ -262,14 +266,16 @@ static size_t ladder(int order, uint32_t skew) {
     return 3 * n;
 }
 
-/* 4,096 nodes, each linked to the next, all at one variable: refused, after the longest search there is. */
+/* The most nodes, each linked to the next, all at one variable: refused, after the longest search there is. */
 static size_t one_long_path(void) {
-    words[0] = words[3] = 255, words[1] = words[2] = 0, words[4] = words[5] = 1;
-    for (uint32_t p = 2; p < 4096; p++) words[3 * p] = 7, words[3 * p + 1] = p - 1, words[3 * p + 2] = p == 2 ? 4095 : p - 1;
-    return 3 * 4096;
+    words[0] = words[3] = VARS, words[1] = words[2] = 0, words[4] = words[5] = 1;
+    const uint32_t n = HOUAYLETAN_NODES;
+    for (uint32_t p = 2; p < n; p++) words[3 * p] = 7, words[3 * p + 1] = p - 1, words[3 * p + 2] = p == 2 ? n - 1 : p - 1;
+    return 3 * n;
 }
 
 #define STACK (256 * 1024)
+#define PAGE 4096
 static unsigned char *stack;
 static const Operation *deep_operation;
 static Request *deep_request;
@@ -301,10 +307,10 @@ static void start_thread(void) {
 }
 
 static int deep(void) {
-    if (posix_memalign((void **)&stack, 4096, STACK)) return 2;
+    if (posix_memalign((void **)&stack, PAGE, STACK)) return 2;
     thread_body = nothing;
     size_t idle = stack_used(start_thread);
-    printf("255 levels, %zu nodes, on a stack of %d KiB; bytes used beyond the %zu of an idle thread:\n", ladder(0, 0) / 3, STACK / 1024, idle);
+    printf("%d levels, %zu nodes, on a stack of %d KiB; bytes used beyond the %zu of an idle thread:\n", VARS, ladder(0, 0) / 3, STACK / 1024, idle);
     thread_body = on_own_stack;
     for (size_t i = 0; i < OPERATIONS; i++) {
         const Operation *o = &operations[i];
@@ -315,7 +321,8 @@ static int deep(void) {
                 printf("FAILED: the ladder is no diagram: %u at %zu\n", reading(words, len, SIZE_MAX, NO_OUTPUT, 0).number, reading(words, len, SIZE_MAX, NO_OUTPUT, 0).place);
                 return 1;
             }
-            uint32_t target[8] = {o->argument == SIZE_TARGET ? 300 : 1, 0, 0, 0, 0, 0, 0, o->argument == COUNT_TARGET ? 1u << 27 : 0};
+            uint32_t target[COUNT_WORDS] = {o->argument == SIZE_TARGET ? 300 : 1};
+            if (o->argument == COUNT_TARGET) target[COUNT_WORDS - 1] = 1u << 27;
             list[0] = (uint32_t)n / 2, list[1] = (uint32_t)n / 3;
             Loan l = loan(words, len, list, o->argument == LIST ? 2 : 0, HOUAYLETAN_ROOM(n), output_asked(o->output, n), 77, 16);
             Request q = request_of(&l, target);

@@ -1,6 +1,12 @@
 """The block file of document 01, read and written from its words alone; shares nothing with the proved code."""
 import struct
 
+from limits import BLOCK, BLOCK_NODES, FILE_NODES
+
+PLACE = 10                              # bytes of a node
+SUMMED = BLOCK - 4                      # bytes before the sums
+PLACES_END = SUMMED - 4                 # bytes before the number of all nodes
+
 
 def sums(front):
     """The two sums of the bytes before them."""
@@ -10,7 +16,7 @@ def sums(front):
 def block(number, held, nodes, total, room=None):
     """One block, right or not: its places, or `room` in their stead."""
     body = b''.join(struct.pack('<HII', *n) for n in nodes)
-    body = (body + bytes(500 - len(body))) if room is None else room
+    body = (body + bytes(PLACES_END - 4 - len(body))) if room is None else room
     front = struct.pack('<HH', number, held) + body + struct.pack('<I', total)
     return front + sums(front)
 
@@ -22,7 +28,7 @@ def split(words):
 def write(words):
     """The blocks of a file."""
     ns = split(words)
-    return [block(i // 50, len(ns[i:i + 50]), ns[i:i + 50], len(ns)) for i in range(0, len(ns), 50)]
+    return [block(i // BLOCK_NODES, len(ns[i:i + BLOCK_NODES]), ns[i:i + BLOCK_NODES], len(ns)) for i in range(0, len(ns), BLOCK_NODES)]
 
 
 def writer(words, lent):
@@ -32,9 +38,9 @@ def writer(words, lent):
     if len(words) % 3:
         return ('refused', 2, 0), None
     n = len(words) // 3
-    if n > 120:
+    if n > FILE_NODES:
         return ('refused', 25, 0), None
-    if lent < 512 * -(-n // 50):
+    if lent < BLOCK * -(-n // BLOCK_NODES):
         return ('refused', 4, 0), None
     for p in range(n):
         if words[3 * p] > 65535:
@@ -45,24 +51,24 @@ def writer(words, lent):
 def one(b, due, stated, output):
     """(answer, output afterwards) for the block due, tested in document 01's order; `stated` is what block 0 stated."""
     output = list(output)
-    b = b[:512]
-    if len(b) < 512:
+    b = b[:BLOCK]
+    if len(b) < BLOCK:
         return ('refused', 21, due), output
-    if sums(b[:508]) != b[508:]:
+    if sums(b[:SUMMED]) != b[SUMMED:]:
         return ('refused', 22, due), output
     number, held = struct.unpack('<HH', b[:4])
-    total, = struct.unpack('<I', b[504:508])
-    if number != due or total == 0 or (due > 0 and total != stated) or held == 0 or held != min(50, total - 50 * due):
+    total, = struct.unpack('<I', b[PLACES_END:SUMMED])
+    if number != due or total == 0 or (due > 0 and total != stated) or held == 0 or held != min(BLOCK_NODES, total - BLOCK_NODES * due):
         return ('refused', 23, due), output
-    if total > 120:
+    if total > FILE_NODES:
         return ('refused', 25, due), output
-    if any(b[4 + 10 * held:504]):
+    if any(b[4 + PLACE * held:PLACES_END]):
         return ('refused', 24, due), output
-    if 150 * due + 3 * held > len(output):
+    if 3 * BLOCK_NODES * due + 3 * held > len(output):
         return ('refused', 4, due), output
     for i in range(held):
-        at = 150 * due + 3 * i
-        output[at:at + 3] = struct.unpack('<HII', b[4 + 10 * i:14 + 10 * i])
+        at, from_ = 3 * (BLOCK_NODES * due + i), 4 + PLACE * i
+        output[at:at + 3] = struct.unpack('<HII', b[from_:from_ + PLACE])
     return ('nodes', total), output
 
 
@@ -70,12 +76,12 @@ def reader(data, output):
     """(answer, output afterwards): block by block."""
     due, stated = 0, None
     while True:
-        answer, output = one(data[512 * due:], due, stated, output)
+        answer, output = one(data[BLOCK * due:], due, stated, output)
         if answer[0] == 'refused':
             return answer, output
         stated, due = answer[1], due + 1
-        if 50 * due >= stated:
+        if BLOCK_NODES * due >= stated:
             break
-    if len(data) > 512 * due:
+    if len(data) > BLOCK * due:
         return ('refused', 21, due), output
     return ('nodes', stated), output

@@ -1,29 +1,28 @@
 """Writes crates/blocks_run/stdin and stdout: files, whole and damaged, texts and reports, and what document 01 says of
-each; crates/weigh/stdin and stdout; and the files of examples/. An argument gives another word count than 8."""
+each; crates/weigh/stdin and stdout; and the files of examples/."""
 import os
 import random
-import sys
 
 import block
 from diagram_cases import D
+from limits import BLOCK, BLOCK_NODES, COUNT, FILE_NODES, MAX_VARS, ROOM
 from reading import nodes, verdict
 from weights_cases import by_chances
 
 HERE = os.path.dirname(os.path.abspath(__file__))
 TOP = os.path.join(HERE, '..')
-LENT, ROOM = 960, 7680
-WORDS = int(sys.argv[1]) if len(sys.argv) > 1 else 8
-LIMIT = 1 << (32 * WORDS)
+LIMIT = 1 << (32 * COUNT)
+FILE_WORDS = 3 * FILE_NODES
 random.seed(23)
 # What shrink says of each number that it can meet; 4 only where its caller lends a short buffer, which the program does not.
 SENTENCES = {
     4: 'the output is too short',
-    6: "node %d is not the terminal that stands there in a diagram, with node 0's variable count", 7: 'there are more than 255 variables',
+    6: "node %d is not the terminal that stands there in a diagram, with node 0's variable count", 7: 'there are more than %s variables' % MAX_VARS,
     8: 'node %d has a variable that is not below the variable count', 9: 'node %d has a low link past the nodes',
     10: 'node %d has a high link past the nodes', 11: 'node %d has a child that is not at a larger variable', 12: "node %d can't be reached from the root",
     16: 'the count to reach is above the number of all valuations', 19: "a constant can't be cut to a count between 0 and the number of all valuations",
     21: 'a block is short or missing, or bytes stand after the last one', 22: 'a check sum is wrong',
-    23: 'a block number, a node count or the order of blocks is wrong', 24: 'unused bytes are not zero', 25: 'there are more than 120 nodes',
+    23: 'a block number, a node count or the order of blocks is wrong', 24: 'unused bytes are not zero', 25: 'there are more than %s nodes' % FILE_NODES,
 }
 
 
@@ -39,11 +38,11 @@ def said(answer):
 
 def report(data):
     """What the program prints."""
-    answer, output = block.reader(data, [0] * 360)
+    answer, output = block.reader(data, [0] * FILE_WORDS)
     if answer[0] == 'refused':
         return said(answer) + '\n'
     words = output[:3 * answer[1]]
-    judged = verdict(words, ROOM, ('weights', LENT))
+    judged = verdict(words, ROOM * FILE_NODES, ('weights', COUNT * FILE_NODES))
     if judged[0] == 'refused':
         return 'refused %d at %d\n' % judged[1:]
     if len(words) == 3:
@@ -72,12 +71,12 @@ def changed(data, at, byte):
 
 
 def resummed(b):
-    return b[:508] + block.sums(b[:508])
+    return b[:block.SUMMED] + block.sums(b[:block.SUMMED])
 
 
 def files():
     """Bytes and lengths of output."""
-    for n in (1, 2, 49, 50, 51, 99, 100, 101, 119, 120):
+    for n in (1, 2, 49, 50, 51, 99, 100, 101, FILE_NODES - 1, FILE_NODES):
         words = some(n)
         data = b''.join(block.write(words))
         yield data, 3 * n
@@ -92,7 +91,7 @@ def files():
     yield one + b'x', 3
     yield one + b'x', 0
     yield b'', 9
-    yield bytes(512), 9                                             # every sum is right, no node
+    yield bytes(BLOCK), 9                                             # every sum is right, no node
     yield one[:100], 9
     for place in (2, 504):                                          # counts, with right sums
         yield resummed(changed(one, place, 2)), 9
@@ -108,7 +107,7 @@ def files():
     yield a[0], 153
     yield a[0] + a[1] + a[1], 153
     yield a[0] + a[1], 150                                          # the second block's nodes don't fit
-    many = block.write([1, 2, 3] * 121)
+    many = block.write([1, 2, 3] * (FILE_NODES + 1))
     yield b''.join(many), 400
     yield resummed(changed(many[0], 2, 49)), 400
     yield resummed(changed(many[0], 20, 1)), 400
@@ -129,37 +128,38 @@ def files():
 
 def single_blocks():
     """A block alone: its bytes, its number, what block 0 stated, and the length of the output."""
-    many, right = block.write([1, 2, 3] * 121), block.write(some(120))
+    top, over = FILE_NODES, FILE_NODES + 1
+    many, right = block.write([1, 2, 3] * over), block.write(some(top))
     for number in (1, 2):
-        yield many[number], number, 121, 400                        # 25 at a later block
-        yield right[number], number, 120, 360
-        yield right[number], number, 119, 360
-        yield right[number], number, 120, 150 * number
-        yield right[number], 0, 120, 360
-        yield right[number][:511], number, 120, 360
-        yield changed(right[number], 511, right[number][511] ^ 1), number, 120, 0
-    yield resummed(changed(many[2], 503, 1)), 2, 121, 0             # 25, 24 and 4
-    yield resummed(changed(right[2], 503, 1)), 2, 120, 0            # 24 and 4
-    yield resummed(changed(right[2], 504, 121)), 2, 121, 400        # 23 and 25
-    yield right[0], 0, 7, 360                                       # block 0 has nothing to agree with
+        yield many[number], number, over, 400                       # 25 at a later block
+        yield right[number], number, top, FILE_WORDS
+        yield right[number], number, top - 1, FILE_WORDS
+        yield right[number], number, top, 3 * BLOCK_NODES * number
+        yield right[number], 0, top, FILE_WORDS
+        yield right[number][:-1], number, top, FILE_WORDS
+        yield changed(right[number], BLOCK - 1, right[number][-1] ^ 1), number, top, 0
+    yield resummed(changed(many[2], 503, 1)), 2, over, 0            # 25, 24 and 4
+    yield resummed(changed(right[2], 503, 1)), 2, top, 0            # 24 and 4
+    yield resummed(changed(right[2], 504, over)), 2, over, 400      # 23 and 25
+    yield right[0], 0, 7, FILE_WORDS                                     # block 0 has nothing to agree with
 
 
 def words_to_write():
-    for n in (0, 1, 50, 51, 120, 121):
+    for n in (0, 1, BLOCK_NODES, BLOCK_NODES + 1, FILE_NODES, FILE_NODES + 1):
         words = some(n)
-        size = 512 * -(-n // 50)
+        size = BLOCK * -(-n // BLOCK_NODES)
         for lent in (size, size + 3, max(size - 1, 0)):
             yield words, lent
-    yield [1, 2], 512
+    yield [1, 2], BLOCK
     yield [1, 2, 3, 4], 0
-    yield [65536, 0, 0], 512
-    yield [65536, 0, 0], 511
+    yield [65536, 0, 0], BLOCK
+    yield [65536, 0, 0], BLOCK - 1
     yield [0, 0, 0] * 2 + [70000, 1, 1] + [65536, 0, 0], 600
 
 
 def reported():
-    for words in (D, [3, 0, 0], [3, 0, 0, 3, 1, 1], chain(50), chain(100), chain(120), [255, 0, 0, 255, 1, 1, 0, 0, 1], D[:12] + [0, 2, 4],
-                  [3, 0, 0, 3, 1, 1, 2, 0, 1, 1, 0, 1], [256, 0, 0, 256, 1, 1], [9, 8, 7]):
+    for words in (D, [3, 0, 0], [3, 0, 0, 3, 1, 1], chain(50), chain(100), chain(FILE_NODES), [MAX_VARS, 0, 0, MAX_VARS, 1, 1, 0, 0, 1], D[:12] + [0, 2, 4],
+                  [3, 0, 0, 3, 1, 1, 2, 0, 1, 1, 0, 1], [MAX_VARS + 1, 0, 0, MAX_VARS + 1, 1, 1], [9, 8, 7]):
         yield b''.join(block.write(words))
     for data, _ in list(files())[70:]:
         yield data
@@ -170,7 +170,7 @@ def texts():
     hexadecimals = ['0', 'f', '10', 'ff', 'F', 'g', ':', '/', '0f', '', 'deadbeef0123456789', '%x' % (LIMIT >> 4), '%x' % (LIMIT - 1), '%x' % LIMIT,
                     '%x' % (16 * LIMIT - 1), '`', 'a0', '00']
     naturals = [0, 9, 10, 99, 100, 2 ** 32 - 1, 2 ** 32, 10 ** 19, 2 ** 64 - 1, 2 ** 64, 10 ** 20, 10 ** 77, LIMIT // 10, LIMIT - 1, LIMIT, LIMIT + 1,
-                LIMIT + 12345, 10 * LIMIT, 10 ** 78, 10 ** (10 * WORDS), LIMIT * LIMIT]
+                LIMIT + 12345, 10 * LIMIT, 10 ** 78, 10 ** (10 * COUNT), LIMIT * LIMIT]
     others = ['', '00', '01', '0' + str(LIMIT - 1), '00' + '1' * 70, 'a', '1a', 'a1', '12345678901234567890f', '-1', '+1', ' 1', '1 ', '1_000', '/', ':', '1:']
     for t in decimals:
         good = t.isdigit() and str(int(t)) == t and int(t) < 2 ** 32
@@ -204,7 +204,7 @@ def main():
     for number in list(range(28)) + [2 ** 32 - 1]:
         cases.append([7, 4095, number])
         answers.append(refused_line(number, 4095))
-    for size, after in ((0, 1), (0, 2), (1, 1), (1, 2), (2, 1), (4, 4), (4, 5), (2 ** 32 - 1, 120)):
+    for size, after in ((0, 1), (0, 2), (1, 1), (1, 2), (2, 1), (4, 4), (4, 5), (2 ** 32 - 1, FILE_NODES)):
         cases.append([8, after, size])
         answers.append('target not met: %d nodes\n' % after if after > size else '')
     for kind, text, answer in texts():
@@ -216,14 +216,14 @@ def main():
     with open(os.path.join(folder, 'stdout'), 'w') as f:
         f.write(''.join(answers))
     whole = block.write(D)[0]
-    assert whole[508:] == bytes([0x1E, 0, 0x2C, 0x0C])
+    assert whole[block.SUMMED:] == bytes([0x1E, 0, 0x2C, 0x0C])
     with open(os.path.join(TOP, 'crates', 'weigh', 'stdin'), 'wb') as f:
         f.write(whole)
     with open(os.path.join(TOP, 'crates', 'weigh', 'stdout'), 'w') as f:
         f.write(report(whole))
     examples = os.path.join(TOP, 'examples')
     os.makedirs(examples, exist_ok=True)
-    for name, data in (('D', whole), ('chain120', b''.join(block.write(chain(120)))), ('damaged', changed(whole, 30, whole[30] ^ 4)), ('false', block.write([3, 0, 0])[0])):
+    for name, data in (('D', whole), ('chain120', b''.join(block.write(chain(FILE_NODES)))), ('damaged', changed(whole, 30, whole[30] ^ 4)), ('false', block.write([3, 0, 0])[0])):
         with open(os.path.join(examples, name + '.block'), 'wb') as f:
             f.write(data)
     print(len(cases), 'cases')

@@ -5,12 +5,14 @@ import random
 import struct
 
 from diagram_cases import D, layered, terminals
-from reading import ROOM, most, room_after, verdict
+from limits import COUNT, MAX_NODES, MAX_VARS, ROOM
+from reading import most, room_after, verdict
 
 HERE = os.path.dirname(os.path.abspath(__file__))
 FOLDER = os.path.join(HERE, '..', 'crates', 'counts_run')
-OUTPUT = 12300
+OUTPUT = 3 * MAX_NODES + 12
 SHORT = 5
+DIGITS = 8 * COUNT                                      # hexadecimal ones of a count
 
 
 def node(words, p):
@@ -113,11 +115,11 @@ def line(words, room, word):
         result = negated(words)
     left = result + filled[len(result):]
     return ''.join([
-        said(plain), f', count {count(words) if ok else 0:064x}', f', paths {paths(words) if ok else 0:064x}', f', float {float_bits(words) if ok else 0:016x}',
+        said(plain), f', count {count(words) if ok else 0:0{DIGITS}x}', f', paths {paths(words) if ok else 0:0{DIGITS}x}', f', float {float_bits(words) if ok else 0:016x}',
         f', size {n}, vars {v}', f', true {yes[ok and n == 2]}, false {yes[ok and n == 1]}',
         f', clause {yes[ok and walk(words, False)]}, valuation {yes[ok and walk(words, True)]}',
         f', room zero {zeros} kept {room - zeros}',
-        f', per variable {said(per)} words', ''.join(f' {x}' for x in lists[:256]),
+        f', per variable {said(per)} words', ''.join(f' {x}' for x in lists[:MAX_VARS + 1]),
         f', short {said(short)} kept {SHORT}',
         f', not {said(dia)} nodes {len(result) // 3} words', ''.join(f' {x}' for x in left[:len(words)]), '\n'])
 
@@ -162,11 +164,11 @@ def cases():
     yield exact(D[:-1])
     yield exact([0, 0, 0, 0, 0, 0])
     yield exact([1, 0, 0, 1, 1, 1, 0, 2, 0, 0, 2, 1])
-    yield exact([256, 0, 0])
-    for v in (0, 1, 2, 5, 254, 255):
+    yield exact([MAX_VARS + 1, 0, 0])
+    for v in (0, 1, 2, 5, MAX_VARS - 1, MAX_VARS):
         yield exact(terminals(v)[:3])
         yield exact(terminals(v))
-    for v in (1, 2, 3, 8, 32, 33, 64, 255):
+    for v in (1, 2, 3, 8, 32, 33, 64, MAX_VARS):
         bits = [rng.randrange(2) for _ in range(v)]
         yield exact(chain(v, bits))
         yield exact(doubled(v))
@@ -186,7 +188,7 @@ def cases():
         v = rng.choice([1, 2, 3, 4, 5, 6, 7, 8])
         yield exact(layered(rng, rng.randrange(3, 30), v, rng.choice(['random', 'children first', 'children last'])))
     for k in range(30):
-        v = rng.choice([20, 63, 64, 100, 200, 255])
+        v = rng.choice([20, 63, 64, 100, 200, MAX_VARS])
         yield exact(layered(rng, rng.randrange(20, 200), v, rng.choice(['random', 'children first', 'children last'])))
 
 

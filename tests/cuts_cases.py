@@ -16,7 +16,8 @@ import subprocess
 import sys
 
 from diagram_cases import D, layered, terminals
-from reading import ROOM, most, nodes, room_after, verdict
+from limits import COUNT, MAX_NODES, MAX_VARS, ROOM
+from reading import most, nodes, room_after, verdict
 from weights_cases import by_chances
 
 HERE = os.path.dirname(os.path.abspath(__file__))
@@ -160,7 +161,7 @@ def number(words):
 
 
 def count_words(k):
-    return [k >> (32 * i) & 0xffffffff for i in range(8)]
+    return [k >> (32 * i) & 0xffffffff for i in range(COUNT)]
 
 
 def refusal(letter, target, words, room, lent):
@@ -202,10 +203,10 @@ def worked():
     yield 'u', [0, 4], D, None, 0, 0
     yield 'u', [0], D, 14, 0
     yield 's', [5], D, nodes(D)[2:], 5, 0
-    yield 'u', [], [255, 0, 0], None, 0, 0
-    yield 'u', [], terminals(255), [], 2 ** 255, 0
-    yield 'u', [], [256, 0, 0], 7, 0
-    yield 's', [3], terminals(256), 7, 0
+    yield 'u', [], [MAX_VARS, 0, 0], None, 0, 0
+    yield 'u', [], terminals(MAX_VARS), [], 2 ** MAX_VARS, 0
+    yield 'u', [], [MAX_VARS + 1, 0, 0], 7, 0
+    yield 's', [3], terminals(MAX_VARS + 1), 7, 0
     yield 'c', count_words(4), terminals(3), 19, 0
     # where a plausible port goes wrong
     for target, place in (([2, 9], 1), ([0, 9], 1), ([4, 5], 1), ([4294967295], 0)):
@@ -243,7 +244,7 @@ def by_hand():
         [],                                             # 1
         [3] * 4,                                        # 2
         [0, 0, 1], [1, 0, 0, 0, 1, 1], [0, 0, 0, 0, 0, 0],  # 6 at 0, at 1
-        [256, 0, 0], terminals(256) + [300, 9, 9],      # 7, also before 8
+        [MAX_VARS + 1, 0, 0], terminals(MAX_VARS + 1) + [MAX_VARS + 45, 9, 9],  # 7, also before 8
         terminals(3) + [2, 0, 1, 3, 9, 9],              # 8, 9, 10
         terminals(3) + [2, 0, 1, 2, 4, 9],
         terminals(3) + [2, 0, 1, 2, 0, 4],
@@ -256,8 +257,8 @@ def by_hand():
         for room, output in ((0, -1), (-1, 0), (-1, -1)):   # 4 and 5, and 4 before 5
             yield exact(letter, target, D, room, output)
             yield exact(letter, target, [0, 0, 0], room, output)
-        yield exact(letter, [4294967295] * len(target), [256, 0, 0])    # whatever is asked for
-    yield 'u', [2], [9] * 12291, 262144, 12288          # 3, at 4,097 nodes
+        yield exact(letter, [4294967295] * len(target), [MAX_VARS + 1, 0, 0])   # whatever is asked for
+    yield 'u', [2], [9] * 3 * (MAX_NODES + 1), ROOM * MAX_NODES, 3 * MAX_NODES  # 3, at one node more than the most
     # listed roots and terminals of constants; places in the list; 13 before 14, and whether or not the root is listed
     yield exact('o', [1], terminals(0))
     yield exact('u', [0], [0, 0, 0])
@@ -268,11 +269,11 @@ def by_hand():
         yield exact('o', target, D, 1, 1)
     for t in (0, 1, 2, 3, 4, 4294967295):
         for letter in 'st':
-            for words in ([0, 0, 0], terminals(0), [255, 0, 0], terminals(255), SINGLE, BOTH, D):
+            for words in ([0, 0, 0], terminals(0), [MAX_VARS, 0, 0], terminals(MAX_VARS), SINGLE, BOTH, D):
                 yield exact(letter, [t], words)
-    for v in (0, 1, 3, 255):                            # counts of constants, by array length and in longer arrays
+    for v in (0, 1, 3, MAX_VARS):                       # counts of constants, by array length and in longer arrays
         for letter in 'cd':
-            for k in sorted({0, 1, 2, 2 ** v - 1, 2 ** v, 2 ** v + 1, 2 ** 255, 2 ** 256 - 1}):
+            for k in sorted({0, 1, 2, 2 ** v - 1, 2 ** v, 2 ** v + 1, 2 ** MAX_VARS, 2 ** (32 * COUNT) - 1}):
                 yield exact(letter, count_words(k), [v, 0, 0])
                 yield exact(letter, count_words(k), terminals(v))
                 if v:
@@ -322,7 +323,7 @@ def at_random():
         n = rng.choice((3, 4, 4, 5, 5, 6, 6, 7, 8, 9, 12))
         words = layered(rng, n, rng.choice((1, 2, 3, 4, 5, 6, 8)) if n < 12 else rng.choice((6, 8, 33)), orders[i % 3])
         yield from requests(rng, words, lists(rng, len(words) // 3), range(len(words) // 3 + 2), 2)
-    for i, (n, v) in enumerate(((14, 255), (16, 200), (30, 40), (40, 255), (60, 12), (60, 64), (120, 255))):
+    for i, (n, v) in enumerate(((14, MAX_VARS), (16, 200), (30, 40), (40, MAX_VARS), (60, 12), (60, 64), (120, MAX_VARS))):
         words = layered(rng, n, v, orders[i % 3])
         n = len(words) // 3
         sizes = sorted({3, n // 4, n // 2, 2 * n // 3, n - 2, n - 1, n})
@@ -330,7 +331,7 @@ def at_random():
     for words in (chain(6, 0), chain(6, 1), chain(60, 0), chain(60, 1)):
         n = len(words) // 3
         yield from requests(rng, words, [[n // 2]], sorted({3, 4, n // 2, n - 1}), 1)
-    yield exact('s', [2000], layered(rng, 4096, 40))    # 4,096 nodes
+    yield exact('s', [2000], layered(rng, MAX_NODES, 40))    # the most nodes
 
 
 def requests(rng, words, targets, sizes, some):

@@ -2,7 +2,8 @@
 import os
 import random
 
-from reading import ROOM, most, room_after, verdict
+from limits import MAX_NODES, MAX_VARS, ROOM
+from reading import most, room_after, verdict
 
 HERE = os.path.dirname(os.path.abspath(__file__))
 FOLDER = os.path.join(HERE, '..', 'crates', 'diagram_run')
@@ -58,24 +59,25 @@ def cases():
     yield exact(D)
     yield exact(D, 3)                                   # a longer room keeps its rest
     yield D, ROOM * 5 - 1, 7                            # a room one word short
-    yield exact([255, 0, 0])                            # 255 variables and 256
-    yield exact([256, 0, 0])
-    yield exact(terminals(255))
-    yield exact(terminals(256))
-    yield exact(terminals(256) + [300, 9, 9])           # 7 comes before 8
-    yield [], 128, 7                                    # 1
+    over = MAX_VARS + 1
+    yield exact([MAX_VARS, 0, 0])                       # the most variables and one more
+    yield exact([over, 0, 0])
+    yield exact(terminals(MAX_VARS))
+    yield exact(terminals(over))
+    yield exact(terminals(over) + [over + 44, 9, 9])    # 7 comes before 8
+    yield [], 2 * ROOM, 7                               # 1
     yield [], 0, 7
     for k in (1, 2, 4, 5, 13, 14, 16):                  # 2
         yield exact([3] * k)
-    yield [9] * 12291, 0, 7                             # 3 comes before 5
-    yield exact(layered(rng, 4096, 255))                # 4,096 nodes and 4,097
-    yield layered(rng, 4096, 255) + [0, 0, 1], 262208, 7
+    yield [9] * 3 * (MAX_NODES + 1), 0, 7               # 3 comes before 5
+    yield exact(layered(rng, MAX_NODES, MAX_VARS))      # the most nodes and one more
+    yield layered(rng, MAX_NODES, MAX_VARS) + [0, 0, 1], ROOM * (MAX_NODES + 1), 7
     yield exact([0, 0, 1])                              # 6
     yield exact([1, 0, 0, 0, 1, 1])
     yield exact([0, 0, 0, 0, 0, 0])
-    yield exact([256, 0, 0, 255, 1, 1])
-    yield exact([256, 0, 1])
-    yield exact([256, 0, 0, 256, 1, 0])                 # 6 comes before 7
+    yield exact([over, 0, 0, MAX_VARS, 1, 1])
+    yield exact([over, 0, 1])
+    yield exact([over, 0, 0, over, 1, 0])               # 6 comes before 7
     yield exact([3, 0, 0, 3, 1, 1, 3, 0, 1])            # 8, 9, 10, each with a later fault beside it
     yield exact([3, 0, 0, 3, 1, 1, 3, 9, 9])
     yield exact([3, 0, 0, 3, 1, 1, 2, 3, 1])
@@ -93,9 +95,9 @@ def cases():
     yield exact([2, 0, 0, 2, 1, 1, 1, 0, 1, 1, 1, 0, 0, 3, 1])
     yield exact([0, 0, 0])
     yield exact(terminals(0))
-    yield [0, 0, 0], 127, 7                             # one node asks for the room of two
-    yield [0, 0, 0], 128, 7
-    yield [0, 0, 0], 130, 7
+    yield [0, 0, 0], 2 * ROOM - 1, 7                    # one node asks for the room of two
+    yield [0, 0, 0], 2 * ROOM, 7
+    yield [0, 0, 0], 2 * ROOM + 2, 7
     yield exact([1, 0, 0, 1, 1, 1, 0, 1, 1])            # low = high is accepted, and so are equal nodes
     yield exact([2, 0, 0, 2, 1, 1, 1, 0, 1, 1, 0, 1, 0, 2, 3])
     for order in ('children first', 'children last', 'random'):
@@ -104,7 +106,7 @@ def cases():
     for _ in range(300):                                # damaged: one word of an accepted array changed
         n = rng.choice((3, 4, 5, 6, 8, 12))
         words = layered(rng, n, rng.choice((4, 9)), rng.choice(('children first', 'children last', 'random')))
-        words[rng.randrange(len(words))] = rng.choice((0, 1, 2, 3, n - 1, n, 255, 4294967295))
+        words[rng.randrange(len(words))] = rng.choice((0, 1, 2, 3, n - 1, n, MAX_VARS, 4294967295))
         if rng.random() < 0.1:
             words = words[:-1]
         yield words, ROOM * most(len(words) // 3) + rng.choice((-1, 0, 0, 0, 2)), 7

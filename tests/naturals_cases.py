@@ -1,9 +1,8 @@
-"""Writes crates/naturals_run/stdout: the cases that the program runs, worked out with whole numbers of any size.
-An argument gives another word count than 8, as when WORDS is raised."""
+"""Writes crates/naturals_run/stdout: the cases that the program runs, worked out with whole numbers of any size."""
 import os
-import sys
 
-WORDS = int(sys.argv[1]) if len(sys.argv) > 1 else 8
+from limits import COUNT as WORDS
+
 LIMIT = 1 << (32 * WORDS)
 TOP = (1 << 32) - 1
 HERE = os.path.dirname(os.path.abspath(__file__))
@@ -24,6 +23,7 @@ SAMPLES = [
 SHIFTS = [0, 1, 31, 32, 33, 127, 128, 224, 255, 256, 4294967295]
 DIVISORS = [0, 1, 3, 10, 65536, 2147483649, 4294967295]
 PLACES = [0, 1, 11, 12, 13, 20, 2**64 - 8, 2**64 - 1]
+ROOM = WORDS + 12       # words of the slice that is loaded from
 lines = []
 
 
@@ -79,12 +79,12 @@ for k in SHIFTS:
     lines.append(f'word {k} {k:x}')
 lines.append('zero 0')
 for at in PLACES:
-    s = [2863311530 + i for i in range(20)]
+    s = [2863311530 + i for i in range(ROOM)]
     load(s, at)
     compare_at(s, at, 1)
     compare_at(s, 1, at)
     store(s, at)
-s = [1] + [0] * (WORDS - 1) + [2] + [0] * (19 - WORDS)
+s = [1] + [0] * (WORDS - 1) + [2] + [0] * (ROOM - WORDS - 1)
 compare_at(s, 0, WORDS)
 compare_at(s, WORDS, 0)
 compare_at(s, 1, WORDS + 1)

@@ -7,6 +7,7 @@
    as CRATE/EDIT; every edit cited there exists.
 3. Every name in backquotes in docs/PROMISES.md exists: as a definition, field, function or file of the crates, or, word by
    word, in their text.
+4. The numbers of document 01 are the same in the code, in the definitions, for C, for Rust and for the scripts.
 
 It reads the crates as text. `--edits` prints the edits with what each one breaks; `--believed` prints the files that must be believed, with their lines and those without comments and
 imports, and the definitions in them that no promise leads to."""
@@ -167,6 +168,26 @@ for quoted in set(re.findall(r"`([^`\n]+)`", promises)):
 for path in set(re.findall(r"\bcrates/[\w/.-]+\.(?:rt|antt)", promises)):
     if not os.path.isfile(path):
         amiss.append(f"{PROMISES}: {path} is not there")
+
+# ---- numbers
+# Each number's name in the files that may say it as a numeral: the code's, the definitions', C's, Rust's and the scripts'.
+CODE, SAID, C, RUST, PYTHON = (r"const {} *: \w+ = (\d+);", r"^{} = (\d+)$", r"^#define {} (\d+)$", r"const {}: usize = (\d+);", r"^{} = (\d+)\b")
+LIMITS, OUTSIDE = "crates/diagram/src/limits.rt", ("include/houayletan_limits.h", "bindings/rust/src/limits.rs", "tests/limits.py")
+NUMBERS = [
+    (LIMITS, "MAX_NODES", "crates/diagram/specs/Limits.antt", "maxNodes", "HOUAYLETAN_NODES", "MOST_NODES", "MAX_NODES"),
+    (LIMITS, "MAX_VARIABLES", "crates/diagram/specs/Limits.antt", "maxVariables", "HOUAYLETAN_VARS", "MOST_VARS", "MAX_VARS"),
+    (LIMITS, "ROOM_PER_NODE", "crates/diagram/specs/Limits.antt", "roomPerNode", "HOUAYLETAN_ROOM_PER_NODE", "ROOM_PER_NODE", "ROOM"),
+    ("crates/naturals/src/lib.rt", "WORDS", "crates/naturals/specs/Natural.antt", "wordCount", "HOUAYLETAN_COUNT_WORDS", "COUNT_WORDS", "COUNT"),
+    ("crates/blocks/src/layout.rt", "BLOCK", "crates/blocks/specs/Block.antt", "blockBytes", None, None, "BLOCK"),
+    ("crates/blocks/src/layout.rt", "NODES", "crates/blocks/specs/Block.antt", "blockNodes", None, None, "BLOCK_NODES"),
+    ("crates/blocks/src/layout.rt", "MOST", "crates/blocks/specs/Block.antt", "maxStored", None, None, "FILE_NODES"),
+]
+for code, name, definitions_file, defined_as, *outside in NUMBERS:
+    places = [(code, CODE, name), (definitions_file, SAID, defined_as)]
+    places += [(path, shape, there) for path, shape, there in zip(OUTSIDE, (C, RUST, PYTHON), outside) if there]
+    found = {path: re.findall(shape.format(there), text_of(path), re.M) for path, shape, there in places}
+    if any(len(numerals) != 1 or numerals != found[code] for numerals in found.values()):
+        amiss.append(f"{name} of {code} is not one number everywhere: {found}")
 
 if "--believed" in sys.argv:
     total = plain = 0

@@ -9,6 +9,7 @@ import block
 from blocks_cases import SENTENCES, chain, changed, refused_line, report, resummed
 from cuts_cases import count, count_words, cuts, flat, refusal
 from diagram_cases import D
+from limits import BLOCK, COUNT, FILE_NODES, MAX_VARS, ROOM
 from reading import nodes
 
 FOLDER = os.path.join(os.path.dirname(os.path.abspath(__file__)), 'programs')
@@ -24,6 +25,8 @@ Reads a block file on standard input and writes it cut to fit to standard output
 keep only adds cases, suppress only loses them. Numbers are decimal but for hex, with no zeros in front.
 """
 FALSE, TRUE = [3, 0, 0], [3, 0, 0, 3, 1, 1]
+# The longest word that the program looks at: as many digits as a count may have.
+WORD = 10 * COUNT
 
 
 def file_of(words):
@@ -40,14 +43,14 @@ def twice(n):
 
 def shrunk(direction, kind, target, data):
     """Standard output and standard error."""
-    answer, output = block.reader(data, [0] * 360)
+    answer, output = block.reader(data, [0] * 3 * FILE_NODES)
     if answer[0] == 'refused':
         return refused(*answer[1:])
     words = output[:3 * answer[1]]
     counted = kind != 'size'
     letter = {('suppress', False): 's', ('keep', False): 't', ('suppress', True): 'c', ('keep', True): 'd'}[direction, counted]
     wanted = count_words(target) if counted else [target]
-    said = refusal(letter, wanted, words, 64 * 120, 360)
+    said = refusal(letter, wanted, words, ROOM * FILE_NODES, 3 * FILE_NODES)
     if said[0] == 'refused':
         return refused(*said[1:])
     made, trials = cuts(letter, wanted, words)
@@ -63,25 +66,25 @@ def shrunk(direction, kind, target, data):
 
 
 def weighed():
-    d, big = file_of(D), file_of(chain(120))
+    d, big = file_of(D), file_of(chain(FILE_NODES))
     return {
-        'weigh-D': d, 'weigh-false': file_of(FALSE), 'weigh-true': file_of(TRUE), 'weigh-empty': b'', 'weigh-short': d[:511], 'weigh-trailing': d + b'\0',
-        'weigh-22': changed(d, 508, 0), 'weigh-23': resummed(changed(d, 0, 1)), 'weigh-24': resummed(changed(d, 503, 1)),
-        'weigh-25': b''.join(block.write(chain(121))), 'weigh-second-block': big[:512] + changed(big[512:1024], 9, 7) + big[1024:],
+        'weigh-D': d, 'weigh-false': file_of(FALSE), 'weigh-true': file_of(TRUE), 'weigh-empty': b'', 'weigh-short': d[:-1], 'weigh-trailing': d + b'\0',
+        'weigh-22': changed(d, block.SUMMED, 0), 'weigh-23': resummed(changed(d, 0, 1)), 'weigh-24': resummed(changed(d, 503, 1)),
+        'weigh-25': b''.join(block.write(chain(FILE_NODES + 1))), 'weigh-second-block': big[:BLOCK] + changed(big[BLOCK:2 * BLOCK], 9, 7) + big[2 * BLOCK:],
         'weigh-50': file_of(chain(50)), 'weigh-100': file_of(chain(100)), 'weigh-120': big, 'weigh-unordered': file_of([1, 0, 0, 1, 1, 1, 0, 2, 0, 0, 2, 1]),
     }
 
 
 def wide():
-    """A diagram over 255 variables that holds for half of all valuations: x254."""
-    return [255, 0, 0, 255, 1, 1, 254, 0, 1]
+    """A diagram over the most variables that holds for half of all valuations: the last variable."""
+    return [MAX_VARS, 0, 0, MAX_VARS, 1, 1, MAX_VARS - 1, 0, 1]
 
 
 def broken():
     """A file for each refusal that can come up, and the words of a request."""
-    d, big = file_of(D), file_of(chain(120))
+    d, big = file_of(D), file_of(chain(FILE_NODES))
     ends = TRUE
-    diagrams = {6: [3, 0, 0, 3, 1, 2], 7: [256, 0, 0, 256, 1, 1], 8: ends + [3, 0, 1], 9: ends + [0, 3, 1], 10: ends + [0, 0, 3], 11: ends + [0, 2, 1],
+    diagrams = {6: [3, 0, 0, 3, 1, 2], 7: [MAX_VARS + 1, 0, 0, MAX_VARS + 1, 1, 1], 8: ends + [3, 0, 1], 9: ends + [0, 3, 1], 10: ends + [0, 0, 3], 11: ends + [0, 2, 1],
                 12: ends + [2, 0, 1, 1, 0, 1]}
     for number, words in diagrams.items():
         yield number, 'keep', 'size', 4, file_of(words)
@@ -89,14 +92,14 @@ def broken():
     yield 19, 'suppress', 'cases', 4, file_of(TRUE)
     yield 19, 'keep', 'hex', 4, file_of(FALSE)
     yield 21, 'keep', 'size', 4, b''
-    yield 21, 'suppress', 'size', 4, d[:511]
+    yield 21, 'suppress', 'size', 4, d[:-1]
     yield 21, 'keep', 'size', 4, d + b'\0'
-    yield 21, 'keep', 'size', 4, big + bytes(512)
-    yield 22, 'suppress', 'cases', 1, changed(d, 508, 0)
-    yield 22, 'keep', 'size', 4, big[:512] + changed(big[512:1024], 9, 7) + big[1024:]
+    yield 21, 'keep', 'size', 4, big + bytes(BLOCK)
+    yield 22, 'suppress', 'cases', 1, changed(d, block.SUMMED, 0)
+    yield 22, 'keep', 'size', 4, big[:BLOCK] + changed(big[BLOCK:2 * BLOCK], 9, 7) + big[2 * BLOCK:]
     yield 23, 'keep', 'size', 4, resummed(changed(d, 0, 1))
     yield 24, 'keep', 'size', 4, resummed(changed(d, 503, 1))
-    yield 25, 'keep', 'size', 4, b''.join(block.write(chain(121)))
+    yield 25, 'keep', 'size', 4, b''.join(block.write(chain(FILE_NODES + 1)))
 
 
 def asked():
@@ -104,9 +107,9 @@ def asked():
     d = file_of(D)
     requests = [(a, 'size', t, d) for a in ('keep', 'suppress') for t in (0, 1, 2, 3, 4, 5, 40, 2 ** 32 - 1)]
     requests += [(a, b, t, d) for a in ('keep', 'suppress') for b in ('cases', 'hex') for t in (0, 1, 4, 5, 6, 8, 10)]
-    requests += [(a, 'size', 40, file_of(chain(n))) for a in ('keep', 'suppress') for n in (50, 100, 120)]
-    requests += [('keep', b, 2 ** 64, file_of(chain(120))) for b in ('cases', 'hex')]
-    requests += [(a, b, t, file_of(wide())) for a in ('keep', 'suppress') for b in ('cases', 'hex') for t in (2 ** 253 + 1, 2 ** 254 + 2 ** 128 + 7, 2 ** 255)]
+    requests += [(a, 'size', 40, file_of(chain(n))) for a in ('keep', 'suppress') for n in (50, 100, FILE_NODES)]
+    requests += [('keep', b, 2 ** 64, file_of(chain(FILE_NODES))) for b in ('cases', 'hex')]
+    requests += [(a, b, t, file_of(wide())) for a in ('keep', 'suppress') for b in ('cases', 'hex') for t in (2 ** (MAX_VARS - 2) + 1, 2 ** (MAX_VARS - 1) + 2 ** 128 + 7, 2 ** MAX_VARS)]
     requests += [('keep', 'size', 1, file_of(FALSE)), ('keep', 'size', 0, file_of(FALSE)), ('suppress', 'size', 0, file_of(FALSE))]
     seen = set()
     for number, *request in broken():
@@ -117,11 +120,12 @@ def asked():
     others = [([], HELP)]
     others += [(w.split(), UNKNOWN) for w in (
         'keep', 'keep size', 'keep size 4 5', 'grow size 4', 'suppress sise 4', 'keep size 04', 'keep size -1', 'keep size 1f', 'keep size 4294967296',
-        'keep hex 1F', 'keep hex 0x6', 'suppress hex 00', 'Keep size 4', 'keep hex 1' + 64 * '0', 'keep cases 1f', 'keep cases 06', 'keep cases ' + str(2 ** 256),
+        'keep hex 1F', 'keep hex 0x6', 'suppress hex 00', 'Keep size 4', 'keep hex 1' + 8 * COUNT * '0', 'keep cases 1f', 'keep cases 06', 'keep cases ' + str(2 ** (32 * COUNT)),
         'suppress cases +5', 'keep keep 4', 'size keep 4')]
     others += [(w, UNKNOWN) for w in (['', 'size', '4'], ['keep', '', '4'], ['keep', 'size', ''], ['', '', ''], ['keep', 'cases', ''], ['keep', 'size', ' 4'], [''])]
     # words longer than the program looks at, also where their first bytes would be taken
-    others += [(w, UNKNOWN) for w in (['keep', 'size', 81 * '4'], ['keep', 'cases', 79 * '0' + '55'], ['keep' + 100 * 'p', 'size', '4'], ['keep', 'size' + 77 * 'e', '4'], ['keep', 'size', 4000 * '1'])]
+    others += [(w, UNKNOWN) for w in (['keep', 'size', (WORD + 1) * '4'], ['keep', 'cases', (WORD - 1) * '0' + '55'], ['keep' + (WORD + 20) * 'p', 'size', '4'],
+                                  ['keep', 'size' + (WORD - 3) * 'e', '4'], ['keep', 'size', 4000 * '1'])]
     others += [(w.split(), WHICH) for w in ('keep count 6', 'suppress count 1f', 'keep count x')]
     others += [(['keep', 'count', ''], WHICH), ('grow count 6'.split(), UNKNOWN), ('keep count'.split(), UNKNOWN)]
     return requests, others

@@ -1,7 +1,6 @@
 """An executable reading of document 01, written from the paper alone: the expected output of the test programs is made
 with it. It shares no code and no method with the library: sets and dictionaries, no limits on depth or size."""
-
-MAX_NODES, MAX_VARS, ROOM, COUNT = 4096, 255, 64, 8
+from limits import COUNT, MAX_NODES, MAX_VARS, ROOM
 
 
 def nodes(words):

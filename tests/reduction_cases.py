@@ -4,7 +4,8 @@ import os
 import random
 import sys
 
-from reading import ROOM, most, room_after, verdict
+from limits import MAX_NODES, MAX_VARS, ROOM
+from reading import most, room_after, verdict
 
 sys.setrecursionlimit(10000)
 HERE = os.path.dirname(os.path.abspath(__file__))
@@ -194,9 +195,9 @@ WORKED = [
 REFUSED = [
     [],
     [3, 0, 0, 3],
-    [0] * 12291,
+    [0] * 3 * (MAX_NODES + 1),
     [3, 0, 0, 3, 1, 0],
-    [256, 0, 0],
+    [MAX_VARS + 1, 0, 0],
     [3, 0, 0, 3, 1, 1, 3, 0, 1],
     [3, 0, 0, 3, 1, 1, 0, 3, 1],
     [3, 0, 0, 3, 1, 1, 0, 1, 3],
@@ -214,7 +215,7 @@ for nodes in (constant(0), constant(1), odd(), few(), every()):
 for words in REFUSED:
     lines += [line(words, ROOM * most(len(words) // 3) + 3, 7, 3 * most(len(words) // 3) + 4, 9, by_table)]
 # an output and a room that are a word too short
-lines += [line(D, 320, 7, 14, 9, by_table), line(D, 319, 7, 15, 9, by_table)]
+lines += [line(D, 5 * ROOM, 7, 14, 9, by_table), line(D, 5 * ROOM - 1, 7, 15, 9, by_table)]
 rng = random.Random(1986)
 for v in range(4):
     for f in range(2 ** 2 ** v):

@@ -7,7 +7,8 @@ from fractions import Fraction
 from itertools import product
 
 from diagram_cases import D, layered, terminals
-from reading import COUNT, ROOM, most, nodes, room_after, verdict
+from limits import COUNT, MAX_NODES, MAX_VARS, ROOM
+from reading import most, nodes, room_after, verdict
 
 HERE = os.path.dirname(os.path.abspath(__file__))
 FOLDER = os.path.join(HERE, '..', 'crates', 'weights_run')
@@ -78,30 +79,30 @@ def cases():
     yield exact([3, 0, 0], 2, 2)
     yield exact([3, 0, 0], 0, -1)                       # 4 and 5 come before it
     yield exact([3, 0, 0], -1, 0)
-    yield exact([256, 0, 0])                            # and so does 7
-    for v in (0, 1, 31, 32, 254, 255):
+    yield exact([MAX_VARS + 1, 0, 0])                   # and so does 7
+    for v in (0, 1, 31, 32, MAX_VARS - 1, MAX_VARS):
         yield exact(terminals(v))
-    yield exact(terminals(256))
-    yield [], 128, 8                                    # 1
+    yield exact(terminals(MAX_VARS + 1))
+    yield [], 2 * ROOM, COUNT                           # 1
     yield exact([3] * 4)                                # 2
-    yield [9] * 12291, 262144, 32776                    # 3
+    yield [9] * 3 * (MAX_NODES + 1), ROOM * MAX_NODES, COUNT * (MAX_NODES + 1)  # 3
     yield exact([1, 0, 0, 0, 1, 1])                     # 6
     yield exact([3, 0, 0, 3, 1, 1, 3, 0, 1])            # 8, 9, 10
     yield exact([3, 0, 0, 3, 1, 1, 2, 3, 1])
     yield exact([3, 0, 0, 3, 1, 1, 2, 0, 3])
     yield exact([1, 0, 0, 1, 1, 1, 0, 2, 1])            # 11
     yield exact([2, 0, 0, 2, 1, 1, 1, 0, 1, 1, 0, 1])   # 12
-    for links in ((0, 1), (1, 0), (1, 1), (0, 0)):      # one node, first and last variable of 255, low = high among them
-        yield exact(terminals(255) + [0, *links])
-        yield exact(terminals(255) + [254, *links])
+    for links in ((0, 1), (1, 0), (1, 1), (0, 0)):      # one node, first and last variable of the most, low = high among them
+        yield exact(terminals(MAX_VARS) + [0, *links])
+        yield exact(terminals(MAX_VARS) + [MAX_VARS - 1, *links])
     yield exact([2, 0, 0, 2, 1, 1, 1, 0, 1, 1, 0, 1, 0, 2, 3])
-    for v in (8, 255):                                  # conjunctions: every weight is 1, but node 0's
+    for v in (8, MAX_VARS):                             # conjunctions: every weight is 1, but node 0's
         chain = [(v - 1 - i, 0, 1 + i) for i in range(v)]
         yield exact(terminals(v) + [x for node in chain for x in node])
     for order in ('children first', 'children last', 'random'):
-        for n, v in ((10, 255), (60, 33), (60, 255), (200, 64), (300, 12)):
+        for n, v in ((10, MAX_VARS), (60, 33), (60, MAX_VARS), (200, 64), (300, 12)):
             yield exact(layered(rng, n, v, order), rng.choice((0, 1)), rng.choice((0, 2)))
-    yield exact(layered(rng, 4096, 40))
+    yield exact(layered(rng, MAX_NODES, 40))
     for _ in range(250):                                # few variables: every path is followed
         n = rng.choice((3, 4, 5, 6, 9, 14, 30))
         order = rng.choice(('children first', 'children last', 'random'))

@@ -1,4 +1,5 @@
 //! Accepted diagrams of a given size, from a seed.
+use crate::limits::MOST_VARS;
 
 /// Numbers from a seed (splitmix64).
 pub struct Random(pub u64);
@@ -172,7 +173,7 @@ pub fn vars_of(family: Family) -> usize {
     match family {
         Family::Wide => 32,
         Family::Unreduced => 64,
-        Family::Chain | Family::Columns => 255,
+        Family::Chain | Family::Columns => MOST_VARS,
         _ => 128,
     }
 }

@@ -1,16 +1,19 @@
 //! Times the Rust text and the proved library side by side, and compares what they answer.
 mod generate;
+#[path = "../../bindings/rust/src/limits.rs"]
+mod limits;
 mod operations;
 mod ours;
 
 use generate::{diagram, vars_of, Random, FAMILIES};
+use limits::{MOST_NODES, ROOM_PER_NODE};
 use operations::{Case, Lent, Operation, OPERATIONS};
 use num_bigint::BigUint;
 use rust_text::Bdd;
 use std::hint::black_box;
 use std::time::Instant;
 
-const SIZES: [usize; 5] = [256, 512, 1024, 2048, 4096];
+const SIZES: [usize; 5] = [MOST_NODES / 16, MOST_NODES / 8, MOST_NODES / 4, MOST_NODES / 2, MOST_NODES];
 /// A row is measured over several diagrams, this many nodes together at every size: over one alone, small ones would be
 /// quicker a node for the processor's memory of past branches only.
 const NODES_A_ROW: usize = 16384;
@@ -49,7 +52,7 @@ fn least(x: [f64; 2]) -> f64 {
 
 fn measure(operation: &Operation, cases: &[Case], lent: &mut Lent) -> (f64, Option<f64>, f64) {
     let rust = time(cases, |case| (operation.rust)(black_box(case)));
-    let clear = time(cases, |case| ours::clear(black_box(&mut lent.room), black_box(64 * case.nodes())));
+    let clear = time(cases, |case| ours::clear(black_box(&mut lent.room), black_box(ROOM_PER_NODE * case.nodes())));
     let ours = operation.ours.map(|ours| time(cases, |case| ours(black_box(case), black_box(lent))));
     (rust, ours, clear)
 }
@@ -84,7 +87,7 @@ fn many_cuts(lent: &mut Lent) {
         let start = Instant::now();
         let theirs = black_box(bdd.underapproximate_to_cardinality(&count));
         times[0][pass] = start.elapsed().as_nanos() as f64;
-        let (room, output) = (&mut lent.room[..64 * nodes], &mut lent.output[..3 * nodes]);
+        let (room, output) = (&mut lent.room[..ROOM_PER_NODE * nodes], &mut lent.output[..3 * nodes]);
         let start = Instant::now();
         let made = black_box(ours::underapproximate_to_cardinality(&words, operations::natural(&count), room, output));
         times[1][pass] = start.elapsed().as_nanos() as f64;
@@ -164,7 +167,7 @@ fn ns(x: f64) -> String {
 
 fn print(rows: &[Row]) {
     let last = *SIZES.last().unwrap();
-    println!("Times in ns a call: the smaller of two passes' medians. `clearing`: one clearing of the working room, 64 words a node.");
+    println!("Times in ns a call: the smaller of two passes' medians. `clearing`: one clearing of the working room, {ROOM_PER_NODE} words a node.");
     println!("`growth`, in the last row of a family: the time at {last} nodes over that at {} (linear is 16).\n", SIZES[0]);
     println!("one clearing of the working room\n\n| nodes | words | time | growth |\n|--:|--:|--:|---|");
     let clearing = |n: usize| {
@@ -174,7 +177,7 @@ fn print(rows: &[Row]) {
     };
     for n in SIZES {
         let growth = if n == last { format!("{:.1}", clearing(n) / clearing(SIZES[0])) } else { "".into() };
-        println!("| {n} | {} | {} | {growth} |", 64 * n, ns(clearing(n)));
+        println!("| {n} | {} | {} | {growth} |", ROOM_PER_NODE * n, ns(clearing(n)));
     }
     let mut operation = "";
     for (i, row) in rows.iter().enumerate() {

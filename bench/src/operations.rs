@@ -1,4 +1,5 @@
 //! The operations that are timed: the Rust text's, and ours where it is exported.
+use crate::limits::{COUNT_WORDS, ROOM_PER_NODE};
 use crate::ours;
 use num_bigint::BigUint;
 use rust_text::Bdd;
@@ -13,7 +14,7 @@ pub struct Lent {
 
 impl Lent {
     pub fn new(nodes: usize) -> Lent {
-        Lent { room: vec![0; 64 * nodes], output: vec![0; 8 * nodes] }
+        Lent { room: vec![0; ROOM_PER_NODE * nodes], output: vec![0; COUNT_WORDS * nodes] }
     }
 }
 
@@ -39,10 +40,10 @@ impl Case {
     }
     /// Our working room and an output: exactly the words that are asked for.
     fn room<'a>(&self, lent: &'a mut Lent) -> &'a mut [u32] {
-        &mut lent.room[..64 * self.nodes()]
+        &mut lent.room[..ROOM_PER_NODE * self.nodes()]
     }
     fn lent<'a>(&self, lent: &'a mut Lent, output: usize) -> (&'a mut [u32], &'a mut [u32]) {
-        (&mut lent.room[..64 * self.nodes()], &mut lent.output[..output * self.nodes()])
+        (&mut lent.room[..ROOM_PER_NODE * self.nodes()], &mut lent.output[..output * self.nodes()])
     }
 }
 
@@ -103,13 +104,13 @@ pub const OPERATIONS: [Operation; 12] = [
         targets: false,
         rust: |c| _ = black_box(c.bdd.node_valuation_weights()),
         ours: Some(|c, lent| {
-            let (room, output) = c.lent(lent, 8);
+            let (room, output) = c.lent(lent, COUNT_WORDS);
             _ = black_box(ours::node_valuation_weights(&c.words, room, output));
         }),
         compare: |c, lent| {
-            let (room, output) = c.lent(lent, 8);
+            let (room, output) = c.lent(lent, COUNT_WORDS);
             assert_eq!(ours::node_valuation_weights(&c.words, room, output).number, 0);
-            let ours: Vec<BigUint> = output.chunks(8).map(BigUint::from_slice).collect();
+            let ours: Vec<BigUint> = output.chunks(COUNT_WORDS).map(BigUint::from_slice).collect();
             assert_eq!(ours, c.bdd.node_valuation_weights());
         },
     },
@@ -189,9 +190,9 @@ pub const OPERATIONS: [Operation; 12] = [
     },
 ];
 
-/// A count target as eight words.
+/// A count target as words.
 pub fn natural(count: &BigUint) -> ours::Natural {
-    let mut words = [0; 8];
+    let mut words = [0; COUNT_WORDS];
     count.iter_u32_digits().zip(&mut words).for_each(|(digit, word)| *word = digit);
     ours::Natural { words }
 }

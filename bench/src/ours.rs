@@ -1,4 +1,5 @@
 //! The functions of include/houayletan.h. None has a precondition but that pointers and lengths are those of slices.
+use crate::limits::COUNT_WORDS;
 
 #[repr(C)]
 pub struct Verdict {
@@ -11,7 +12,7 @@ pub struct Verdict {
 #[repr(C)]
 pub struct Count {
     pub verdict: Verdict,
-    pub count: [u32; 8],
+    pub count: [u32; COUNT_WORDS],
 }
 
 #[repr(C)]
@@ -35,7 +36,7 @@ pub struct Approximation {
 
 #[repr(C)]
 pub struct Natural {
-    pub words: [u32; 8],
+    pub words: [u32; COUNT_WORDS],
 }
 
 extern "C" {

@@ -1,4 +1,5 @@
 //! Accepted diagrams of many families, and damaged ones.
+use crate::limits::MOST_VARS;
 use crate::random::Random;
 use crate::reading;
 
@@ -34,11 +35,11 @@ fn var_count(random: &mut Random, least: usize, most: usize) -> usize {
     let few = if most < 40 { 5 } else { 1 };
     let v = match random.below(few + 5) {
         0..=1 => random.from_to(9, 40),
-        2..=3 => random.from_to(20, 254),
-        4 => 255,
+        2..=3 => random.from_to(20, MOST_VARS - 1),
+        4 => MOST_VARS,
         _ => random.from_to(0, 8),
     };
-    v.max(least).min(255)
+    v.max(least).min(MOST_VARS)
 }
 
 fn constant(random: &mut Random, most: usize) -> Vec<u32> {
@@ -378,13 +379,13 @@ fn damaged_once(random: &mut Random, mut words: Vec<u32>) -> Vec<u32> {
         2 => words.push(random.word()),
         3 => words.extend([random.below(n + 1) as u32, random.below(n + 2) as u32, random.below(n + 2) as u32]),
         4 => words[at] = random.word(),
-        5 => words[at] = random.pick(&[0, 1, 2, 255, 256, 65535, 65536, u32::MAX, 1 << 31]),
+        5 => words[at] = random.pick(&[0, 1, 2, MOST_VARS as u32, MOST_VARS as u32 + 1, 65535, 65536, u32::MAX, 1 << 31]),
         6 => words[at] = (n + random.below(3)).saturating_sub(1) as u32,
         7 => words[at] = random.below(n + 1) as u32,
         8 => words[at] = words[at].wrapping_add(random.pick(&[1, u32::MAX])),
         // the variable count, at one terminal or at both
         9 => {
-            let v = random.pick(&[0, 1, words[0].wrapping_sub(1), words[0].wrapping_add(1), 255, 256, words[0].wrapping_add(65536)]);
+            let v = random.pick(&[0, 1, words[0].wrapping_sub(1), words[0].wrapping_add(1), MOST_VARS as u32, MOST_VARS as u32 + 1, words[0].wrapping_add(65536)]);
             words[0] = v;
             if n > 1 && random.below(4) > 0 {
                 words[3] = v;

@@ -9,6 +9,7 @@ mod reference;
 mod request;
 mod safe;
 
+use houayletan::limits::{self, COUNT_WORDS, MOST_NODES};
 use num_bigint::BigUint;
 use random::Random;
 use request::{Argument, Operation, Request, OPERATIONS};
@@ -22,8 +23,8 @@ fn most_nodes(random: &mut Random) -> usize {
         30..=59 => random.from_to(8, 64),
         60..=84 => random.from_to(40, 500),
         85..=94 => random.from_to(400, 2000),
-        95..=97 => random.from_to(2000, 4096),
-        _ => 4096,
+        95..=97 => random.from_to(2000, MOST_NODES),
+        _ => MOST_NODES,
     }
 }
 
@@ -37,9 +38,9 @@ fn words(random: &mut Random, most: usize) -> (Vec<u32>, usize, bool) {
             ((0..len).map(|_| random.below(4) as u32).collect(), family, true)
         }
         1 if random.one_in(4) => {
-            // 4,096 nodes and one more
+            // the most nodes and one more
             let mut words = words;
-            words.resize(3 * random.from_to(4096, 4097) + random.below(2), 1);
+            words.resize(3 * random.from_to(MOST_NODES, MOST_NODES + 1) + random.below(2), 1);
             (words, family, true)
         }
         2..=11 => (generate::damaged(random, words), family, true),
@@ -77,9 +78,9 @@ fn size_target(random: &mut Random, n: usize) -> u32 {
     }
 }
 
-fn count_target(random: &mut Random, words: &[u32]) -> [u32; 8] {
+fn count_target(random: &mut Random, words: &[u32]) -> [u32; COUNT_WORDS] {
     let accepted = reading::check(words, usize::MAX, reading::Output::Nothing, 0);
-    let any = BigUint::from_slice(&[0; 8].map(|_| random.word())) >> random.below(257);
+    let any = BigUint::from_slice(&[0; COUNT_WORDS].map(|_| random.word())) >> random.below(32 * COUNT_WORDS + 1);
     let Ok((_, v)) = accepted else {
         return fitted(&any);
     };
@@ -103,8 +104,8 @@ fn count_target(random: &mut Random, words: &[u32]) -> [u32; 8] {
     })
 }
 
-fn fitted(count: &BigUint) -> [u32; 8] {
-    let mut words = [0; 8];
+fn fitted(count: &BigUint) -> [u32; COUNT_WORDS] {
+    let mut words = [0; COUNT_WORDS];
     for (to, from) in words.iter_mut().zip(count.to_u32_digits()) {
         *to = from;
     }
@@ -141,8 +142,8 @@ fn main() {
     let mut tally = vec![[0u64; 2]; OPERATIONS.len()];
     let mut refusals: BTreeMap<u32, u64> = BTreeMap::new();
     let mut families = [[0u64; 2]; generate::FAMILIES.len()];
-    // by nodes of the words offered: below 16, 256, 2048, 4096, and 4,096 or more
-    const SIZES: [usize; 5] = [16, 256, 2048, 4096, usize::MAX];
+    // by nodes of the words offered: below each of these
+    const SIZES: [usize; 5] = [16, 256, 2048, MOST_NODES, usize::MAX];
     let mut sizes = [0u64; 5];
     let (mut compared, mut most, mut most_vars, mut most_trials, mut safe) = (0, 0, 0, 0, 0u64);
     while compared < requests {
@@ -179,7 +180,7 @@ fn main() {
     }
     println!("seed {seed}: {compared} requests, no difference; {safe} of them by the allocating functions too");
     println!("largest accepted: {most} nodes, {most_vars} variables; most trials {most_trials}");
-    println!("nodes offered: {} below 16, {} below 256, {} below 2,048, {} below 4,096, {} more", sizes[0], sizes[1], sizes[2], sizes[3], sizes[4]);
+    println!("nodes offered: {} below 16, {} below 256, {} below 2,048, {} below {MOST_NODES}, {} more", sizes[0], sizes[1], sizes[2], sizes[3], sizes[4]);
     println!("\n| operation | answered | refused |\n|---|--:|--:|");
     for ((_, name, _), [answered, refused]) in OPERATIONS.iter().zip(tally) {
         println!("| {name} | {answered} | {refused} |");
@@ -199,7 +200,7 @@ fn store(random: &mut Random, requests: u64) {
     for i in 0..requests {
         let operation = turn[i as usize % turn.len()];
         let (least, most) = match i / turn.len() as u64 {
-            0 if i % 5 == 0 => (2000, 4096),
+            0 if i % 5 == 0 => (2000, MOST_NODES),
             0 | 1 => (150, 600),
             round if round % 8 == 0 => (0, random.from_to(30, 120)),
             _ if searches.contains(&operation) => (0, random.from_to(6, 40)),

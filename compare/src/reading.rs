@@ -1,5 +1,6 @@
 //! Document 01 read on its own: the table of refusals, negation, reduction, cuts and the searches with their trials. It shares
 //! no code with the library or with the Rust text, from which it takes counts and weights as arguments only.
+use crate::limits::{COUNT_WORDS, MOST_NODES, MOST_VARS, ROOM_PER_NODE};
 use num_bigint::BigUint;
 use std::collections::{BTreeMap, BTreeSet};
 
@@ -23,13 +24,13 @@ pub fn check(words: &[u32], room: usize, output: Output, output_len: usize) -> R
         return Err((2, 0));
     }
     let n = words.len() / 3;
-    if n > 4096 {
+    if n > MOST_NODES {
         return Err((3, 0));
     }
     if output_len < output_asked(output, n) {
         return Err((4, 0));
     }
-    if room < 64 * n.max(2) {
+    if room < ROOM_PER_NODE * n.max(2) {
         return Err((5, 0));
     }
     let node = |p: usize| (words[3 * p] as u64, words[3 * p + 1] as usize, words[3 * p + 2] as usize);
@@ -40,7 +41,7 @@ pub fn check(words: &[u32], room: usize, output: Output, output_len: usize) -> R
     if n >= 2 && node(1) != (v, 1, 1) {
         return Err((6, 1));
     }
-    if v > 255 {
+    if v > MOST_VARS as u64 {
         return Err((7, 0));
     }
     for p in 2..n {
@@ -82,8 +83,8 @@ pub fn output_asked(output: Output, n: usize) -> usize {
     match output {
         Output::Nothing => 0,
         Output::Diagram => 3 * n.max(2),
-        Output::Weights => 8 * n,
-        Output::Variables => 255,
+        Output::Weights => COUNT_WORDS * n,
+        Output::Variables => MOST_VARS,
     }
 }
 

@@ -1,5 +1,6 @@
 //! The expected answer: refusals by the reading of document 01, everything else by the Rust text. For cuts, where the Rust has
 //! no trials, the reading makes the whole search too; its words must be the Rust's.
+use crate::limits::COUNT_WORDS;
 use crate::reading;
 use crate::request::{Argument, Operation::*, Reply, Request};
 use num_bigint::BigUint;
@@ -7,8 +8,8 @@ use rust_text::{Bdd, BddPointer, BddVariable};
 
 fn count_words(count: &BigUint) -> Vec<u64> {
     let mut digits: Vec<u64> = count.to_u32_digits().iter().map(|w| *w as u64).collect();
-    assert!(digits.len() <= 8, "a count of more than eight words");
-    digits.resize(8, 0);
+    assert!(digits.len() <= COUNT_WORDS, "a count of more than {COUNT_WORDS} words");
+    digits.resize(COUNT_WORDS, 0);
     digits
 }
 
@@ -27,7 +28,7 @@ fn pointers(list: &[u32]) -> Vec<BddPointer> {
 fn values_of(request: &Request) -> usize {
     match request.operation() {
         Validate | SizePerVariable | NodeValuationWeights => 0,
-        ExactCardinality | ExactClauseCardinality => 8,
+        ExactCardinality | ExactClauseCardinality => COUNT_WORDS,
         UnderapproximateToSize | OverapproximateToSize | UnderapproximateToCardinality | OverapproximateToCardinality => 2,
         _ => 1,
     }

@@ -1,4 +1,5 @@
 //! A request, the answer that is expected, and the library's answer with all that it was lent.
+use crate::limits::{COUNT_WORDS, ROOM_PER_NODE};
 use crate::random::Random;
 use crate::reading::{self, Output};
 use houayletan::lent;
@@ -59,7 +60,7 @@ pub enum Argument {
     None,
     List(Vec<u32>),
     Size(u32),
-    Count([u32; 8]),
+    Count([u32; COUNT_WORDS]),
 }
 
 #[derive(Clone, Debug)]
@@ -126,7 +127,7 @@ fn call(request: &Request, w: &[u32], list: &[u32], room: &mut [u32], out: &mut 
         ExactClauseCardinality => counted(lent::exact_clause_cardinality(w, room)),
         NodeValuationWeights => {
             let verdict = lent::node_valuation_weights(w, room, out);
-            (verdict, vec![], 8 * verdict.nodes)
+            (verdict, vec![], COUNT_WORDS * verdict.nodes)
         }
         Reduce => diagram(lent::reduce(w, room, out)),
         Cardinality => {
@@ -206,7 +207,7 @@ pub fn ask(request: &Request) -> Result<Reply, &'static str> {
         return Err("an input has changed");
     }
     let refused = verdict.number != 0;
-    let zero = if (1..=5).contains(&verdict.number) { 0 } else { 64 * (request.words.len() / 3).max(2) };
+    let zero = if (1..=5).contains(&verdict.number) { 0 } else { ROOM_PER_NODE * (request.words.len() / 3).max(2) };
     if zero > request.room || !room.words()[..zero].iter().all(|w| *w == 0) || !room.kept_from(zero) {
         return Err("the room afterwards");
     }
@@ -261,7 +262,7 @@ pub fn line(request: &Request, reply: &Reply) -> String {
 /// Lengths of room and output: mostly exact, often one short, sometimes longer, nothing, or far too short.
 pub fn lengths(random: &mut Random, words: usize, output: Output) -> (usize, usize) {
     let n = words / 3;
-    let asked = [64 * n.max(2), reading::output_asked(output, n)];
+    let asked = [ROOM_PER_NODE * n.max(2), reading::output_asked(output, n)];
     // a faulty length hides all later refusals, so most requests have none
     let faulty = random.one_in(6);
     let [room, output] = asked.map(|exact| match random.below(if faulty { 8 } else { 3 }) {

@@ -93,7 +93,7 @@ static inline const char *wrong(const Loan *l, const Reply *r, const uint32_t *w
     if (!kept_from(&l->output, number ? 0 : r->written)) return "the output beyond the result has changed";
     if (number) {
         if (r->verdict.nodes || r->verdict.vars) return "a refused verdict has counts";
-        for (int i = 0; i < 8; i++) {
+        for (int i = 0; i < HOUAYLETAN_COUNT_WORDS; i++) {
             if (r->value[i]) return "a refused result has a value";
         }
     } else if (r->verdict.place || r->verdict.nodes != l->words.len / 3 || r->verdict.vars != l->words.words[0]) {

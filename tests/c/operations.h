@@ -11,7 +11,7 @@ typedef struct {
     size_t words_len;
     const uint32_t *list; /* of a cut by a list */
     size_t list_len;
-    uint32_t target[8]; /* of a cut to a count; word 0 alone of a cut to a size */
+    uint32_t target[HOUAYLETAN_COUNT_WORDS]; /* of a cut to a count; word 0 alone of a cut to a size */
     uint32_t *room;
     size_t room_len;
     uint32_t *output;
@@ -20,9 +20,9 @@ typedef struct {
 
 typedef struct {
     HouayletanVerdict verdict;
-    size_t values;     /* how many values stand beside the verdict */
-    uint64_t value[8]; /* the words of a count, the bits of a double, an amount, a yes as 1, or nodes and trials */
-    size_t written;    /* words of the output that hold the result, where it is accepted */
+    size_t values;                          /* how many values stand beside the verdict */
+    uint64_t value[HOUAYLETAN_COUNT_WORDS]; /* the words of a count, the bits of a double, an amount, a yes as 1, or nodes and trials */
+    size_t written;                         /* words of the output that hold the result, where it is accepted */
 } Reply;
 
 typedef enum { NO_OUTPUT, DIAGRAM, WEIGHTS, VARIABLES } Output;
@@ -34,14 +34,14 @@ typedef enum { NO_ARGUMENT, LIST, SIZE_TARGET, COUNT_TARGET } Argument;
 
 static void reply_count(HouayletanCount a, Reply *r) {
     r->verdict = a.verdict;
-    r->values = 8;
-    for (int i = 0; i < 8; i++) r->value[i] = a.count[i];
+    r->values = HOUAYLETAN_COUNT_WORDS;
+    for (int i = 0; i < HOUAYLETAN_COUNT_WORDS; i++) r->value[i] = a.count[i];
 }
 
 static void reply_float(HouayletanFloat a, Reply *r) {
     r->verdict = a.verdict;
     r->values = 1;
-    memcpy(&r->value[0], &a.count, 8);
+    memcpy(&r->value[0], &a.count, sizeof a.count);
 }
 
 static void reply_amount(HouayletanAmount a, Reply *r) {
@@ -87,7 +87,7 @@ static void on_size_per_variable(const Request *q, Reply *r) {
 }
 static void on_node_valuation_weights(const Request *q, Reply *r) {
     r->verdict = houayletan_node_valuation_weights(IN, ROOM, OUT);
-    r->written = 8 * r->verdict.nodes;
+    r->written = HOUAYLETAN_WEIGHTS(r->verdict.nodes);
 }
 static void on_reduce(const Request *q, Reply *r) { reply_diagram(houayletan_reduce(IN, ROOM, OUT), r); }
 static void on_not(const Request *q, Reply *r) { reply_diagram(houayletan_not(IN, ROOM, OUT), r); }

@@ -4,7 +4,7 @@
  * One request a line, numbers separated by spaces:
  *
  *   name, number of words, the words,
- *   a list with its length first (a cut by a list), one number (to a size), eight words (to a count), or nothing,
+ *   a list with its length first (a cut by a list), one number (to a size), the words of a count (to a count), or nothing,
  *   length of the room, length of the output, seed of what both hold at first, '=',
  *   number, place, nodes, vars, number of values, the values,
  *   number of output words, and these words, or '#' and their sum by FNV-1a. */
@@ -40,7 +40,9 @@ static void mark(int wanted) {
     if (getc(in) != wanted) spoilt("a mark is missing");
 }
 
-static uint32_t words[3 * 4200], list[4200], output[8 * 4200];
+/* More nodes than are taken. */
+#define MOST (HOUAYLETAN_NODES + 104)
+static uint32_t words[3 * MOST], list[MOST], output[HOUAYLETAN_WEIGHTS(MOST)];
 
 static size_t numbers(uint32_t *to, size_t most) {
     size_t len = number();
@@ -68,11 +70,11 @@ int main(int argc, char **argv) {
         const Operation *o = operation(name);
         if (!o) spoilt("no such operation");
         size_t words_len = numbers(words, sizeof words / 4), list_len = 0;
-        uint32_t target[8] = {0};
+        uint32_t target[HOUAYLETAN_COUNT_WORDS] = {0};
         if (o->argument == LIST) list_len = numbers(list, sizeof list / 4);
         if (o->argument == SIZE_TARGET) target[0] = (uint32_t)number();
         if (o->argument == COUNT_TARGET) {
-            for (int i = 0; i < 8; i++) target[i] = (uint32_t)number();
+            for (int i = 0; i < HOUAYLETAN_COUNT_WORDS; i++) target[i] = (uint32_t)number();
         }
         size_t room_len = number(), output_len = number();
         uint32_t seed = (uint32_t)number();
@@ -84,7 +86,7 @@ int main(int argc, char **argv) {
         expected.verdict.nodes = number();
         expected.verdict.vars = (uint32_t)number();
         expected.values = number();
-        if (expected.values > 8) spoilt("too many values");
+        if (expected.values > HOUAYLETAN_COUNT_WORDS) spoilt("too many values");
         for (size_t i = 0; i < expected.values; i++) expected.value[i] = number();
         expected.written = number();
         if (expected.written > sizeof output / 4) spoilt("too long an output");

@@ -16,9 +16,11 @@ static void expect(bool right, const char *what, const char *operation) {
 }
 
 #define FILL 0xA5A5A5A5u
-#define MOST 4098
+#define MOST (HOUAYLETAN_NODES + 2)
+#define TOP_WORD (HOUAYLETAN_COUNT_WORDS - 1)
+#define VARS HOUAYLETAN_VARS
 
-static uint32_t room[64 * MOST + 4], output[8 * MOST + 4];
+static uint32_t room[HOUAYLETAN_ROOM_PER_NODE * MOST + 4], output[HOUAYLETAN_COUNT_WORDS * MOST + 4];
 
 static void fill(void) {
     for (size_t i = 0; i < sizeof room / sizeof room[0]; i++) room[i] = FILL;
@@ -58,7 +60,7 @@ static Reply answer(const char *name, Request q, uint32_t number, size_t place) 
     }
     if (number != 0) {
         bool none = r.verdict.nodes == 0 && r.verdict.vars == 0;
-        for (int i = 0; i < 8; i++) none = none && r.value[i] == 0;
+        for (int i = 0; i < HOUAYLETAN_COUNT_WORDS; i++) none = none && r.value[i] == 0;
         expect(none, "all else in a refused result is zero", name);
     } else {
         expect(r.verdict.nodes == n && r.verdict.vars == q.words[0], "the counts of the input", name);
@@ -77,12 +79,12 @@ static void answers_words(const char *name, Request q, const uint32_t *words, si
 
 static void counts(const uint32_t *words, size_t len, uint32_t count, uint32_t paths) {
     Reply r = answer("exact_cardinality", asks(words, len), 0, 0);
-    expect(r.value[0] == count && r.value[1] == 0 && r.value[7] == 0, "the count", "exact_cardinality");
+    expect(r.value[0] == count && r.value[1] == 0 && r.value[TOP_WORD] == 0, "the count", "exact_cardinality");
     r = answer("exact_clause_cardinality", asks(words, len), 0, 0);
-    expect(r.value[0] == paths && r.value[1] == 0 && r.value[7] == 0, "the paths", "exact_clause_cardinality");
+    expect(r.value[0] == paths && r.value[1] == 0 && r.value[TOP_WORD] == 0, "the paths", "exact_clause_cardinality");
     double d = count;
     uint64_t bits;
-    memcpy(&bits, &d, 8);
+    memcpy(&bits, &d, sizeof bits);
     expect(answer("cardinality", asks(words, len), 0, 0).value[0] == bits, "the count", "cardinality");
 }
 
@@ -99,9 +101,9 @@ static void refusals(const Operation *o) {
         {14, {3, 0, 0, 3, 1, 1, 2, 0, 1, 1, 2, 1, 0, 2}, 2, 0},
         {3, {3, 0, 1}, 6, 0},
         {6, {3, 0, 0, 2, 1, 1}, 6, 1},
-        {6, {256, 0, 0, 255, 1, 1}, 6, 1},
+        {6, {VARS + 1, 0, 0, VARS, 1, 1}, 6, 1},
         {15, {3, 1, 0, 3, 1, 1, 2, 0, 1, 1, 2, 1, 0, 2, 3}, 6, 0},
-        {3, {256, 0, 0}, 7, 0},
+        {3, {VARS + 1, 0, 0}, 7, 0},
         {6, {UINT32_MAX, 0, 0, UINT32_MAX, 1, 1}, 7, 0},
         {15, {3, 0, 0, 3, 1, 1, 2, 0, 1, 3, 5, 5, 0, 2, 3}, 8, 3},
         {15, {3, 0, 0, 3, 1, 1, 2, 0, 1, 1, 5, 5, 0, 2, 3}, 9, 3},
@@ -113,9 +115,9 @@ static void refusals(const Operation *o) {
     };
     for (size_t i = 0; i < LEN(cases); i++) answer(o->name, asks(cases[i].words, cases[i].len), cases[i].number, cases[i].place);
 
-    static uint32_t many[3 * 4097];
+    static uint32_t many[3 * (HOUAYLETAN_NODES + 1)];
     memcpy(many, TRUE3, sizeof TRUE3);
-    answer(o->name, asks(many, 3 * 4097), 3, 0);
+    answer(o->name, asks(many, LEN(many)), 3, 0);
 
     /* exactly long enough is taken above; one short, and both short */
     Request q = asks(D, LEN(D));
@@ -128,13 +130,13 @@ static void refusals(const Operation *o) {
         answer(o->name, q, 4, 0);
     }
     q = asks(FALSE3, LEN(FALSE3));
-    q.room_len = 127;
+    q.room_len = HOUAYLETAN_ROOM(1) - 1;
     answer(o->name, q, 5, 0);
     if (o->output != NO_OUTPUT) {
-        q.room_len = 128, q.output_len = output_asked(o->output, 1) - 1;
+        q.room_len = HOUAYLETAN_ROOM(1), q.output_len = output_asked(o->output, 1) - 1;
         answer(o->name, q, 4, 0);
     }
-    q = asks(many, 3 * 4096);
+    q = asks(many, 3 * HOUAYLETAN_NODES);
     q.room_len = 0;
     answer(o->name, q, 5, 0);
 }
@@ -151,14 +153,15 @@ int main(void) {
     Reply r = answer("node_valuation_weights", asks(D, LEN(D)), 0, 0);
     static const uint32_t weights[] = {0, 5, 3, 3, 5};
     for (size_t p = 0; p < 5; p++) {
-        expect(output[8 * p] == weights[p] && all(output, 8 * p + 1, 8 * p + 8, 0), "D's weights", "node_valuation_weights");
+        size_t at = HOUAYLETAN_WEIGHTS(p);
+        expect(output[at] == weights[p] && all(output, at + 1, HOUAYLETAN_WEIGHTS(p + 1), 0), "D's weights", "node_valuation_weights");
     }
     Request q = asks(FALSE3, LEN(FALSE3));
     answer("node_valuation_weights", q, 15, 0);
-    q.output_len = 7;
+    q.output_len = HOUAYLETAN_WEIGHTS(1) - 1;
     answer("node_valuation_weights", q, 4, 0);
     answer("node_valuation_weights", asks(TRUE3, LEN(TRUE3)), 0, 0);
-    expect(output[0] == 0 && output[8] == 8, "true's weights", "node_valuation_weights");
+    expect(output[0] == 0 && output[HOUAYLETAN_WEIGHTS(1)] == 8, "true's weights", "node_valuation_weights");
 
     static const uint32_t longer[] = {1, 0, 0, 1, 1, 1, 0, 1, 1}; /* true, in three nodes */
     static const uint32_t TRUE1[] = {1, 0, 0, 1, 1, 1};
@@ -168,17 +171,17 @@ int main(void) {
     static const uint32_t parents_first[] = {3, 0, 0, 3, 1, 1, 1, 3, 1, 2, 0, 1, 0, 3, 2};
     answers_words("reduce", asks(parents_first, LEN(parents_first)), D, LEN(D), 0);
 
-    /* 255 variables, each with its node: the longest path; and 4,096 nodes, the most. */
-    static uint32_t deep[3 * 257] = {255, 0, 0, 255, 1, 1};
-    for (uint32_t i = 0; i < 255; i++) {
+    /* The most variables, each with its node: the longest path. */
+    static uint32_t deep[3 * (VARS + 2)] = {VARS, 0, 0, VARS, 1, 1};
+    for (uint32_t i = 0; i < VARS; i++) {
         uint32_t at = 3 * (2 + i);
-        deep[at] = 254 - i, deep[at + 1] = 0, deep[at + 2] = i == 0 ? 1 : i + 1;
+        deep[at] = VARS - 1 - i, deep[at + 1] = 0, deep[at + 2] = i == 0 ? 1 : i + 1;
     }
     counts(deep, LEN(deep), 1, 1);
     answers_words("reduce", asks(deep, LEN(deep)), deep, LEN(deep), 0);
-    static const uint32_t TRUE255[] = {255, 0, 0, 255, 1, 1};
-    r = answer("exact_cardinality", asks(TRUE255, LEN(TRUE255)), 0, 0);
-    expect(r.value[7] == 0x80000000u && r.value[0] == 0, "2^255", "exact_cardinality");
+    static const uint32_t ALL[] = {VARS, 0, 0, VARS, 1, 1};
+    r = answer("exact_cardinality", asks(ALL, LEN(ALL)), 0, 0);
+    expect(r.value[VARS / 32] == (uint32_t)1 << VARS % 32 && r.value[0] == 0, "2 to the variables", "exact_cardinality");
 
     /* A room and an output that are longer than asked for keep their rest: seen by answer() in every call. */
     q = asks(D, LEN(D));

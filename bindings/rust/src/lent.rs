@@ -1,23 +1,24 @@
 //! The functions of `include/houayletan.h` as they are: the caller lends working room and output, and nothing is allocated.
 //!
-//! Any slices may be lent; what is too short is refused. The room is 64 words a node, at least 128 ([`room_for`]); a diagram
-//! output 3 words a node, at least 6 ([`output_for`]).
+//! Any slices may be lent; what is too short is refused. The room is [`crate::limits::ROOM_PER_NODE`] words a node, for two nodes
+//! at least ([`room_for`]); a diagram output 3 words a node, at least 6 ([`output_for`]).
 //!
 //! ```
 //! use houayletan::lent;
 //!
 //! let words = [1, 0, 0, 1, 1, 1, 0, 1, 1];
-//! let (mut room, mut output) = ([0; 192], [0; 9]);
+//! let (mut room, mut output) = ([0; lent::room_for(3)], [0; lent::output_for(3)]);
 //! let made = lent::reduce(&words, &mut room, &mut output);
 //! assert_eq!((made.verdict.number, made.nodes), (0, 2));
 //! assert_eq!(output[..6], [1, 0, 0, 1, 1, 1]);
-//! assert_eq!(lent::reduce(&words, &mut room[..191], &mut output).verdict.number, 5);
+//! assert_eq!(lent::reduce(&words, &mut room[1..], &mut output).verdict.number, 5);
 //! ```
+use crate::limits::ROOM_PER_NODE;
 use crate::Count;
 
 /// Words of working room for a diagram of that many nodes.
 pub const fn room_for(nodes: usize) -> usize {
-    64 * if nodes < 2 { 2 } else { nodes }
+    ROOM_PER_NODE * if nodes < 2 { 2 } else { nodes }
 }
 
 /// Words of a diagram output for a diagram of that many nodes.

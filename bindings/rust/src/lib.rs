@@ -2,7 +2,7 @@
 //!
 //! A diagram is a slice of 32-bit words, three for a node: variable, low link, high link. Node 0 is the zero terminal
 //! `(v, 0, 0)`, node 1 the one terminal `(v, 1, 1)`, with `v` the variable count; one node alone is false, two are true. The
-//! root is the last node. At most 4,096 nodes and 255 variables; nodes may stand in any order.
+//! root is the last node. At most [`MOST_NODES`] nodes and [`MOST_VARS`] variables; nodes may stand in any order.
 //!
 //! Any words may be offered. What is no diagram is refused with a number, a place and a sentence ([`Refusal`]). Each function
 //! here allocates its output and its working room; in [`lent`] the caller lends them.
@@ -27,14 +27,13 @@ mod refusal;
 
 #[allow(missing_docs)]
 pub mod lent;
+pub mod limits;
 
 pub use count::Count;
+pub use limits::{MOST_NODES, MOST_VARS};
 pub use refusal::Refusal;
 
-/// The most nodes of a diagram that is accepted.
-pub const MOST_NODES: usize = 4096;
-/// The most variables of a diagram that is accepted.
-pub const MOST_VARS: usize = 255;
+use limits::COUNT_WORDS;
 
 /// The counts of an accepted diagram.
 #[derive(Clone, Copy, Debug, Eq, PartialEq)]
@@ -95,8 +94,8 @@ pub fn validate(words: &[u32]) -> Result<Accepted, Refusal> {
 /// How many of the 2^v valuations the diagram holds for. Refusals 1 to 3 and 6 to 12.
 ///
 /// ```
-/// let all = houayletan::exact_cardinality(&[255, 0, 0, 255, 1, 1])?;
-/// assert_eq!(all, houayletan::Count::power_of_two(255));
+/// let v = houayletan::MOST_VARS as u32;
+/// assert_eq!(houayletan::exact_cardinality(&[v, 0, 0, v, 1, 1])?, houayletan::Count::power_of_two(v));
 /// # Ok::<(), houayletan::Refusal>(())
 /// ```
 pub fn exact_cardinality(words: &[u32]) -> Result<Count, Refusal> {
@@ -126,9 +125,9 @@ pub fn exact_clause_cardinality(words: &[u32]) -> Result<Count, Refusal> {
 /// # Ok::<(), houayletan::Refusal>(())
 /// ```
 pub fn node_valuation_weights(words: &[u32]) -> Result<Vec<Count>, Refusal> {
-    let mut output = vec![0; 8 * nodes_of(words)];
+    let mut output = vec![0; COUNT_WORDS * nodes_of(words)];
     accepted(lent::node_valuation_weights(words, &mut room_for(words), &mut output))?;
-    Ok(output.chunks_exact(8).map(|w| Count::new(w.try_into().unwrap())).collect())
+    Ok(output.chunks_exact(COUNT_WORDS).map(|w| Count::new(w.try_into().unwrap())).collect())
 }
 
 /// The reduced diagram of the same function: no node with low = high, no two equal nodes, only reachable ones; nodes after
@@ -340,9 +339,9 @@ mod tests {
         let number = |words: &[u32]| validate(words).map_err(|r| (r.number, r.place));
         assert_eq!(number(&[]), Err((1, 0)));
         assert_eq!(number(&[1, 2]), Err((2, 0)));
-        assert_eq!(number(&vec![0; 3 * 4097]), Err((3, 0)));
-        assert_eq!(number(&vec![0; 3 * 4096]), Err((6, 1)));
-        assert_eq!(number(&[256, 0, 0]), Err((7, 0)));
+        assert_eq!(number(&vec![0; 3 * (MOST_NODES + 1)]), Err((3, 0)));
+        assert_eq!(number(&vec![0; 3 * MOST_NODES]), Err((6, 1)));
+        assert_eq!(number(&[MOST_VARS as u32 + 1, 0, 0]), Err((7, 0)));
         assert_eq!(number(&[1, 0, 0, 1, 1, 1, 1, 0, 1]), Err((8, 2)));
         assert_eq!(number(&[1, 0, 0, 1, 1, 1, 0, 3, 1]), Err((9, 2)));
         assert_eq!(number(&[1, 0, 0, 1, 1, 1, 0, 0, 1, 0, 0, 1]), Err((12, 2)));
@@ -352,6 +351,7 @@ mod tests {
 
     #[test]
     fn every_number_has_a_sentence() {
+        assert_eq!(Refusal { number: 3, place: 0 }.sentence().replace(',', ""), format!("there are more than {MOST_NODES} nodes"));
         for number in (1..=16).chain([19]) {
             let refusal = Refusal { number, place: 7 };
             assert!(!refusal.sentence().contains("no table"), "{number}");

@@ -1,4 +1,10 @@
+use crate::limits::{MOST_NODES, MOST_VARS};
 use std::fmt::{Display, Formatter};
+
+/// In decimal, a comma before each three digits.
+fn in_threes(n: usize) -> String {
+    if n < 1000 { n.to_string() } else { format!("{},{:03}", in_threes(n / 1000), n % 1000) }
+}
 
 /// Why an input is refused: a number and a place, as the table of `include/houayletan.h` says, and a sentence.
 ///
@@ -22,11 +28,11 @@ impl Refusal {
         match self.number {
             1 => "there are no words".into(),
             2 => "the number of words is not a multiple of three".into(),
-            3 => "there are more than 4,096 nodes".into(),
+            3 => format!("there are more than {} nodes", in_threes(MOST_NODES)),
             4 => "the output is too short".into(),
             5 => "the working room is too short".into(),
             6 => format!("node {place} is not the terminal that stands there in a diagram, with node 0's variable count"),
-            7 => "there are more than 255 variables".into(),
+            7 => format!("there are more than {MOST_VARS} variables"),
             8 => format!("node {place} has a variable that is not below the variable count"),
             9 => format!("node {place} has a low link past the nodes"),
             10 => format!("node {place} has a high link past the nodes"),

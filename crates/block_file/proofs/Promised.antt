@@ -6,7 +6,7 @@ use mathlib.Core.List.{List, _++_}
 use native.Mathlib.Omega.{arith}
 use lib.ListN.{length, take, drop, length-take}
 use Rattle.diagram.specs.Diagram.{size}
-use Rattle.blocks.specs.Block.{Bytes, nodes}
+use Rattle.blocks.specs.Block.{Bytes, nodes, blockBytes, maxStored}
 use Rattle.block_file.specs.File.{blockCount, fileOf, reading, readFile, firstWide, writeOutcome, written}
 use Rattle.block_file.specs.Files.{Files}
 use Rattle.block_file.proofs.Steps.{read-few}
@@ -23,13 +23,13 @@ module _ (s out left : List ℕ) (n : ℕ) (small : Bytes s) (e : readFile s out
   unfolding readFile
   accepted-back lent h =
       let a = read-is-file s out small e in
-      let few : n ≤ 120 = read-few 3 0 0 s out e in
+      let few : n ≤ maxStored = read-few 3 0 0 s out e in
       let long : length words ≡ 3 * n = simp length-take (omega (arith, a .count, simp length-take at (a .count))) in
       let wide : size words ≡ firstWide words = narrow-end (narrow-all words (a .narrow) (size words) (omega arith)) (omega arith) in
-      let file : length s ≡ 512 * blockCount n = ap length (a .file) ∙ file-length words ∙ rw (a .count) in
+      let file : length s ≡ blockBytes * blockCount n = ap length (a .file) ∙ file-length words ∙ rw (a .count) in
       let some : length words ≢ 0 = λ z. omega (arith, a .some) in
       let whole : length words % 3 ≡ 0 = omega arith in
-      let fit : 512 * blockCount (size words) ≤ lent = rw (a .count) (omega arith) in
+      let fit : blockBytes * blockCount (size words) ≤ lent = rw (a .count) (omega arith) in
       sym (storable words lent some whole (omega (arith, a .count)) fit wide (omega arith)) ∙ ap nodes (a .count)
 
   pub read-then-written : (file : List ℕ) → length s ≤ length file

@@ -15,11 +15,11 @@ use Rattle.diagram.specs.Verdict.{first}
 use Rattle.diagram.proofs.Count.{Scanned, scan-start, scan-on, scan-hit, scan-end, first-least}
 use Rattle.writing.specs.Writing.{Wrote}
 use Rattle.writing.proofs.Laws.{wrote-fits, by-le, Still, still-begins}
-use Rattle.blocks.specs.Block.{Outcome, nodes, refused, said, row, here, blockOf, Whole}
+use Rattle.blocks.specs.Block.{Outcome, nodes, refused, said, row, here, blockOf, Whole, blockBytes, blockNodes, blockWords, maxStored, pairSpan}
 use Rattle.blocks.specs.declared.stored.Stored.{Stored}
 use Rattle.blocks.specs.declared.stored.Stored.the-variants.{Nodes, Refused}
 use Rattle.blocks.proofs.Front.{block-length}
-use Rattle.block_file.specs.File.{part, blockCount, blocksFrom, fileOf, firstWide, writeOutcome, written, WritesFile, Storable}
+use Rattle.block_file.specs.File.{widest, part, blockCount, blocksFrom, fileOf, firstWide, writeOutcome, written, WritesFile, Storable}
 
 -- ---- the rows
 
@@ -34,16 +34,16 @@ module _ (w : List ℕ) (lent : ℕ) where
     refused-2 h = simp (ne-eqb (length w) 0 some, ne-eqb (length w % 3) 0 h)
 
     module _ (whole : length w % 3 ≡ 0) where
-      pub refused-25 : 120 < size w → refused 25 0 ≡ writeOutcome w lent
+      pub refused-25 : maxStored < size w → refused 25 0 ≡ writeOutcome w lent
       unfolding writeOutcome row
-      refused-25 h = simp (ne-eqb (length w) 0 some, eq-eqb (length w % 3) 0 whole, lt-ltb 120 (size w) h)
+      refused-25 h = simp (ne-eqb (length w) 0 some, eq-eqb (length w % 3) 0 whole, lt-ltb maxStored (size w) h)
 
-      module _ (few : size w ≤ 120) where
-        pub refused-4 : lent < 512 * blockCount (size w) → refused 4 0 ≡ writeOutcome w lent
+      module _ (few : size w ≤ maxStored) where
+        pub refused-4 : lent < blockBytes * blockCount (size w) → refused 4 0 ≡ writeOutcome w lent
         unfolding writeOutcome row
-        refused-4 h = simp (ne-eqb (length w) 0 some, eq-eqb (length w % 3) 0 whole, le-ltb 120 (size w) few, lt-ltb lent (512 * blockCount (size w)) h)
+        refused-4 h = simp (ne-eqb (length w) 0 some, eq-eqb (length w % 3) 0 whole, le-ltb maxStored (size w) few, lt-ltb lent (blockBytes * blockCount (size w)) h)
 
-        module _ (fits : 512 * blockCount (size w) ≤ lent) where
+        module _ (fits : blockBytes * blockCount (size w) ≤ lent) where
           pub refused-26 : {p : ℕ} → p ≡ firstWide w → p < size w → refused 26 p ≡ writeOutcome w lent
           unfolding writeOutcome row
           refused-26 {p} e h =
@@ -52,8 +52,8 @@ module _ (w : List ℕ) (lent : ℕ) where
               (simp (
                 ne-eqb (length w) 0 some,
                 eq-eqb (length w % 3) 0 whole,
-                le-ltb 120 (size w) few,
-                le-ltb lent (512 * blockCount (size w)) fits,
+                le-ltb maxStored (size w) few,
+                le-ltb lent (blockBytes * blockCount (size w)) fits,
                 lt-ltb (firstWide w) (size w) h′,
               ))
 
@@ -64,42 +64,42 @@ module _ (w : List ℕ) (lent : ℕ) where
               simp (
                 ne-eqb (length w) 0 some,
                 eq-eqb (length w % 3) 0 whole,
-                le-ltb 120 (size w) few,
-                le-ltb lent (512 * blockCount (size w)) fits,
+                le-ltb maxStored (size w) few,
+                le-ltb lent (blockBytes * blockCount (size w)) fits,
                 le-ltb (firstWide w) (size w) h′,
               )
 
 -- ---- the blocks
 
-pub part-is : (w : List ℕ) (number : ℕ) → length w ≡ 3 * size w → take (3 * here (size w) number) (drop (150 * number) w) ≡ part w number
+pub part-is : (w : List ℕ) (number : ℕ) → length w ≡ 3 * size w → take (3 * here (size w) number) (drop (blockWords * number) w) ≡ part w number
 part-is w number whole =
-    by-le 50 (size w - 50 * number)
-    (λ h. let e : 3 * here (size w) number ≡ 150 = omega arith in rw e)
+    by-le blockNodes (size w - blockNodes * number)
+    (λ h. let e : 3 * here (size w) number ≡ blockWords = omega arith in rw e)
     (λ h.
-    let e : 3 * here (size w) number ≡ length (drop (150 * number) w) = simp length-drop (omega arith) in
-    take-all (3 * here (size w) number) (drop (150 * number) w) (omega arith) ∙ sym (take-all 150 (drop (150 * number) w) (omega arith)))
+    let e : 3 * here (size w) number ≡ length (drop (blockWords * number) w) = simp length-drop (omega arith) in
+    take-all (3 * here (size w) number) (drop (blockWords * number) w) (omega arith) ∙ sym (take-all blockWords (drop (blockWords * number) w) (omega arith)))
 
-pub part-few : (w : List ℕ) (number : ℕ) → length (part w number) ≤ 150
-part-few w number = omega (arith, length-take 150 (drop (150 * number) w))
+pub part-few : (w : List ℕ) (number : ℕ) → length (part w number) ≤ blockWords
+part-few w number = omega (arith, length-take blockWords (drop (blockWords * number) w))
 
 -- what stands at a place of a part
-part-none : (w : List ℕ) (number k : ℕ) → 150 ≤ k → getD (part w number) k 0 ≡ 0
+part-none : (w : List ℕ) (number k : ℕ) → blockWords ≤ k → getD (part w number) k 0 ≡ 0
 part-none w number k h = List·getD-eq-default (part w number) 0 (omega (arith, part-few w number))
 
-part-some : (w : List ℕ) (number k : ℕ) → k < 150 → getD (part w number) k 0 ≡ getD w (150 * number + k) 0
-part-some w number k h = getD-take 150 (drop (150 * number) w) k 0 h ∙ getD-drop (150 * number) w k 0
+part-some : (w : List ℕ) (number k : ℕ) → k < blockWords → getD (part w number) k 0 ≡ getD w (blockWords * number + k) 0
+part-some w number k h = getD-take blockWords (drop (blockWords * number) w) k 0 h ∙ getD-drop (blockWords * number) w k 0
 
 pub part-small : (w : List ℕ) (number m : ℕ) → 0 < m → ((k : ℕ) → getD w k 0 < m) → (k : ℕ) → getD (part w number) k 0 < m
 part-small w number m pos small k =
-    by-le 150 k
+    by-le blockWords k
     (λ h. rw (part-none w number k h) pos)
-    (λ h. rw (part-some w number k h) (small (150 * number + k)))
+    (λ h. rw (part-some w number k h) (small (blockWords * number + k)))
 
-pub part-narrow : (w : List ℕ) (number : ℕ) → ((p : ℕ) → varOf w p < 65536) → (p : ℕ) → varOf (part w number) p < 65536
+pub part-narrow : (w : List ℕ) (number : ℕ) → ((p : ℕ) → varOf w p < pairSpan) → (p : ℕ) → varOf (part w number) p < pairSpan
 part-narrow w number narrow p =
-    by-le 150 (3 * p)
+    by-le blockWords (3 * p)
     (λ h. rw (part-none w number (3 * p) h) (omega arith))
-    (λ h. let e : 150 * number + 3 * p ≡ 3 * (50 * number + p) = omega arith in rw (part-some w number (3 * p) h, e) (narrow (50 * number + p)))
+    (λ h. let e : blockWords * number + 3 * p ≡ 3 * (blockNodes * number + p) = omega arith in rw (part-some w number (3 * p) h, e) (narrow (blockNodes * number + p)))
 
 pub blocks-next : (w : List ℕ) (number left : ℕ) → 0 < left → blocksFrom w number left ≡ blockOf (size w) number (part w number) ++ blocksFrom w (number + 1) (left - 1)
 unfolding blocksFrom
@@ -110,60 +110,60 @@ pub blocks-none : (w : List ℕ) (number left : ℕ) → left ≤ 0 → blocksFr
 unfolding blocksFrom
 blocks-none w number left h = let e : left ≡ 0 = omega arith in rw e
 
-pub blocks-length : (w : List ℕ) (number c : ℕ) → length (blocksFrom w number c) ≡ 512 * c
+pub blocks-length : (w : List ℕ) (number c : ℕ) → length (blocksFrom w number c) ≡ blockBytes * c
 unfolding blocksFrom
 blocks-length w number zero = refl
 blocks-length w number (suc c) =
     simp length-append (omega (arith, blocks-length w (suc number) c, block-length (size w) number (part w number) (part-few w number)))
 
-pub file-length : (w : List ℕ) → length (fileOf w) ≡ 512 * blockCount (size w)
+pub file-length : (w : List ℕ) → length (fileOf w) ≡ blockBytes * blockCount (size w)
 unfolding fileOf
 file-length w = blocks-length w 0 (blockCount (size w))
 
 -- ---- variables that fit two bytes
 
 pub record Narrow (w : List ℕ) (p : ℕ) : Type 0 where
-  pub scanned : Scanned (λ q. ltb 65535 (varOf w q)) 0 p
+  pub scanned : Scanned (λ q. ltb widest (varOf w q)) 0 p
   pub within : p ≤ size w
 
 pub narrow-begins : (w : List ℕ) → Narrow w 0
-narrow-begins w = record { scanned = scan-start (λ q. ltb 65535 (varOf w q)) 0; within = omega arith }
+narrow-begins w = record { scanned = scan-start (λ q. ltb widest (varOf w q)) 0; within = omega arith }
 
 module _ {w : List ℕ} {p : ℕ} (a : Narrow w p) where
   pub narrow-end : size w ≤ p → p ≡ firstWide w
   unfolding firstWide
-  narrow-end h = scan-end (λ q. ltb 65535 (varOf w q)) 0 (size w) p (a .scanned) (omega (arith, a .within))
+  narrow-end h = scan-end (λ q. ltb widest (varOf w q)) 0 (size w) p (a .scanned) (omega (arith, a .within))
 
   module _ (more : p < size w) {x : ℕ} (e : x ≡ varOf w p) where
-    pub narrow-hit : 65535 < x → p ≡ firstWide w
+    pub narrow-hit : widest < x → p ≡ firstWide w
     unfolding firstWide
     narrow-hit h =
-        let h′ : 65535 < varOf w p = rw e at h in
-        scan-hit (λ q. ltb 65535 (varOf w q)) 0 (size w) p (a .scanned) (omega arith) (lt-ltb 65535 (varOf w p) h′)
+        let h′ : widest < varOf w p = rw e at h in
+        scan-hit (λ q. ltb widest (varOf w q)) 0 (size w) p (a .scanned) (omega arith) (lt-ltb widest (varOf w p) h′)
 
-    pub narrow-on : x ≤ 65535 → Narrow w (p + 1)
+    pub narrow-on : x ≤ widest → Narrow w (p + 1)
     narrow-on h =
-        let h′ : varOf w p ≤ 65535 = rw e at h in
-        record { scanned = scan-on (λ q. ltb 65535 (varOf w q)) 0 p (a .scanned) (le-ltb 65535 (varOf w p) h′); within = omega arith }
+        let h′ : varOf w p ≤ widest = rw e at h in
+        record { scanned = scan-on (λ q. ltb widest (varOf w q)) 0 p (a .scanned) (le-ltb widest (varOf w p) h′); within = omega arith }
 
-pub narrow-all : (w : List ℕ) → ((p : ℕ) → varOf w p < 65536) → (p : ℕ) → p ≤ size w → Narrow w p
+pub narrow-all : (w : List ℕ) → ((p : ℕ) → varOf w p < pairSpan) → (p : ℕ) → p ≤ size w → Narrow w p
 narrow-all w small zero h = narrow-begins w
 narrow-all w small (suc p) h = rw (sym (add-one p)) (narrow-on (narrow-all w small p (omega arith)) (omega arith) refl (omega (arith, small p)))
 
 -- ---- a block, and the blocks one after another
 
-module _ {w : List ℕ} (a : Storable w) (number : ℕ) (more : 50 * number < size w) {h : ℕ} (eh : h ≡ here (size w) number) where
-  lent-is : take (150 * number + 3 * h - 150 * number) (drop (150 * number) w) ≡ part w number
+module _ {w : List ℕ} (a : Storable w) (number : ℕ) (more : blockNodes * number < size w) {h : ℕ} (eh : h ≡ here (size w) number) where
+  lent-is : take (blockWords * number + 3 * h - blockWords * number) (drop (blockWords * number) w) ≡ part w number
   lent-is =
-      let e : 150 * number + 3 * h - 150 * number ≡ 3 * here (size w) number = omega arith in
+      let e : blockWords * number + 3 * h - blockWords * number ≡ 3 * here (size w) number = omega arith in
       rw e (part-is w number (a .whole))
 
-  pub part-whole : Whole (size w) number (take (150 * number + 3 * h - 150 * number) (drop (150 * number) w))
+  pub part-whole : Whole (size w) number (take (blockWords * number + 3 * h - blockWords * number) (drop (blockWords * number) w))
   part-whole =
-      let l : length (take (150 * number + 3 * h - 150 * number) (drop (150 * number) w)) ≡ 3 * here (size w) number = simp (length-take, length-drop) (omega (arith, a .whole)) in
+      let l : length (take (blockWords * number + 3 * h - blockWords * number) (drop (blockWords * number) w)) ≡ 3 * here (size w) number = simp (length-take, length-drop) (omega (arith, a .whole)) in
       record { whole = omega arith; few = omega arith; narrow = rw lent-is (part-narrow w number (a .narrow)); counted = omega (arith, a .few); numbered = omega (arith, a .few) }
 
-  pub wrote-part : {before left : List ℕ} {at place : ℕ} → Wrote (blockOf (size w) number (take (150 * number + 3 * h - 150 * number) (drop (150 * number) w))) before at left place
+  pub wrote-part : {before left : List ℕ} {at place : ℕ} → Wrote (blockOf (size w) number (take (blockWords * number + 3 * h - blockWords * number) (drop (blockWords * number) w))) before at left place
       → Wrote (blockOf (size w) number (part w number)) before at left place
   wrote-part b = rw lent-is at b
 
@@ -173,13 +173,13 @@ blocks-begin w file =
     let e : blockCount (size w) - 0 ≡ blockCount (size w) = omega arith in
     rw e (still-begins (blocksFrom w 0 (blockCount (size w))) file 0)
 
-pub blocks-step : (w : List ℕ) (number : ℕ) → 50 * number < size w
+pub blocks-step : (w : List ℕ) (number : ℕ) → blockNodes * number < size w
     → blocksFrom w number (blockCount (size w) - number) ≡ blockOf (size w) number (part w number) ++ blocksFrom w (number + 1) (blockCount (size w) - (number + 1))
 blocks-step w number h =
     let e : blockCount (size w) - (number + 1) ≡ blockCount (size w) - number - 1 = omega arith in
     rw e (blocks-next w number (blockCount (size w) - number) (omega arith))
 
-pub blocks-end : (w : List ℕ) (number : ℕ) → size w ≤ 50 * number → blocksFrom w number (blockCount (size w) - number) ≡ []
+pub blocks-end : (w : List ℕ) (number : ℕ) → size w ≤ blockNodes * number → blocksFrom w number (blockCount (size w) - number) ≡ []
 blocks-end w number h = blocks-none w number (blockCount (size w) - number) (omega arith)
 
 -- ---- the answers
@@ -189,17 +189,17 @@ unfolding row
 passed k true p o e = let z : _≡_ {A = ℕ} 0 1 = cc in absurd (omega arith)
 passed k false p o e = (refl, e)
 
-all-narrow : (w : List ℕ) → length w ≡ 3 * size w → size w ≤ firstWide w → (p : ℕ) → varOf w p < 65536
+all-narrow : (w : List ℕ) → length w ≡ 3 * size w → size w ≤ firstWide w → (p : ℕ) → varOf w p < pairSpan
 unfolding firstWide
 all-narrow w whole h p =
     by-le (size w) p
     (λ l. let z : varOf w p ≡ 0 = List·getD-eq-default w 0 (omega arith) in omega arith)
-    (λ l. let n = ltb-false 65535 (varOf w p) (first-least (λ q. ltb 65535 (varOf w q)) 0 (size w) p (omega arith) (omega arith)) in omega arith)
+    (λ l. let n = ltb-false widest (varOf w p) (first-least (λ q. ltb widest (varOf w q)) 0 (size w) p (omega arith) (omega arith)) in omega arith)
 
 -- Words that may be written have passed every test.
 pub record Written (w : List ℕ) (lent n : ℕ) : Type 0 where
   pub lengths : Storable w
-  pub fits : 512 * blockCount (size w) ≤ lent
+  pub fits : blockBytes * blockCount (size w) ≤ lent
   pub narrow : size w ≤ firstWide w
   pub count : size w ≡ n
 

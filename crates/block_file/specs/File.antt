@@ -7,7 +7,7 @@ use lib.ListN.{length, getD, take, drop}
 use lib.Dec.{ltb, eqb}
 use Rattle.diagram.specs.Diagram.{varOf, size}
 use Rattle.diagram.specs.Verdict.{first}
-use Rattle.blocks.specs.Block.{blockBytes, blockNodes, blockWords, maxStored, Outcome, nodes, refused, said, row, blockOf, blockOutcome, blockOutput}
+use Rattle.blocks.specs.Block.{blockBytes, blockNodes, blockWords, maxStored, pairSpan, Outcome, nodes, refused, said, row, blockOf, blockOutcome, blockOutput}
 use Rattle.blocks.specs.declared.stored.Stored.{Stored}
 
 -- ---- the file of some nodes
@@ -60,9 +60,12 @@ pub record ReadsFile (s before left : List ℕ) (r : Stored) : Type 0 where
 
 -- ---- writing
 
--- The first node whose variable does not fit two bytes, or n.
+-- The widest variable that two bytes hold. The first node whose variable does not fit them, or n.
+abbrev pub widest : ℕ
+widest = pairSpan - 1
+
 unfoldable pub firstWide : List ℕ → ℕ
-firstWide w = first (λ p. ltb 65535 (varOf w p)) 0 (size w)
+firstWide w = first (λ p. ltb widest (varOf w p)) 0 (size w)
 
 unfoldable pub writeOutcome : List ℕ → ℕ → Outcome
 writeOutcome w lent =
@@ -87,4 +90,4 @@ pub record Storable (w : List ℕ) : Type 0 where
   pub whole : length w ≡ 3 * size w
   pub some : 0 < size w
   pub few : size w ≤ maxStored
-  pub narrow : (p : ℕ) → varOf w p < 65536
+  pub narrow : (p : ℕ) → varOf w p < pairSpan

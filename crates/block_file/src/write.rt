@@ -2,6 +2,7 @@
 use blocks::layout::BLOCK;
 use blocks::layout::MOST;
 use blocks::layout::NODES;
+use blocks::layout::PAIR_SPAN;
 use blocks::layout::WORDS;
 use blocks::read::nodes_here;
 use blocks::stored::Stored;
@@ -21,7 +22,7 @@ ghost use Rattle.blocks.specs.Block.{said, blockNodes, blockOf};
 ghost use Rattle.block_file.specs.File.{blockCount, part, fileOf, firstWide, writeOutcome, WritesFile, Storable};
 
 // The widest variable that two bytes hold.
-const WIDEST: u32 = 65535;
+const WIDEST: u32 = PAIR_SPAN - 1;
 
 // The first node whose variable does not fit two bytes, or the number of nodes.
 fn first_wide(words: &[u32]) -> usize
@@ -102,7 +103,7 @@ fn put_blocks(file: &mut [u8], words: &[u32]) -> usize
     place
 }
 
-// The file stands at the front of the buffer, 512 bytes for each block; the rest of the buffer is as it was.
+// The file stands at the front of the buffer, block after block; the rest of the buffer is as it was.
 pub fn write_file(words: &[u32], file: &mut [u8]) -> Stored
     ensures { λ r. ⌜ WritesFile (now (words .entry)) (now (file .entry)) (now (file .exit)) r ⌝ }
 {

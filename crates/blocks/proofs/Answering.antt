@@ -6,7 +6,7 @@ use native.Mathlib.Omega.{arith}
 use lib.ListN.{length, take, drop, length-append}
 use Rattle.writing.specs.Writing.{Wrote}
 use Rattle.writing.proofs.Laws.{wrote-fits}
-use Rattle.blocks.specs.Block.{two, four, nodesAt, nodesIn, Outcome, nodes, refused, said, blockOutcome, blockOutput, Reads}
+use Rattle.blocks.specs.Block.{two, four, nodesAt, nodesIn, Outcome, nodes, refused, said, blockOutcome, blockOutput, Reads, blockNodes, blockWords}
 use Rattle.blocks.specs.declared.stored.Stored.{Stored}
 use Rattle.blocks.specs.declared.stored.Stored.the-variants.{Nodes, Refused}
 use Rattle.blocks.proofs.Testing.{Taken, is-taken, held-few, due-small}
@@ -33,13 +33,13 @@ module _ (s out : List ℕ) (number stated : ℕ) {r : Stored} (e : said r ≡ b
     pub number-small : number ≤ 2
     number-small = due-small s number stated (taken-is .counts) (taken-is .few)
 
-    pub count-small : two s 2 ≤ 50
+    pub count-small : two s 2 ≤ blockNodes
     count-small = held-few s number stated (taken-is .counts)
 
-    pub reads-taken : {h p : ℕ} {after : List ℕ} → h ≡ two s 2 → Wrote (nodesAt s 4 h) out (150 * number) after p → Reads number stated s out after (Nodes n)
+    pub reads-taken : {h p : ℕ} {after : List ℕ} → h ≡ two s 2 → Wrote (nodesAt s 4 h) out (blockWords * number) after p → Reads number stated s out after (Nodes n)
     unfolding blockOutput
     reads-taken {h} {p} {after} eh w =
         let l : length (nodesAt s 4 (two s 2)) ≡ 3 * two s 2 = nodes-at-length s 4 (two s 2) in
-        let w′ : Wrote (nodesAt s 4 (two s 2)) out (150 * number) after p = rw eh at w in
+        let w′ : Wrote (nodesAt s 4 (two s 2)) out (blockWords * number) after p = rw eh at w in
         let q = wrote-fits w′ (omega (arith, taken-is .fits)) in
         record { answer = sym outcome-is; left = rw outcome-is (rw l at q) }

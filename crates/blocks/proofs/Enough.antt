@@ -9,7 +9,7 @@ use lib.Seq.{getD-take, take-take}
 use lib.Dec.{ltb, eqb}
 use borrow.Author.Tests.{lt-ltb, le-ltb}
 use Rattle.writing.proofs.Laws.{by-le}
-use Rattle.blocks.specs.Block.{two, four, nodesAt, nodesIn, total, weighted, here, unused, sumsRight, countsRight, Outcome, nodes, refused, row, blockOutcome, blockOutput}
+use Rattle.blocks.specs.Block.{two, four, nodesAt, nodesIn, total, weighted, here, unused, sumsRight, countsRight, Outcome, nodes, refused, row, blockOutcome, blockOutput, blockBytes, blockNodes}
 use Rattle.blocks.proofs.Testing.{is-taken, held-few}
 
 pub drop-of-take : (a k : ℕ) (l : List ℕ) → drop a (take (a + k) l) ≡ take k (drop a l)
@@ -26,24 +26,24 @@ stretch-same m s a k h =
     let e : a + (m - a) ≡ m = omega arith in
     ap (λ (n : ℕ). take k (drop a (take n s))) (sym e) ∙ ap (take k) (drop-of-take a (m - a) s) ∙ take-take k (m - a) (drop a s) (omega arith)
 
-module _ (s : List ℕ) (m : ℕ) (enough : 512 ≤ m) where
-  at-same : (k : ℕ) → k < 512 → getD (take m s) k 0 ≡ getD s k 0
+module _ (s : List ℕ) (m : ℕ) (enough : blockBytes ≤ m) where
+  at-same : (k : ℕ) → k < blockBytes → getD (take m s) k 0 ≡ getD s k 0
   at-same k h = getD-take m s k 0 (omega arith)
 
-  two-same : (at : ℕ) → at + 1 < 512 → two (take m s) at ≡ two s at
+  two-same : (at : ℕ) → at + 1 < blockBytes → two (take m s) at ≡ two s at
   two-same at h = rw (at-same at (omega arith), at-same (at + 1) h)
 
-  four-same : (at : ℕ) → at + 3 < 512 → four (take m s) at ≡ four s at
+  four-same : (at : ℕ) → at + 3 < blockBytes → four (take m s) at ≡ four s at
   four-same at h =
       let a : two (take m s) at ≡ two s at = two-same at (omega arith) in
       let b : two (take m s) (at + 2) ≡ two s (at + 2) = two-same (at + 2) (omega arith) in
       omega arith
 
-  short-same : ltb (length (take m s)) 512 ≡ ltb (length s) 512
+  short-same : ltb (length (take m s)) blockBytes ≡ ltb (length s) blockBytes
   short-same =
-      by-le 512 (length s)
-      (λ h. le-ltb (length (take m s)) 512 (simp length-take (omega arith)) ∙ sym (le-ltb (length s) 512 h))
-      (λ h. lt-ltb (length (take m s)) 512 (simp length-take (omega arith)) ∙ sym (lt-ltb (length s) 512 h))
+      by-le blockBytes (length s)
+      (λ h. le-ltb (length (take m s)) blockBytes (simp length-take (omega arith)) ∙ sym (le-ltb (length s) blockBytes h))
+      (λ h. lt-ltb (length (take m s)) blockBytes (simp length-take (omega arith)) ∙ sym (lt-ltb (length s) blockBytes h))
 
   unused-same : (held : ℕ) → unused (take m s) held ≡ unused s held
   unused-same held =
@@ -74,7 +74,7 @@ module _ (s : List ℕ) (m : ℕ) (enough : 512 ≤ m) where
       let d : four (take m s) 504 ≡ four s 504 = four-same 504 (omega arith) in
       rw (short-same, sums-same, counts-same number stated, d, b, unused-same (two s 2))
 
-  nodes-same : (at c : ℕ) → at + 10 * c ≤ 512 → nodesAt (take m s) at c ≡ nodesAt s at c
+  nodes-same : (at c : ℕ) → at + 10 * c ≤ blockBytes → nodesAt (take m s) at c ≡ nodesAt s at c
   unfolding nodesAt
   nodes-same at zero h = refl
   nodes-same at (suc c) h =
@@ -89,6 +89,6 @@ module _ (s : List ℕ) (m : ℕ) (enough : 512 ≤ m) where
   output-same number stated out (refused k p) e = refl
   output-same number stated out (nodes n) e =
       let t = is-taken s number stated (length out) n e in
-      let few : two s 2 ≤ 50 = held-few s number stated (t .counts) in
+      let few : two s 2 ≤ blockNodes = held-few s number stated (t .counts) in
       let b : two (take m s) 2 ≡ two s 2 = two-same 2 (omega arith) in
       rw (b, nodes-same 4 (two s 2) (omega arith))

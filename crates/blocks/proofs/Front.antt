@@ -7,7 +7,7 @@ use lib.ListN.{length, take, drop, replicate, length-append, length-replicate}
 use lib.Seq.{take-at}
 use Rattle.writing.specs.Writing.{Wrote}
 use Rattle.writing.proofs.Laws.{wrote-then, wrote-fits}
-use Rattle.blocks.specs.Block.{total, weighted, twoBytes, fourBytes, nodeBytes, nodesBytes, front, blockOf, Whole}
+use Rattle.blocks.specs.Block.{total, weighted, twoBytes, fourBytes, nodeBytes, nodesBytes, front, blockOf, Whole, blockBytes, blockWords}
 
 pub nodes-length : (w : List ℕ) → length (nodesBytes w) ≡ 10 * (length w / 3)
 unfolding nodesBytes
@@ -16,17 +16,17 @@ nodes-length (a ∷ []) = refl
 nodes-length (a ∷ b ∷ []) = refl
 nodes-length (a ∷ b ∷ d ∷ w) = omega (arith, nodes-length w)
 
-pub front-length : (n number : ℕ) (w : List ℕ) → length w ≤ 150 → length (front n number w) ≡ 508
+pub front-length : (n number : ℕ) (w : List ℕ) → length w ≤ blockWords → length (front n number w) ≡ 508
 unfolding front
 front-length n number w h =
     simp (length-append, length-replicate) (omega (arith, nodes-length w))
 
-pub block-length : (n number : ℕ) (w : List ℕ) → length w ≤ 150 → length (blockOf n number w) ≡ 512
+pub block-length : (n number : ℕ) (w : List ℕ) → length w ≤ blockWords → length (blockOf n number w) ≡ blockBytes
 unfolding blockOf
 block-length n number w h = simp length-append (omega (arith, front-length n number w h))
 
 -- The front stands in a block of 512 bytes.
-pub front-stands : (n number : ℕ) (w : List ℕ) {before after : List ℕ} {p : ℕ} → length w ≤ 150 → 512 ≤ length before → Wrote (front n number w) before 0 after p
+pub front-stands : (n number : ℕ) (w : List ℕ) {before after : List ℕ} {p : ℕ} → length w ≤ blockWords → blockBytes ≤ length before → Wrote (front n number w) before 0 after p
     → take 508 after ≡ front n number w
 front-stands n number w {before} {after} h l e =
     let f : length (front n number w) ≡ 508 = front-length n number w h in

@@ -12,29 +12,29 @@ use borrow.Author.Tests.{eqb-true}
 use Rattle.diagram.proofs.Tests.{and-both}
 use Rattle.writing.proofs.Laws.{drop-next}
 use Rattle.diagram.specs.Diagram.{varOf}
-use Rattle.blocks.specs.Block.{Bytes, two, four, twoBytes, fourBytes, nodeBytes, nodesBytes, nodeAt, nodesAt, nodesIn, total, weighted, front, blockOf, here, unused, sumsRight, countsRight, blockOutcome, nodes}
+use Rattle.blocks.specs.Block.{Bytes, two, four, twoBytes, fourBytes, nodeBytes, nodesBytes, nodeAt, nodesAt, nodesIn, total, weighted, front, blockOf, here, unused, sumsRight, countsRight, blockOutcome, nodes, blockBytes, blockNodes, byteSpan, pairSpan}
 use Rattle.blocks.proofs.Testing.{Taken, is-taken, Counted, counted}
 use Rattle.blocks.proofs.Answering.{nodes-at-length}
 use Rattle.blocks.proofs.Front.{nodes-length, front-length}
 
-low-byte : (a b : ℕ) → a < 256 → (a + 256 * b) % 256 ≡ a
+low-byte : (a b : ℕ) → a < byteSpan → (a + byteSpan * b) % byteSpan ≡ a
 low-byte a b h = omega arith
 
-high-byte : (a b : ℕ) → a < 256 → b < 256 → (a + 256 * b) / 256 % 256 ≡ b
-high-byte a b h k = let q : (a + 256 * b) / 256 ≡ b = omega arith in rw q (omega arith)
+high-byte : (a b : ℕ) → a < byteSpan → b < byteSpan → (a + byteSpan * b) / byteSpan % byteSpan ≡ b
+high-byte a b h k = let q : (a + byteSpan * b) / byteSpan ≡ b = omega arith in rw q (omega arith)
 
-low-half : (m t : ℕ) → (m + 65536 * t) % 256 ≡ m % 256
+low-half : (m t : ℕ) → (m + pairSpan * t) % byteSpan ≡ m % byteSpan
 low-half m t = omega arith
 
-next-half : (m t : ℕ) → (m + 65536 * t) / 256 % 256 ≡ m / 256 % 256
+next-half : (m t : ℕ) → (m + pairSpan * t) / byteSpan % byteSpan ≡ m / byteSpan % byteSpan
 next-half m t =
-    let q : (m + 65536 * t) / 256 ≡ m / 256 + 256 * t = omega arith in
-    rw q (low-rest (m / 256) t)
+    let q : (m + pairSpan * t) / byteSpan ≡ m / byteSpan + byteSpan * t = omega arith in
+    rw q (low-rest (m / byteSpan) t)
   where
-    low-rest : (a b : ℕ) → (a + 256 * b) % 256 ≡ a % 256
+    low-rest : (a b : ℕ) → (a + byteSpan * b) % byteSpan ≡ a % byteSpan
     low-rest a b = omega arith
 
-high-half : (m t : ℕ) → m < 65536 → (m + 65536 * t) / 65536 ≡ t
+high-half : (m t : ℕ) → m < pairSpan → (m + pairSpan * t) / pairSpan ≡ t
 high-half m t h = omega arith
 
 -- ---- a stretch of bytes, field by field
@@ -42,17 +42,17 @@ high-half m t h = omega arith
 module _ (s : List ℕ) (small : Bytes s) where
   split-two : (at : ℕ) → at + 1 < length s → drop at s ≡ twoBytes (two s at) ++ drop (at + 2) s
   split-two at h =
-      let a : two s at % 256 ≡ getD s at 0 = low-byte (getD s at 0) (getD s (at + 1) 0) (small at) in
-      let b : two s at / 256 % 256 ≡ getD s (at + 1) 0 = high-byte (getD s at 0) (getD s (at + 1) 0) (small at) (small (at + 1)) in
+      let a : two s at % byteSpan ≡ getD s at 0 = low-byte (getD s at 0) (getD s (at + 1) 0) (small at) in
+      let b : two s at / byteSpan % byteSpan ≡ getD s (at + 1) 0 = high-byte (getD s at 0) (getD s (at + 1) 0) (small at) (small (at + 1)) in
       let e : at + 1 + 1 ≡ at + 2 = omega arith in
       rw (a, b) (drop-next s at (omega arith) ∙ ap (λ (l : List ℕ). getD s at 0 ∷ l) (drop-next s (at + 1) h ∙ rw e))
 
   split-four : (at : ℕ) → at + 3 < length s → drop at s ≡ fourBytes (four s at) ++ drop (at + 4) s
   split-four at h =
-      let m : two s at < 65536 = omega (arith, small at, small (at + 1)) in
-      let a : four s at % 256 ≡ two s at % 256 = low-half (two s at) (two s (at + 2)) in
-      let b : four s at / 256 % 256 ≡ two s at / 256 % 256 = next-half (two s at) (two s (at + 2)) in
-      let d : four s at / 65536 ≡ two s (at + 2) = high-half (two s at) (two s (at + 2)) m in
+      let m : two s at < pairSpan = omega (arith, small at, small (at + 1)) in
+      let a : four s at % byteSpan ≡ two s at % byteSpan = low-half (two s at) (two s (at + 2)) in
+      let b : four s at / byteSpan % byteSpan ≡ two s at / byteSpan % byteSpan = next-half (two s at) (two s (at + 2)) in
+      let d : four s at / pairSpan ≡ two s (at + 2) = high-half (two s at) (two s (at + 2)) m in
       let e : at + 2 + 2 ≡ at + 4 = omega arith in
       rw (a, b, d) (split-two at (omega arith) ∙ ap (λ (l : List ℕ). twoBytes (two s at) ++ l) (split-two (at + 2) (omega arith) ∙ rw e))
 
@@ -75,7 +75,7 @@ module _ (s : List ℕ) (small : Bytes s) where
       ∙ ap (λ (l : List ℕ). nodesBytes (nodeAt s at) ++ l) (split-nodes (at + 10) c (omega arith) ∙ rw e)
 
   -- Two bytes hold each variable.
-  pub nodes-narrow : (at c p : ℕ) → varOf (nodesAt s at c) p < 65536
+  pub nodes-narrow : (at c p : ℕ) → varOf (nodesAt s at c) p < pairSpan
   unfolding nodesAt
   nodes-narrow at zero p = omega arith
   nodes-narrow at (suc c) zero = omega (arith, small at, small (at + 1))
@@ -105,13 +105,13 @@ three-parts : (a b c r : List ℕ) → a ++ (b ++ (c ++ r)) ≡ a ++ b ++ c ++ r
 three-parts a b c r = simp append-assoc
 
 -- Two bytes are all that is kept of a sum.
-two-bytes-mod : (x : ℕ) → twoBytes (x % 65536) ≡ twoBytes x
+two-bytes-mod : (x : ℕ) → twoBytes (x % pairSpan) ≡ twoBytes x
 two-bytes-mod x =
-    let a : x % 65536 % 256 ≡ x % 256 = omega arith in
-    let q : x / 256 ≡ x % 65536 / 256 + 256 * (x / 65536) = omega arith in
-    let l : x % 65536 / 256 < 256 = omega arith in
-    let b : x % 65536 / 256 ≡ x / 256 % 256 = sym (rw q (low-byte (x % 65536 / 256) (x / 65536) l)) in
-    let d : x / 256 % 256 % 256 ≡ x / 256 % 256 = omega arith in
+    let a : x % pairSpan % byteSpan ≡ x % byteSpan = omega arith in
+    let q : x / byteSpan ≡ x % pairSpan / byteSpan + byteSpan * (x / pairSpan) = omega arith in
+    let l : x % pairSpan / byteSpan < byteSpan = omega arith in
+    let b : x % pairSpan / byteSpan ≡ x / byteSpan % byteSpan = sym (rw q (low-byte (x % pairSpan / byteSpan) (x / pairSpan) l)) in
+    let d : x / byteSpan % byteSpan % byteSpan ≡ x / byteSpan % byteSpan = omega arith in
     rw (a, b, d)
 
 -- ---- a block that is taken
@@ -120,7 +120,7 @@ module _ (s : List ℕ) (small : Bytes s) {number stated lent n : ℕ} (a : Take
   counts-of : Counted s number stated
   counts-of = counted s number stated (a .counts)
 
-  held-most : two s 2 ≤ 50
+  held-most : two s 2 ≤ blockNodes
   held-most = omega (arith, counts-of .held)
 
   pub nodes-in : length (nodesIn s) ≡ 3 * two s 2
@@ -139,22 +139,22 @@ module _ (s : List ℕ) (small : Bytes s) {number stated lent n : ℕ} (a : Take
       let t3 : drop 504 s ≡ fourBytes n ++ drop 508 s = rw (a .count) at (split-four s small 504 (omega (arith, a .long))) in
       t0 ∙ rw (h, t1, t2, zeros, t3) (in-parts (twoBytes number) (twoBytes (two s 2)) (nodesBytes (nodesIn s)) (replicate (500 - 10 * two s 2) 0) (fourBytes n) (drop 508 s))
 
-  pub block-is : take 512 s ≡ blockOf n number (nodesIn s)
+  pub block-is : take blockBytes s ≡ blockOf n number (nodesIn s)
   unfolding blockOf sumsRight
   block-is =
       let l : length (front n number (nodesIn s)) ≡ 508 = front-length n number (nodesIn s) (omega (arith, nodes-in, held-most)) in
       let f : take 508 s ≡ front n number (nodesIn s) = ap (take 508) front-is ∙ take-at (front n number (nodesIn s)) (drop 508 s) 508 l in
       let q = and-both _ _ (a .sums) in
-      let x : two s 508 ≡ total (front n number (nodesIn s)) % 65536 = rw f at (eqb-true (two s 508) (total (take 508 s) % 65536) (q .0)) in
-      let y : two s 510 ≡ weighted 1 (front n number (nodesIn s)) % 65536 = rw f at (eqb-true (two s 510) (weighted 1 (take 508 s) % 65536) (q .1)) in
+      let x : two s 508 ≡ total (front n number (nodesIn s)) % pairSpan = rw f at (eqb-true (two s 508) (total (take 508 s) % pairSpan) (q .0)) in
+      let y : two s 510 ≡ weighted 1 (front n number (nodesIn s)) % pairSpan = rw f at (eqb-true (two s 510) (weighted 1 (take 508 s) % pairSpan) (q .1)) in
       let t1 : drop 508 s ≡ twoBytes (two s 508) ++ drop 510 s = split-two s small 508 (omega (arith, a .long)) in
-      let t2 : drop 510 s ≡ twoBytes (two s 510) ++ drop 512 s = split-two s small 510 (omega (arith, a .long)) in
+      let t2 : drop 510 s ≡ twoBytes (two s 510) ++ drop blockBytes s = split-two s small 510 (omega (arith, a .long)) in
       let m1 : twoBytes (two s 508) ≡ twoBytes (total (front n number (nodesIn s))) = ap twoBytes x ∙ two-bytes-mod (total (front n number (nodesIn s))) in
       let m2 : twoBytes (two s 510) ≡ twoBytes (weighted 1 (front n number (nodesIn s))) = ap twoBytes y ∙ two-bytes-mod (weighted 1 (front n number (nodesIn s))) in
-      let e : s ≡ front n number (nodesIn s) ++ twoBytes (total (front n number (nodesIn s))) ++ twoBytes (weighted 1 (front n number (nodesIn s))) ++ drop 512 s =
+      let e : s ≡ front n number (nodesIn s) ++ twoBytes (total (front n number (nodesIn s))) ++ twoBytes (weighted 1 (front n number (nodesIn s))) ++ drop blockBytes s =
       front-is ∙ ap (λ (r : List ℕ). front n number (nodesIn s) ++ r) (t1 ∙ ap (λ (r : List ℕ). twoBytes (two s 508) ++ r) t2
-      ∙ ap (λ (r : List ℕ). r ++ (twoBytes (two s 510) ++ drop 512 s)) m1 ∙ ap (λ (r : List ℕ). twoBytes (total (front n number (nodesIn s))) ++ (r ++ drop 512 s)) m2)
-      ∙ three-parts (front n number (nodesIn s)) (twoBytes (total (front n number (nodesIn s)))) (twoBytes (weighted 1 (front n number (nodesIn s)))) (drop 512 s) in
-      ap (take 512) e
-      ∙ take-at (front n number (nodesIn s) ++ twoBytes (total (front n number (nodesIn s))) ++ twoBytes (weighted 1 (front n number (nodesIn s)))) (drop 512 s) 512
+      ∙ ap (λ (r : List ℕ). r ++ (twoBytes (two s 510) ++ drop blockBytes s)) m1 ∙ ap (λ (r : List ℕ). twoBytes (total (front n number (nodesIn s))) ++ (r ++ drop blockBytes s)) m2)
+      ∙ three-parts (front n number (nodesIn s)) (twoBytes (total (front n number (nodesIn s)))) (twoBytes (weighted 1 (front n number (nodesIn s)))) (drop blockBytes s) in
+      ap (take blockBytes) e
+      ∙ take-at (front n number (nodesIn s) ++ twoBytes (total (front n number (nodesIn s))) ++ twoBytes (weighted 1 (front n number (nodesIn s)))) (drop blockBytes s) blockBytes
       (simp length-append (omega arith))

@@ -9,18 +9,18 @@ use lib.ListN.{length, take, drop}
 use lib.Dec.{eqb, ltb}
 use borrow.Author.Tests.{lt-ltb, le-ltb, eq-eqb, ne-eqb, eqb-true, ltb-true, ltb-false, not-false}
 use Rattle.diagram.proofs.Tests.{and-both}
-use Rattle.blocks.specs.Block.{two, four, here, total, weighted, unused, sumsRight, countsRight, Outcome, nodes, refused, row, blockOutcome}
+use Rattle.blocks.specs.Block.{two, four, here, total, weighted, unused, sumsRight, countsRight, Outcome, nodes, refused, row, blockOutcome, blockBytes, blockNodes, blockWords, maxStored, pairSpan}
 
 -- ---- the sums
 
 module _ (s : List ℕ) {a x : ℕ} (ea : a ≡ two s 508) (ex : x ≡ total (take 508 s)) where
-  pub sum-wrong : a ≢ x % 65536 → false ≡ sumsRight s
+  pub sum-wrong : a ≢ x % pairSpan → false ≡ sumsRight s
   unfolding sumsRight
-  sum-wrong h = simp (ne-eqb (two s 508) (total (take 508 s) % 65536) (rw (ea, ex) at h))
+  sum-wrong h = simp (ne-eqb (two s 508) (total (take 508 s) % pairSpan) (rw (ea, ex) at h))
 
-  pub sum-decides : {b y : ℕ} → a ≡ x % 65536 → b ≡ two s 510 → y ≡ weighted 1 (take 508 s) → eqb b (y % 65536) ≡ sumsRight s
+  pub sum-decides : {b y : ℕ} → a ≡ x % pairSpan → b ≡ two s 510 → y ≡ weighted 1 (take 508 s) → eqb b (y % pairSpan) ≡ sumsRight s
   unfolding sumsRight
-  sum-decides h eb ey = rw (eb, ey) (simp (eq-eqb (two s 508) (total (take 508 s) % 65536) (rw (ea, ex) at h)))
+  sum-decides h eb ey = rw (eb, ey) (simp (eq-eqb (two s 508) (total (take 508 s) % pairSpan) (rw (ea, ex) at h)))
 
 -- ---- the counts
 
@@ -87,57 +87,57 @@ unfolding row
 row-no k t p o e = rw e
 
 module _ (s : List ℕ) (number stated lent : ℕ) where
-  pub refused-21 : length s < 512 → refused 21 number ≡ blockOutcome number stated s lent
+  pub refused-21 : length s < blockBytes → refused 21 number ≡ blockOutcome number stated s lent
   unfolding blockOutcome
-  refused-21 h = sym (row-yes 21 _ number _ (lt-ltb (length s) 512 h))
+  refused-21 h = sym (row-yes 21 _ number _ (lt-ltb (length s) blockBytes h))
 
-  module _ (long : 512 ≤ length s) where
+  module _ (long : blockBytes ≤ length s) where
     pub refused-22 : sumsRight s ≡ false → refused 22 number ≡ blockOutcome number stated s lent
     unfolding blockOutcome row
-    refused-22 h = simp (le-ltb (length s) 512 long, h)
+    refused-22 h = simp (le-ltb (length s) blockBytes long, h)
 
     module _ (sums : sumsRight s ≡ true) where
       pub refused-23 : countsRight number stated s ≡ false → refused 23 number ≡ blockOutcome number stated s lent
       unfolding blockOutcome row
-      refused-23 h = simp (le-ltb (length s) 512 long, sums, h)
+      refused-23 h = simp (le-ltb (length s) blockBytes long, sums, h)
 
       module _ (counts : countsRight number stated s ≡ true) where
-        pub refused-25 : 120 < four s 504 → refused 25 number ≡ blockOutcome number stated s lent
+        pub refused-25 : maxStored < four s 504 → refused 25 number ≡ blockOutcome number stated s lent
         unfolding blockOutcome row
-        refused-25 h = simp (le-ltb (length s) 512 long, sums, counts, lt-ltb 120 (four s 504) h)
+        refused-25 h = simp (le-ltb (length s) blockBytes long, sums, counts, lt-ltb maxStored (four s 504) h)
 
-        module _ (few : four s 504 ≤ 120) where
+        module _ (few : four s 504 ≤ maxStored) where
           pub refused-24 : eqb (total (unused s (two s 2))) 0 ≡ false → refused 24 number ≡ blockOutcome number stated s lent
           unfolding blockOutcome row
-          refused-24 h = simp (le-ltb (length s) 512 long, sums, counts, le-ltb 120 (four s 504) few, h)
+          refused-24 h = simp (le-ltb (length s) blockBytes long, sums, counts, le-ltb maxStored (four s 504) few, h)
 
           module _ (rest : eqb (total (unused s (two s 2))) 0 ≡ true) where
-            pub refused-4 : lent < 150 * number + 3 * two s 2 → refused 4 number ≡ blockOutcome number stated s lent
+            pub refused-4 : lent < blockWords * number + 3 * two s 2 → refused 4 number ≡ blockOutcome number stated s lent
             unfolding blockOutcome row
             refused-4 h =
-                simp (le-ltb (length s) 512 long, sums, counts, le-ltb 120 (four s 504) few, rest, lt-ltb lent (150 * number + 3 * two s 2) h)
+                simp (le-ltb (length s) blockBytes long, sums, counts, le-ltb maxStored (four s 504) few, rest, lt-ltb lent (blockWords * number + 3 * two s 2) h)
 
-            pub taken : 150 * number + 3 * two s 2 ≤ lent → nodes (four s 504) ≡ blockOutcome number stated s lent
+            pub taken : blockWords * number + 3 * two s 2 ≤ lent → nodes (four s 504) ≡ blockOutcome number stated s lent
             unfolding blockOutcome row
             taken h =
-                simp (le-ltb (length s) 512 long, sums, counts, le-ltb 120 (four s 504) few, rest, le-ltb lent (150 * number + 3 * two s 2) h)
+                simp (le-ltb (length s) blockBytes long, sums, counts, le-ltb maxStored (four s 504) few, rest, le-ltb lent (blockWords * number + 3 * two s 2) h)
 
 -- ---- what the tests say of the numbers
 
-pub held-few : (s : List ℕ) (number stated : ℕ) → countsRight number stated s ≡ true → two s 2 ≤ 50
+pub held-few : (s : List ℕ) (number stated : ℕ) → countsRight number stated s ≡ true → two s 2 ≤ blockNodes
 held-few s number stated e = omega (arith, counted s number stated e .held)
 
-pub due-small : (s : List ℕ) (number stated : ℕ) → countsRight number stated s ≡ true → four s 504 ≤ 120 → number ≤ 2
+pub due-small : (s : List ℕ) (number stated : ℕ) → countsRight number stated s ≡ true → four s 504 ≤ maxStored → number ≤ 2
 due-small s number stated e few = omega (arith, counted s number stated e .held, counted s number stated e .some)
 
 -- A block that is taken has passed every test.
 pub record Taken (s : List ℕ) (number stated lent n : ℕ) : Type 0 where
-  pub long : 512 ≤ length s
+  pub long : blockBytes ≤ length s
   pub sums : sumsRight s ≡ true
   pub counts : countsRight number stated s ≡ true
-  pub few : four s 504 ≤ 120
+  pub few : four s 504 ≤ maxStored
   pub rest : total (unused s (two s 2)) ≡ 0
-  pub fits : 150 * number + 3 * two s 2 ≤ lent
+  pub fits : blockWords * number + 3 * two s 2 ≤ lent
   pub count : four s 504 ≡ n
 
 passed : (k : ℕ) (t : Bool) (p : ℕ) (o : Outcome) {n : ℕ} → row k t p o ≡ nodes n → (t ≡ false) × (o ≡ nodes n)

@@ -9,14 +9,14 @@ use lib.Seq.{take-at, drop-at, drop-drop, getD-drop}
 use lib.Dec.{eqb}
 use borrow.Author.Tests.{eq-eqb, ne-eqb, lt-ltb}
 use Rattle.diagram.specs.Diagram.{varOf}
-use Rattle.blocks.specs.Block.{two, four, twoBytes, fourBytes, nodesBytes, nodesAt, nodesIn, total, weighted, front, blockOf, here, unused, sumsRight, countsRight, blockOutcome, nodes}
+use Rattle.blocks.specs.Block.{two, four, twoBytes, fourBytes, nodesBytes, nodesAt, nodesIn, total, weighted, front, blockOf, here, unused, sumsRight, countsRight, blockOutcome, nodes, blockBytes, blockWords, byteSpan, maxStored, pairSpan}
 use Rattle.blocks.proofs.Testing.{taken}
 use Rattle.blocks.proofs.Front.{nodes-length, front-length, block-length}
 
 -- Words that fit their bytes: variables two, links four.
 pub record Fits (w : List ℕ) : Type 0 where
   pub small : (k : ℕ) → getD w k 0 < 2 ^ 32
-  pub narrow : (p : ℕ) → varOf w p < 65536
+  pub narrow : (p : ℕ) → varOf w p < pairSpan
 
 -- ---- what stands at a place of the bytes
 
@@ -29,19 +29,19 @@ module _ (s : List ℕ) where
       let z : at + 0 ≡ at = omega arith in
       ap (λ (k : ℕ). getD s k 0) (sym z) ∙ sym (getD-drop at s 0 0) ∙ ap (λ (l : List ℕ). getD l 0 0) e
 
-  two-at : (at x : ℕ) {r : List ℕ} → drop at s ≡ twoBytes x ++ r → two s at ≡ x % 65536
+  two-at : (at x : ℕ) {r : List ℕ} → drop at s ≡ twoBytes x ++ r → two s at ≡ x % pairSpan
   two-at at x {r} e =
-      let a : getD s at 0 ≡ x % 256 = at-first at e in
-      let b : getD s (at + 1) 0 ≡ x / 256 % 256 = at-first (at + 1) (at-next at 1 (x % 256 ∷ []) e refl) in
+      let a : getD s at 0 ≡ x % byteSpan = at-first at e in
+      let b : getD s (at + 1) 0 ≡ x / byteSpan % byteSpan = at-first (at + 1) (at-next at 1 (x % byteSpan ∷ []) e refl) in
       omega arith
 
-  two-is : (at x : ℕ) {r : List ℕ} → x < 65536 → drop at s ≡ twoBytes x ++ r → two s at ≡ x
+  two-is : (at x : ℕ) {r : List ℕ} → x < pairSpan → drop at s ≡ twoBytes x ++ r → two s at ≡ x
   two-is at x h e = omega (arith, two-at at x e)
 
   four-is : (at x : ℕ) {r : List ℕ} → x < 2 ^ 32 → drop at s ≡ fourBytes x ++ r → four s at ≡ x
   four-is at x {r} h e =
-      let a : two s at ≡ x % 65536 = two-at at x e in
-      let b : two s (at + 2) ≡ x / 65536 % 65536 = two-at (at + 2) (x / 65536) (at-next at 2 (twoBytes x) e refl) in
+      let a : two s at ≡ x % pairSpan = two-at at x e in
+      let b : two s (at + 2) ≡ x / pairSpan % pairSpan = two-at (at + 2) (x / pairSpan) (at-next at 2 (twoBytes x) e refl) in
       omega arith
 
 fits-next : {a b d : ℕ} {w : List ℕ} → Fits (a ∷ b ∷ d ∷ w) → Fits w
@@ -83,14 +83,14 @@ in-order a b c d e r = simp append-assoc
 
 -- ---- a block and what follows it
 
-module _ (n number : ℕ) (w r : List ℕ) (held : ℕ) (whole : length w ≡ 3 * held) (some : 0 < held) (few : n ≤ 120) (right : held ≡ here n number) (fits : Fits w) where
+module _ (n number : ℕ) (w r : List ℕ) (held : ℕ) (whole : length w ≡ 3 * held) (some : 0 < held) (few : n ≤ maxStored) (right : held ≡ here n number) (fits : Fits w) where
   abbrev bytes : List ℕ
   bytes = blockOf n number w ++ r
 
   abbrev sums : List ℕ
   sums = twoBytes (total (front n number w)) ++ (twoBytes (weighted 1 (front n number w)) ++ r)
 
-  short : length w ≤ 150
+  short : length w ≤ blockWords
   short = omega arith
 
   front-first : bytes ≡ front n number w ++ sums
@@ -170,7 +170,7 @@ module _ (n number : ℕ) (w r : List ℕ) (held : ℕ) (whole : length w ≡ 3 
         let e : two bytes 2 ≡ here (four bytes 504) number = held-back ∙ right ∙ ap (λ (k : ℕ). here k number) (sym stated-back) in
         both _ _ (eq-eqb _ _ numbered) (both _ _ m (both _ _ (lt-ltb 0 (two bytes 2) (omega (arith, held-back))) (eq-eqb _ _ e)))
 
-    pub taken-back : (lent : ℕ) → 150 * number + 3 * held ≤ lent → blockOutcome number stated bytes lent ≡ nodes n
+    pub taken-back : (lent : ℕ) → blockWords * number + 3 * held ≤ lent → blockOutcome number stated bytes lent ≡ nodes n
     taken-back lent h =
-        let long : 512 ≤ length bytes = simp length-append (omega (arith, block-length n number w short)) in
+        let long : blockBytes ≤ length bytes = simp length-append (omega (arith, block-length n number w short)) in
         sym (taken bytes number stated lent long sums-back counts-back (omega (arith, stated-back)) (eq-eqb _ _ unused-back) (omega (arith, held-back))) ∙ ap nodes stated-back

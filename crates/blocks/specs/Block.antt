@@ -11,7 +11,7 @@ use Rattle.blocks.specs.declared.stored.Stored.the-variants.{Nodes, Refu
 
 -- ---- the layout
 
--- bytes of a block; nodes of a full one, and their words; the most nodes of a file
+-- bytes of a block; nodes of a full one, and their words; the most nodes of a file, and their words
 abbrev pub blockBytes : ℕ
 blockBytes = 512
 
@@ -24,37 +24,47 @@ blockWords = 3 * blockNodes
 abbrev pub maxStored : ℕ
 maxStored = 120
 
--- bytes that the sums are over; where the places for nodes begin and end, and the bytes of one
+abbrev pub maxStoredWords : ℕ
+maxStoredWords = 3 * maxStored
+
+-- bytes that the sums are over, all but their own four; where the places for nodes begin and end, and the bytes of one
 abbrev pub summed : ℕ
-summed = 508
+summed = blockBytes - 4
 
 abbrev pub places : ℕ
 places = 4
 
 abbrev pub placesEnd : ℕ
-placesEnd = 504
+placesEnd = summed - 4
 
 abbrev pub placeBytes : ℕ
 placeBytes = 10
 
 -- ---- bytes, and numbers in them, least byte first
 
+-- how many numbers a byte can be, and two bytes
+abbrev pub byteSpan : ℕ
+byteSpan = 256
+
+abbrev pub pairSpan : ℕ
+pairSpan = byteSpan * byteSpan
+
 abbrev pub Bytes : List ℕ → Type 0
-Bytes s = (k : ℕ) → getD s k 0 < 256
+Bytes s = (k : ℕ) → getD s k 0 < byteSpan
 
 -- two and four bytes of a number
 abbrev pub twoBytes : ℕ → List ℕ
-twoBytes x = x % 256 ∷ x / 256 % 256 ∷ []
+twoBytes x = x % byteSpan ∷ x / byteSpan % byteSpan ∷ []
 
 abbrev pub fourBytes : ℕ → List ℕ
-fourBytes x = twoBytes x ++ twoBytes (x / 65536)
+fourBytes x = twoBytes x ++ twoBytes (x / pairSpan)
 
 -- the number in two and in four bytes at a place
 abbrev pub two : List ℕ → ℕ → ℕ
-two s at = getD s at 0 + 256 * getD s (at + 1) 0
+two s at = getD s at 0 + byteSpan * getD s (at + 1) 0
 
 abbrev pub four : List ℕ → ℕ → ℕ
-four s at = two s at + 65536 * two s (at + 2)
+four s at = two s at + pairSpan * two s (at + 2)
 
 -- ---- the sums: of the bytes, and of (position + 1) × byte
 
@@ -113,7 +123,7 @@ unused s held = take (placesEnd - (places + placeBytes * held)) (drop (places + 
 
 -- both sums are what the block says
 unfoldable pub sumsRight : List ℕ → Bool
-sumsRight s = eqb (two s summed) (total (take summed s) % 65536) && eqb (two s (summed + 2)) (weighted 1 (take summed s) % 65536)
+sumsRight s = eqb (two s summed) (total (take summed s) % pairSpan) && eqb (two s (summed + 2)) (weighted 1 (take summed s) % pairSpan)
 
 -- the block's number is the one due; a later block states the nodes that the first one stated; the block holds some
 -- nodes, as many as its number and the nodes in the file say
@@ -164,6 +174,6 @@ pub record Reads (number stated : ℕ) (s before after : List ℕ) (r : Stored) 
 pub record Whole (nodes number : ℕ) (w : List ℕ) : Type 0 where
   pub whole : length w ≡ 3 * (length w / 3)
   pub few : length w ≤ blockWords
-  pub narrow : (p : ℕ) → varOf w p < 65536
+  pub narrow : (p : ℕ) → varOf w p < pairSpan
   pub counted : nodes < 2 ^ 32
-  pub numbered : number < 65536
+  pub numbered : number < pairSpan

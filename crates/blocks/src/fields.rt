@@ -1,14 +1,16 @@
 // Numbers of two and four bytes, the least byte first.
+use crate::layout::BYTE_SPAN;
+use crate::layout::PAIR_SPAN;
 use writing::put;
 ghost use mathlib.Core.Path.{_≡_};
-ghost use Prim.Native.Nat.{_<_};
+ghost use Prim.Native.Nat.{_*_, _<_};
 ghost use lib.ListN.{getD};
 ghost use Rattle.writing.specs.Writing.{Wrote};
-ghost use Rattle.blocks.specs.Block.{twoBytes, fourBytes, two, four};
+ghost use Rattle.blocks.specs.Block.{byteSpan, pairSpan, twoBytes, fourBytes, two, four};
 
 // The byte at a place, and 0 past the end.
 fn byte(bytes: &[u8], at: usize) -> u32
-    ensures { λ r. ⌜ (r ≡ getD (now (bytes .entry)) at 0) × (r < 256) ⌝ }
+    ensures { λ r. ⌜ (r ≡ getD (now (bytes .entry)) at 0) × (r < byteSpan) ⌝ }
 {
     if at < bytes.len() {
         bytes[at] as u32
@@ -19,31 +21,31 @@ fn byte(bytes: &[u8], at: usize) -> u32
 
 // The number in two bytes.
 pub(crate) fn get_two(bytes: &[u8], at: usize) -> u32
-    requires { ⌜ at < 4294967296 ⌝ }
-    ensures { λ r. ⌜ (r ≡ two (now (bytes .entry)) at) × (r < 65536) ⌝ }
+    requires { ⌜ at < pairSpan * pairSpan ⌝ }
+    ensures { λ r. ⌜ (r ≡ two (now (bytes .entry)) at) × (r < pairSpan) ⌝ }
 {
-    byte(bytes, at) + 256 * byte(bytes, at + 1)
+    byte(bytes, at) + BYTE_SPAN * byte(bytes, at + 1)
 }
 
 // The number in four bytes.
 pub(crate) fn get_four(bytes: &[u8], at: usize) -> u32
-    requires { ⌜ at < 65536 ⌝ }
+    requires { ⌜ at < pairSpan ⌝ }
     ensures { λ r. ⌜ r ≡ four (now (bytes .entry)) at ⌝ }
 {
-    get_two(bytes, at) + 65536 * get_two(bytes, at + 2)
+    get_two(bytes, at) + PAIR_SPAN * get_two(bytes, at + 2)
 }
 
 // The two low bytes of a number.
 pub(crate) fn put_two(out: &mut [u8], at: usize, x: u32) -> usize
     ensures { λ r. ⌜ Wrote (twoBytes x) (now (out .entry)) at (now (out .exit)) r ⌝ }
 {
-    let next = put(out, at, (x % 256) as u8);
-    put(out, next, (x / 256 % 256) as u8)
+    let next = put(out, at, (x % BYTE_SPAN) as u8);
+    put(out, next, (x / BYTE_SPAN % BYTE_SPAN) as u8)
 }
 
 pub(crate) fn put_four(out: &mut [u8], at: usize, x: u32) -> usize
     ensures { λ r. ⌜ Wrote (fourBytes x) (now (out .entry)) at (now (out .exit)) r ⌝ }
 {
     let next = put_two(out, at, x);
-    put_two(out, next, x / 65536)
+    put_two(out, next, x / PAIR_SPAN)
 }

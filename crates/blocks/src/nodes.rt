@@ -10,11 +10,11 @@ use writing::put_word;
 ghost use Prim.Native.Nat.{_*_, _≤_};
 ghost use lib.ListN.{length};
 ghost use Rattle.writing.specs.Writing.{Wrote};
-ghost use Rattle.blocks.specs.Block.{nodeBytes, nodesBytes, nodeAt, nodesAt, places};
+ghost use Rattle.blocks.specs.Block.{blockBytes, blockNodes, nodeBytes, nodesBytes, nodeAt, nodesAt, places};
 
 // The node in the ten bytes from a place on.
 fn get_node(block: &[u8], from: usize, output: &mut [u32], at: usize) -> usize
-    requires { ⌜ from ≤ 512 ⌝ }
+    requires { ⌜ from ≤ blockBytes ⌝ }
     ensures { λ r. ⌜ Wrote (nodeAt (now (block .entry)) from) (now (output .entry)) at (now (output .exit)) r ⌝ }
 {
     let low = put_word(output, at, get_two(block, from));
@@ -24,7 +24,7 @@ fn get_node(block: &[u8], from: usize, output: &mut [u32], at: usize) -> usize
 
 // The nodes in a block's first places.
 pub(crate) fn get_nodes(block: &[u8], count: usize, output: &mut [u32], at: usize) -> usize
-    requires { ⌜ count ≤ 50 ⌝ }
+    requires { ⌜ count ≤ blockNodes ⌝ }
     ensures { λ r. ⌜ Wrote (nodesAt (now (block .entry)) places count) (now (output .entry)) at (now (output .exit)) r ⌝ }
 {
     let mut place = at;

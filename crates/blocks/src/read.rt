@@ -23,7 +23,7 @@ ghost use mathlib.Core.Bool.{_||_};
 ghost use Prim.Native.Nat.{_-_, _*_, _≤_, _<_, min};
 ghost use lib.Dec.{eqb};
 ghost use lib.ListN.{length};
-ghost use Rattle.blocks.specs.Block.{total, here, two, four, unused, countsRight, blockOutcome, said, Reads};
+ghost use Rattle.blocks.specs.Block.{blockBytes, blockNodes, total, here, two, four, unused, countsRight, blockOutcome, said, Reads};
 
 // How many nodes a block holds, by its number and the number of nodes in the file.
 pub fn nodes_here(nodes: usize, number: usize) -> usize
@@ -66,7 +66,7 @@ fn counts_right(block: &[u8], number: usize, stated: usize) -> bool
 
 // Whether the places after the block's nodes are zero: the sum of bytes is zero only if they all are.
 fn unused_zero(block: &[u8], held: usize) -> bool
-    requires { ⌜ (held ≤ 50) × (512 ≤ length (now block)) ⌝ }
+    requires { ⌜ (held ≤ blockNodes) × (blockBytes ≤ length (now block)) ⌝ }
     ensures { λ r. ⌜ r ≡ eqb (total (unused (now (block .entry)) held)) 0 ⌝ }
 {
     let from = PLACES + PLACE * held;

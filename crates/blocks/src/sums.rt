@@ -1,13 +1,14 @@
 // The two sums of a block. Few enough bytes are summed that no sum wraps.
 use crate::fields::get_two;
+use crate::layout::PAIR_SPAN;
 use crate::layout::SUMMED;
 ghost use mathlib.Core.Path.{_≡_};
 ghost use Prim.Native.Nat.{_≤_};
 ghost use lib.ListN.{length};
-ghost use Rattle.blocks.specs.Block.{total, weighted, sumsRight};
+ghost use Rattle.blocks.specs.Block.{blockBytes, total, weighted, sumsRight};
 
 pub(crate) fn sum(bytes: &[u8]) -> u32
-    requires { ⌜ length (now bytes) ≤ 512 ⌝ }
+    requires { ⌜ length (now bytes) ≤ blockBytes ⌝ }
     ensures { λ r. ⌜ r ≡ total (now (bytes .entry)) ⌝ }
 {
     let mut sum: u32 = 0;
@@ -21,7 +22,7 @@ pub(crate) fn sum(bytes: &[u8]) -> u32
 
 // Each byte times its position, counted from one.
 pub(crate) fn weighted_sum(bytes: &[u8]) -> u32
-    requires { ⌜ length (now bytes) ≤ 512 ⌝ }
+    requires { ⌜ length (now bytes) ≤ blockBytes ⌝ }
     ensures { λ r. ⌜ r ≡ weighted 1 (now (bytes .entry)) ⌝ }
 {
     let mut sum: u32 = 0;
@@ -35,11 +36,11 @@ pub(crate) fn weighted_sum(bytes: &[u8]) -> u32
 
 // Whether both sums of a block are what the block says.
 pub(crate) fn sums_right(block: &[u8]) -> bool
-    requires { ⌜ 512 ≤ length (now block) ⌝ }
+    requires { ⌜ blockBytes ≤ length (now block) ⌝ }
     ensures { λ r. ⌜ r ≡ sumsRight (now (block .entry)) ⌝ }
 {
-    if get_two(block, SUMMED) != sum(&block[..SUMMED]) % 65536 {
+    if get_two(block, SUMMED) != sum(&block[..SUMMED]) % PAIR_SPAN {
         return false;
     }
-    get_two(block, SUMMED + 2) == weighted_sum(&block[..SUMMED]) % 65536
+    get_two(block, SUMMED + 2) == weighted_sum(&block[..SUMMED]) % PAIR_SPAN
 }

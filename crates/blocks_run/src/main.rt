@@ -11,6 +11,9 @@
 // Both files are made by tests/blocks_cases.py, from a reading of document 01 that shares nothing with this code.
 use block_file::read::read_file;
 use block_file::write::write_file;
+use blocks::layout::BLOCK;
+use blocks::layout::FILE;
+use blocks::layout::FILE_WORDS;
 use blocks::read::read_block;
 use blocks::stored::Stored;
 use cases::fill;
@@ -23,11 +26,13 @@ use messages::refusal::write_refusal;
 use messages::summary::write_missed;
 use naturals::Natural;
 use naturals::zero;
+use report::lines::REPORT;
 use report::weigh::report;
 use request::Target;
 use text::parse::parse_decimal;
 use text::parse::parse_hexadecimal;
 use text::parse::parse_natural;
+use text::print::DECIMAL;
 use text::print::write_decimal;
 use text::print::write_hexadecimal;
 use text::print::write_natural;
@@ -37,13 +42,11 @@ ghost use lib.ListN.{length};
 
 const TEXT: usize = 524288;
 
-const WORDS: usize = 2100;
+// The numbers of a case: the bytes of a block more than a file may have, and what stands before them.
+const WORDS: usize = FILE + BLOCK + 52;
 
-const OUTPUT: usize = 400;
-
-const LINES: usize = 16384;
-
-const NUMERAL: usize = 10 * naturals::WORDS;
+// More words than the nodes of a file have.
+const OUTPUT: usize = FILE_WORDS + 40;
 
 fn say(text: &[u8], value: u64) {
     io::write_all(STDOUT_FILENO, text);
@@ -103,8 +106,8 @@ fn blank_output() -> [u32; OUTPUT] {
     [0u32; OUTPUT]
 }
 
-fn blank_lines() -> [u8; LINES] {
-    [0u8; LINES]
+fn blank_lines() -> [u8; REPORT] {
+    [0u8; REPORT]
 }
 
 fn read_to(output: &mut [u32], bytes: &[u8], filling: u32) {
@@ -147,7 +150,7 @@ fn write_to(file: &mut [u8], words: &[u32], filling: u32) {
 
 fn write_case(words: &[u32], lent: usize, filling: u32) {
     let mut file = blank_lines();
-    let end = least(lent, LINES);
+    let end = least(lent, REPORT);
     write_to(&mut file[..end], words, filling);
 }
 
@@ -192,14 +195,14 @@ fn say_text(valid: bool, text: &[u8], end: usize) {
 }
 
 fn decimal_case(bytes: &[u8]) {
-    let mut text = [0u8; NUMERAL];
+    let mut text = [0u8; DECIMAL];
     let parsed = parse_decimal(bytes);
     let end = write_decimal(&mut text, 0, parsed.value as u64);
     say_text(parsed.valid, &text, end);
 }
 
 fn hexadecimal_case(bytes: &[u8]) {
-    let mut text = [0u8; NUMERAL];
+    let mut text = [0u8; DECIMAL];
     let parsed = parse_hexadecimal(bytes);
     let end = write_hexadecimal(&mut text, 0, parsed.natural);
     say_text(parsed.fits, &text, end);
@@ -217,7 +220,7 @@ fn lowest(a: Natural) -> u64 {
 }
 
 fn natural_case(bytes: &[u8]) {
-    let mut text = [0u8; NUMERAL];
+    let mut text = [0u8; DECIMAL];
     let parsed = parse_natural(bytes);
     let natural = parsed.natural;
     let end = write_natural(&mut text, 0, natural);

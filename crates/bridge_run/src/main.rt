@@ -1,5 +1,6 @@
 // Asks exported functions, one for each struct that they answer with, of the diagram D of document 01: number, place, nodes and vars
 // of the verdict, then the value. Then a refusal: two nodes of which the second is no terminal.
+use diagram::limits::ROOM_PER_NODE;
 use diagram::node::word;
 use houayletan::HouayletanVerdict;
 use houayletan::asking::houayletan_is_false;
@@ -69,7 +70,7 @@ fn cut_to_size(words: &[u32], room: &mut [u32], output: &mut [u32]) {
 
 fn main() {
     let words = [3u32, 0, 0, 3, 1, 1, 2, 0, 1, 1, 2, 1, 0, 2, 3];
-    let mut room = [7u32; 320];
+    let mut room = [7u32; 5 * ROOM_PER_NODE];
     let mut output = [9u32; 15];
     check(&words, &mut room);
     count(&words, &mut room);

@@ -8,6 +8,7 @@ use native.Mathlib.Nat.{zero-mul}
 use lib.ListN.{length, take, drop, replicate}
 use lib.Dec.{T}
 use lib.Ieee.{Float, binary64, mul, isNan, nanBits, ofBits}
+use Rattle.diagram.specs.Limits.{maxNodes}
 use Rattle.diagram.specs.Diagram.{varOf, size, vars, root, Ordered}
 use Rattle.diagram.specs.Verdict.{Outcome, accepted, refused, ifAccepted, verdictOf, roomOf, Checked}
 use Rattle.diagram.specs.declared.verdict.Verdict.{Verdict}
@@ -67,7 +68,7 @@ module _ {w before after : List ℕ} {v : Verdict} (c : Checked w Nothing before
   count-refused e h = record { checked = c; counted = h ∙ sym (when-refused c e (cardinalityOf w) nought) }
 
   module _ {n u : ℕ} (e : v ≡ Yes n u) where
-    pub count-nodes : n ≤ 4096
+    pub count-nodes : n ≤ maxNodes
     count-nodes = let a = admitted c e in omega (arith, a .nodes, a .accepted .formed .few)
 
     used-fits : 3 * n ≤ roomOf w

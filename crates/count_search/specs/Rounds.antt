@@ -7,7 +7,7 @@ use mathlib.Core.List.{List}
 use lib.ListN.{length, getD, set, take, drop}
 use lib.Dec.{leb}
 use Rattle.naturals.specs.Natural.{Holds}
-use Rattle.diagram.specs.Limits.{maxNodes}
+use Rattle.diagram.specs.Limits.{maxNodes, roomPerNode}
 use Rattle.diagram.specs.Diagram.{size, vars, Ordered}
 use Rattle.diagram.specs.Verdict.{accepted}
 use Rattle.diagram.specs.Valuations.{countOf}

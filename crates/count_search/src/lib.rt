@@ -3,8 +3,8 @@
 // answer stands in the working room. The diagram is counted once: weights and rounds go on from that count.
 mod rounds;
 
-use cuts::cut::SENT;
 use diagram::lengths::most;
+use diagram::limits::MAX_WORDS;
 use diagram::node::BddPointer;
 use levels::CHAINS;
 use naturals::Natural;
@@ -54,7 +54,7 @@ fn seek(
     requires { ⌜ Above (now words) (now heads) (now room) (value (target .words)) (value (count .words)) nodes vars ⌝ }
     ensures { λ r. ⌜ Found (now (words .entry)) (underToCount (now (words .entry)) (value (target .words))) (now (room .entry)) (now (room .exit)) (r .nodes) (r .trials) ⌝ }
 {
-    let mut sent = [0u32; SENT];
+    let mut sent = [0u32; MAX_WORDS];
     prepare_counted(words, heads, room, nodes, vars);
     unmark(room, nodes);
     search(words, heads, &mut sent, room, target, count, nodes, vars)

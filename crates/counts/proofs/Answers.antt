@@ -9,6 +9,7 @@ use lib.ListN.{length, drop, take, replicate, length-replicate}
 use Rattle.naturals.specs.Natural.{Holds, Fitted, value, wordCount}
 use Rattle.naturals.specs.declared.Fit.{Fit}
 use Rattle.naturals.proofs.Answer.{holds-as, fitted-below}
+use Rattle.diagram.specs.Limits.{maxNodes}
 use Rattle.diagram.specs.Diagram.{varOf, size, root, Ordered}
 use Rattle.diagram.specs.Verdict.{Outcome, accepted, refused, ifAccepted, roomOf, verdictOf, Checked}
 use Rattle.diagram.specs.declared.verdict.Verdict.{Verdict}
@@ -62,7 +63,7 @@ module _ {w before after : List ℕ} {v : Verdict} (c : Checked w Nothing before
   count-refused e n h = record { checked = c; counted = holds-as (sym (when-refused c e n 0)) h }
 
   module _ {n u : ℕ} (e : v ≡ Yes n u) where
-    pub count-nodes : (n ≡ size w) × (n ≤ 4096)
+    pub count-nodes : (n ≡ size w) × (n ≤ maxNodes)
     count-nodes = let a = admitted c e in (a .nodes, omega (arith, a .nodes, a .accepted .formed .few))
 
     used-fits : entry * n ≤ roomOf w

@@ -12,6 +12,9 @@ use cases::run_of;
 use cases::words_of;
 use counts::exact_cardinality;
 use counts::exact_clause_cardinality;
+use diagram::limits::MAX_NODES;
+use diagram::limits::MAX_VARIABLES;
+use diagram::limits::ROOM_PER_NODE;
 use diagram::verdict::Verdict;
 use libc::STDOUT_FILENO;
 use naturals::Natural;
@@ -31,11 +34,14 @@ ghost use lib.Ieee.{isNan};
 
 const TEXT: usize = 524288;
 
-const WORDS: usize = 12300;
+// A few nodes more than a diagram may have: some cases offer and lend more than is taken.
+const NODES: usize = MAX_NODES + 4;
 
-const ROOM: usize = 262400;
+const WORDS: usize = 3 * NODES;
 
-const OUTPUT: usize = 12300;
+const ROOM: usize = ROOM_PER_NODE * NODES;
+
+const OUTPUT: usize = 3 * NODES;
 
 fn say(text: &[u8], value: u64) {
     io::write_all(STDOUT_FILENO, text);
@@ -55,10 +61,10 @@ fn say_verdict(verdict: Verdict) {
     }
 }
 
-// All eight words, the highest first.
+// All words, the highest first.
 fn say_natural(text: &[u8], natural: Natural) {
     io::write_all(STDOUT_FILENO, text);
-    let mut i = 8;
+    let mut i = naturals::WORDS;
     while 0 < i {
         i -= 1;
         io::print_hex(STDOUT_FILENO, natural.words[i] as u64, 8);
@@ -133,7 +139,7 @@ fn run_per_variable(words: &[u32], room: &mut [u32], output: &mut [u32], word: u
     io::write_all(STDOUT_FILENO, b", per variable ");
     say_verdict(verdict);
     io::write_all(STDOUT_FILENO, b" words");
-    say_words(output, 256);
+    say_words(output, MAX_VARIABLES + 1);
 }
 
 // Negation with an output that is too short for any answer, which has to stay as it was.

@@ -15,15 +15,12 @@ ghost use mathlib.Core.Bool.{cond};
 ghost use lib.Dec.{eqb};
 ghost use Prim.Native.Nat.{_+_, _*_, _≤_};
 ghost use lib.ListN.{length};
-ghost use Rattle.diagram.specs.Limits.{maxNodes};
+ghost use Rattle.diagram.specs.Limits.{maxNodes, roomPerNode};
 ghost use Rattle.cuts.specs.Marks.{Built, Building, Cutting, CutWithin, constantAt};
-
-// As many words as a diagram may have: the copy with sent links is as long as the diagram.
-pub const SENT: usize = 12288;
 
 // Writes the constant that stands for a terminal at a place of the room, and gives its number of nodes.
 pub fn constant(room: &mut [u32], at: usize, target: BddPointer, vars: u32) -> usize
-    requires { ⌜ at ≤ 64 * maxNodes ⌝ }
+    requires { ⌜ at ≤ roomPerNode * maxNodes ⌝ }
     ensures { λ r. ⌜ (now (room .exit) ≡ constantAt (now (room .entry)) at (target .0) vars) × (r ≡ cond (eqb (target .0) 0) 1 2) ⌝ }
 {
     put(room, at, vars);

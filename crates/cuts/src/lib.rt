@@ -4,9 +4,9 @@ mod listing;
 pub mod marks;
 mod send;
 
-use cut::SENT;
 use cut::cut;
 use diagram::lengths::most;
+use diagram::limits::MAX_WORDS;
 use diagram::node::BddPointer;
 use diagram::room::clear;
 use diagram::validate::admit;
@@ -41,7 +41,7 @@ fn approximate(
     ensures { λ r. ⌜ Listed (now (words .entry)) (now (list .entry)) (target .0) (now (room .entry)) (now (room .exit)) (now (output .entry)) (now (output .exit)) r ⌝ }
 {
     let most = most(nodes);
-    let mut sent = [0u32; SENT];
+    let mut sent = [0u32; MAX_WORDS];
     mark_all(list, room, most);
     let count = cut(words, &mut sent, room, most, target, nodes, vars);
     copy(room, ANSWER * most, output, 3 * count);

@@ -12,6 +12,8 @@ use cases::words_of;
 use cuts::Approximation;
 use cuts::overapproximate;
 use cuts::underapproximate;
+use diagram::limits::MAX_NODES;
+use diagram::limits::ROOM_PER_NODE;
 use diagram::node::word;
 use diagram::verdict::Verdict;
 use libc::STDOUT_FILENO;
@@ -27,11 +29,15 @@ ghost use lib.ListN.{length};
 
 const TEXT: usize = 524288;
 
-const WORDS: usize = 12400;
+// A few nodes more than a diagram may have: some cases offer and lend more than is taken.
+const NODES: usize = MAX_NODES + 4;
 
-const OUTPUT: usize = 12300;
+// With what stands before the words of a diagram, a list among it.
+const WORDS: usize = 3 * NODES + 100;
 
-const ROOM: usize = 262400;
+const OUTPUT: usize = 3 * NODES;
+
+const ROOM: usize = ROOM_PER_NODE * NODES;
 
 // What a line has before the list or the target.
 const BEFORE: usize = 5;
@@ -72,7 +78,7 @@ fn say_words(words: &[u32], count: usize) {
 
 // What the output has: the words of that many nodes, and words as they were.
 fn say_output(output: &[u32], word: u32, nodes: usize) {
-    let count = 3 * least(nodes, 4096);
+    let count = 3 * least(nodes, MAX_NODES);
     say(b", output kept ", run_of(output, count, word) as u64);
     if 0 < count {
         say_words(output, count);

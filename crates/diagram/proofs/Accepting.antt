@@ -7,7 +7,7 @@ use native.Mathlib.Omega.{arith}
 use borrow.Author.Tests.{ltb-false, leb-false, eqb-true, eqb-false, not-false, lt-ltb}
 use lib.ListN.{length, drop, replicate}
 use lib.Dec.{leb, ltb, eqb}
-use Rattle.diagram.specs.Limits.{maxNodes, maxVariables}
+use Rattle.diagram.specs.Limits.{maxNodes, maxVariables, roomPerNode}
 use Rattle.diagram.specs.Diagram.{varOf, lowOf, highOf, size, vars, Terminal, InRange, Formed}
 use Rattle.diagram.specs.Verdict.{Outcome, said, Checked, accepted, refused, row, roomOf, short, lengthsOf, isTerminal, terminalsOf, firstNode, rangesOf, graphOf, contentsOf, verdictOf}
 use Rattle.diagram.specs.Faults.{faultOf, isFaulty}
@@ -173,5 +173,5 @@ sized-of w room n v all part m ea el =
     record { whole = m .whole; some = m .some; few = m .few; fits = omega arith }
 
 -- the words that the code lends of the room
-pub all-is : (w : List ℕ) (room n v m : ℕ) → Measured w room n v → m ≡ max n 2 → 64 * m ≡ roomOf w
-all-is w room n v m r e = ap (λ (k : ℕ). 64 * k) (e ∙ ap (λ (k : ℕ). max k 2) (r .nodes))
+pub all-is : (w : List ℕ) (room n v m : ℕ) → Measured w room n v → m ≡ max n 2 → roomPerNode * m ≡ roomOf w
+all-is w room n v m r e = ap (λ (k : ℕ). roomPerNode * k) (e ∙ ap (λ (k : ℕ). max k 2) (r .nodes))

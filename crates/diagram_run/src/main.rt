@@ -8,6 +8,8 @@ use cases::line_ends;
 use cases::number;
 use cases::run_of;
 use cases::words_of;
+use diagram::limits::MAX_NODES;
+use diagram::limits::ROOM_PER_NODE;
 use diagram::validate::validate;
 use diagram::verdict::Verdict;
 use libc::STDOUT_FILENO;
@@ -16,9 +18,12 @@ ghost use lib.ListN.{length};
 
 const TEXT: usize = 262144;
 
-const WORDS: usize = 12300;
+// A few nodes more than a diagram may have: some cases offer and lend more than is taken.
+const NODES: usize = MAX_NODES + 4;
 
-const ROOM: usize = 262400;
+const WORDS: usize = 3 * NODES;
+
+const ROOM: usize = ROOM_PER_NODE * NODES;
 
 fn say(text: &[u8], value: u64) {
     io::write_all(STDOUT_FILENO, text);

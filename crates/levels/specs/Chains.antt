@@ -1,14 +1,15 @@
 -- The nodes that test one variable, linked from the last of them to the first. Auxiliary: no promise to a caller names these.
-use Prim.Native.Nat.{ℕ, _≤_, _<_}
+use Prim.Native.Nat.{ℕ, _+_, _≤_, _<_}
 use mathlib.Core.Path.{_≡_}
 use mathlib.Core.Logic.{_≢_}
 use mathlib.Core.List.{List}
 use lib.ListN.{getD}
+use Rattle.diagram.specs.Limits.{maxVariables}
 use Rattle.diagram.specs.Diagram.{varOf, size, vars, Ordered}
 
--- How many chains there are: at least one for each variable. The code has the same number in src/lib.rt.
+-- How many chains there are: one for each variable, and one for what the terminals have in its place. The code has the same number in src/lib.rt.
 abbrev pub chainCount : ℕ
-chainCount = 256
+chainCount = maxVariables + 1
 
 -- q is the last node below b that tests variable c, or 0 where there is none.
 pub record Last (w : List ℕ) (c b q : ℕ) : Type 0 where

@@ -1,5 +1,6 @@
 // The nodes of each variable as a chain, from the last of them to the first. Children may stand after their parents in the
 // array; with the chains a pass goes by variables, in as many steps as there are nodes and variables, without recursion.
+use diagram::limits::MAX_VARIABLES;
 use diagram::node::BddPointer;
 use diagram::node::BddVariable;
 use diagram::node::var_of;
@@ -10,8 +11,8 @@ ghost use Prim.Native.Nat.{_≤_};
 ghost use lib.ListN.{length, getD, replicate};
 ghost use Rattle.levels.specs.Chains.{chainCount, Linked, Given};
 
-// At least as many chains as a diagram may have variables.
-pub const CHAINS: usize = 256;
+// A chain for each variable that a diagram may have, and one for what the terminals have in its place.
+pub const CHAINS: usize = MAX_VARIABLES + 1;
 
 // The last node that tests a variable; node 0 where there is none.
 pub fn head_of(heads: &[u32], variable: BddVariable) -> BddPointer

@@ -6,35 +6,45 @@ use mathlib.Core.List.{List, [], _∷_, _++_}
 use native.Mathlib.Omega.{arith}
 use lib.ListN.{length, length-append}
 use lib.Dec.{ltb, eqb}
+use Rattle.diagram.specs.Limits.{maxVariables}
 use Rattle.writing.specs.Writing.{bytes}
+use Rattle.blocks.specs.Block.{maxStored}
 use Rattle.text.specs.Digits.{decimalDigits, hexadecimalDigits, decimal, hexadecimal}
 use Rattle.text.proofs.Numerals.{decimal-length, hexadecimal-length}
 use Rattle.report.specs.Report.{refusedAt, feed}
 use Rattle.request.specs.Request.{Aim, nodes, cases}
-use Rattle.messages.specs.Texts.{subject, ofNode, phrase, refusalText, twice, targetText, missedText, sizesText, countsText, changeText, trialsText}
+use Rattle.messages.specs.Texts.{subject, ofNode, moreThan, phrase, refusalText, twice, targetText, missedText, sizesText, countsText, changeText, trialsText}
 
 of-both : (k : ℕ) (b : Bool) (x y : List ℕ) → length x ≤ k → length y ≤ k → length (cond b x y) ≤ k
 of-both k true x y h g = h
 of-both k false x y h g = g
 
-phrase-length : (number : ℕ) → length (phrase number) ≤ 80
+-- The sentences that are only words, and those that name a limit.
+abbrev longestSentence : ℕ
+longestSentence = 80
+
+more-length : (most : ℕ) (what : List ℕ) → length (moreThan most what) ≤ 20 + decimalDigits + length what
+unfolding moreThan
+more-length most what = simp length-append (omega (arith, decimal-length most))
+
+phrase-length : (number : ℕ) → length (phrase number) ≤ longestSentence + decimalDigits
 unfolding phrase
 phrase-length number =
-    of-both 80 (eqb number 4) _ _ (omega arith)
-    (of-both 80 (eqb number 6) _ _ (omega arith)
-    (of-both 80 (eqb number 7) _ _ (omega arith)
-    (of-both 80 (eqb number 8) _ _ (omega arith)
-    (of-both 80 (eqb number 9) _ _ (omega arith)
-    (of-both 80 (eqb number 10) _ _ (omega arith)
-    (of-both 80 (eqb number 11) _ _ (omega arith)
-    (of-both 80 (eqb number 12) _ _ (omega arith)
-    (of-both 80 (eqb number 16) _ _ (omega arith)
-    (of-both 80 (eqb number 19) _ _ (omega arith)
-    (of-both 80 (eqb number 21) _ _ (omega arith)
-    (of-both 80 (eqb number 22) _ _ (omega arith)
-    (of-both 80 (eqb number 23) _ _ (omega arith)
-    (of-both 80 (eqb number 24) _ _ (omega arith)
-    (of-both 80 (eqb number 25) _ _ (omega arith)
+    of-both (longestSentence + decimalDigits) (eqb number 4) _ _ (omega arith)
+    (of-both (longestSentence + decimalDigits) (eqb number 6) _ _ (omega arith)
+    (of-both (longestSentence + decimalDigits) (eqb number 7) _ _ (omega (arith, more-length maxVariables (bytes " variables")))
+    (of-both (longestSentence + decimalDigits) (eqb number 8) _ _ (omega arith)
+    (of-both (longestSentence + decimalDigits) (eqb number 9) _ _ (omega arith)
+    (of-both (longestSentence + decimalDigits) (eqb number 10) _ _ (omega arith)
+    (of-both (longestSentence + decimalDigits) (eqb number 11) _ _ (omega arith)
+    (of-both (longestSentence + decimalDigits) (eqb number 12) _ _ (omega arith)
+    (of-both (longestSentence + decimalDigits) (eqb number 16) _ _ (omega arith)
+    (of-both (longestSentence + decimalDigits) (eqb number 19) _ _ (omega arith)
+    (of-both (longestSentence + decimalDigits) (eqb number 21) _ _ (omega arith)
+    (of-both (longestSentence + decimalDigits) (eqb number 22) _ _ (omega arith)
+    (of-both (longestSentence + decimalDigits) (eqb number 23) _ _ (omega arith)
+    (of-both (longestSentence + decimalDigits) (eqb number 24) _ _ (omega arith)
+    (of-both (longestSentence + decimalDigits) (eqb number 25) _ _ (omega (arith, more-length maxStored (bytes " nodes")))
     (omega arith)))))))))))))))
 
 subject-length : (number place : ℕ) → length (subject number place) ≤ 6 + decimalDigits
@@ -42,7 +52,7 @@ unfolding subject
 subject-length number place =
     of-both (6 + decimalDigits) (ofNode number) (bytes "node " ++ decimal place ++ bytes " ") [] (simp length-append (omega (arith, decimal-length place))) (omega arith)
 
-pub refusal-length : (number place : ℕ) → length (refusalText number place) ≤ 101 + 3 * decimalDigits
+pub refusal-length : (number place : ℕ) → length (refusalText number place) ≤ 21 + longestSentence + 4 * decimalDigits
 unfolding refusalText refusedAt
 refusal-length number place =
     simp length-append (omega (arith, decimal-length number, decimal-length place, subject-length number place, phrase-length number))

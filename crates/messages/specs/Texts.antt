@@ -1,10 +1,13 @@
 -- What `shrink` says on standard error. Texts are lists of bytes.
-use Prim.Native.Nat.{ℕ, _-_}
+use Prim.Native.Nat.{ℕ, _+_, _-_, _*_}
 use mathlib.Core.Bool.{Bool, true, false, cond, _&&_, _||_}
 use mathlib.Core.List.{List, [], _∷_, _++_}
+use lib.ListN.{length}
 use lib.Dec.{leb, ltb, eqb}
+use Rattle.diagram.specs.Limits.{maxVariables}
 use Rattle.writing.specs.Writing.{bytes}
-use Rattle.text.specs.Digits.{decimal, hexadecimal}
+use Rattle.blocks.specs.Block.{maxStored}
+use Rattle.text.specs.Digits.{decimalDigits, hexadecimalDigits, decimal, hexadecimal}
 use Rattle.report.specs.Report.{refusedAt, feed}
 use Rattle.request.specs.Request.{Aim, nodes, cases}
 
@@ -28,11 +31,15 @@ ofNode number = eqb number 6 || (leb 8 number && leb number 12)
 unfoldable pub subject : ℕ → ℕ → List ℕ
 subject number place = cond (ofNode number) (bytes "node " ++ decimal place ++ bytes " ") []
 
+-- `there are more than 120 nodes`
+unfoldable pub moreThan : ℕ → List ℕ → List ℕ
+moreThan most what = bytes "there are more than " ++ decimal most ++ what
+
 unfoldable pub phrase : ℕ → List ℕ
 phrase number =
     cond (eqb number 4) (bytes "the output is too short")
     (cond (eqb number 6) (bytes "is not the terminal that stands there in a diagram, with node 0's variable count")
-    (cond (eqb number 7) (bytes "there are more than 255 variables")
+    (cond (eqb number 7) (moreThan maxVariables (bytes " variables"))
     (cond (eqb number 8) (bytes "has a variable that is not below the variable count")
     (cond (eqb number 9) (bytes "has a low link past the nodes")
     (cond (eqb number 10) (bytes "has a high link past the nodes")
@@ -44,7 +51,7 @@ phrase number =
     (cond (eqb number 22) (bytes "a check sum is wrong")
     (cond (eqb number 23) (bytes "a block number, a node count or the order of blocks is wrong")
     (cond (eqb number 24) (bytes "unused bytes are not zero")
-    (cond (eqb number 25) (bytes "there are more than 120 nodes")
+    (cond (eqb number 25) (moreThan maxStored (bytes " nodes"))
     (bytes "the input is refused")))))))))))))))
 
 unfoldable pub refusalText : ℕ → ℕ → List ℕ
@@ -78,3 +85,11 @@ changeText false before after = twice (bytes "lost ") (before - after) (bytes " 
 
 unfoldable pub trialsText : ℕ → List ℕ
 trialsText trials = bytes "trials " ++ decimal trials ++ feed
+
+-- No summary is longer (proofs/Fitting.antt): its words, eight numbers in decimal and four in hexadecimal, each with all the digits that
+-- there may be. The code has the same number in src/summary.rt.
+abbrev pub summaryWords : ℕ
+summaryWords = length (bytes "target at least  cases (hex )\ntarget not met:  nodes\nnodes  to \ncases  (hex ) to  (hex )\nadded  (hex )\ntrials \n")
+
+abbrev pub longestSummary : ℕ
+longestSummary = summaryWords + 8 * decimalDigits + 4 * hexadecimalDigits

@@ -1,11 +1,13 @@
 // The line of a refusal: `refused 22 at 0: a check sum is wrong`.
+use blocks::layout::MOST;
+use diagram::limits::MAX_VARIABLES;
 use report::lines::write_number;
 use report::lines::write_refused;
 use writing::put;
 use writing::write;
 ghost use mathlib.Core.Path.{_≡_};
 ghost use Rattle.writing.specs.Writing.{Wrote};
-ghost use Rattle.messages.specs.Texts.{ofNode, subject, phrase, refusalText};
+ghost use Rattle.messages.specs.Texts.{ofNode, subject, moreThan, phrase, refusalText};
 
 // Whether the place of a refusal with this number is a node.
 fn of_node(number: u32) -> bool
@@ -30,6 +32,14 @@ fn write_subject(out: &mut [u8], at: usize, number: u32, place: usize) -> usize
     at
 }
 
+// `there are more than 120 nodes`
+fn write_limit(out: &mut [u8], at: usize, most: usize, what: &[u8]) -> usize
+    ensures { λ r. ⌜ Wrote (moreThan most (now (what .entry))) (now (out .entry)) at (now (out .exit)) r ⌝ }
+{
+    let next = write_number(out, at, b"there are more than ", most as u64);
+    write(out, next, what)
+}
+
 fn write_phrase(out: &mut [u8], at: usize, number: u32) -> usize
     ensures { λ r. ⌜ Wrote (phrase number) (now (out .entry)) at (now (out .exit)) r ⌝ }
 {
@@ -40,7 +50,7 @@ fn write_phrase(out: &mut [u8], at: usize, number: u32) -> usize
             at,
             b"is not the terminal that stands there in a diagram, with node 0's variable count",
         ),
-        7 => write(out, at, b"there are more than 255 variables"),
+        7 => write_limit(out, at, MAX_VARIABLES, b" variables"),
         8 => write(
             out,
             at,
@@ -72,7 +82,7 @@ fn write_phrase(out: &mut [u8], at: usize, number: u32) -> usize
             b"a block number, a node count or the order of blocks is wrong",
         ),
         24 => write(out, at, b"unused bytes are not zero"),
-        25 => write(out, at, b"there are more than 120 nodes"),
+        25 => write_limit(out, at, MOST, b" nodes"),
         _ => write(out, at, b"the input is refused"),
     }
 }

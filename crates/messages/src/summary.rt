@@ -3,6 +3,8 @@ use naturals::Natural;
 use naturals::excess;
 use report::lines::write_number;
 use request::Target;
+use text::print::DECIMAL;
+use text::print::HEXADECIMAL;
 use text::print::write_hexadecimal;
 use text::print::write_natural;
 use writing::put;
@@ -14,6 +16,12 @@ ghost use Rattle.writing.specs.Writing.{Wrote};
 ghost use Rattle.report.specs.Report.{feed};
 ghost use Rattle.request.specs.Request.{nodes, cases, aimOf};
 ghost use Rattle.messages.specs.Texts.{twice, targetText, missedText, sizesText, countsText, changeText, trialsText};
+
+// The longest summary (`longestSummary` of specs/Texts.antt, where the words stand that these bytes are): its words, eight numbers in
+// decimal and four in hexadecimal.
+const WORDS: usize = 111;
+
+pub const SUMMARY: usize = WORDS + 8 * DECIMAL + 4 * HEXADECIMAL;
 
 // `added 26 (hex 1a)`
 fn write_twice(out: &mut [u8], at: usize, label: &[u8], a: Natural, middle: &[u8]) -> usize

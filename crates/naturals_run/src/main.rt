@@ -12,7 +12,7 @@ const SHIFTS: [u32; 11] = [0, 1, 31, 32, 33, 127, 128, 224, 255, 256, 4294967295
 
 const DIVISORS: [u32; 7] = [0, 1, 3, 10, 65536, 2147483649, 4294967295];
 
-const ROOM: usize = 20;
+const ROOM: usize = WORDS + 12;
 
 const SHORT: usize = WORDS - 1;
 
@@ -224,7 +224,7 @@ fn powers() {
 fn room() -> [u32; ROOM] {
     let mut s = [0u32; ROOM];
     let mut i: u32 = 0;
-    while i < 20 {
+    while i < ROOM as u32 {
         s[i as usize] = 2863311530 + i;
         i += 1;
     }

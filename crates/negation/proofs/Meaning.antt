@@ -9,6 +9,7 @@ use lib.ListN.{length, getD}
 use lib.Seq.{ext-getD, getD-take}
 use lib.Dec.{eqb}
 use borrow.Author.Tests.{lt-ltb, le-ltb}
+use Rattle.diagram.specs.Limits.{maxVariables}
 use Rattle.diagram.specs.Diagram.{varOf, lowOf, highOf, size, vars, root, step, walk, holds, Formed, Ordered, Accepted, Reach, start, by-low, by-high}
 use Rattle.diagram.specs.Valuations.{countOf}
 use Rattle.diagram.proofs.Tests.{by-eq}
@@ -207,7 +208,7 @@ true-words w f e = ext-getD 0 w (ends (vars w)) (omega (arith, f .whole)) (λ i 
     at (suc (suc (suc (suc (suc zero))))) h = f .one-terminal (omega arith) .high
     at (suc (suc (suc (suc (suc (suc i)))))) h = absurd (omega arith)
 
-true-accepted : (v : ℕ) → v ≤ 255 → Accepted (ends v)
+true-accepted : (v : ℕ) → v ≤ maxVariables → Accepted (ends v)
 true-accepted v h = record {
   formed = record {
     whole = refl;
@@ -222,7 +223,7 @@ true-accepted v h = record {
   reached = λ p two l. absurd (omega arith);
 }
 
-false-accepted : (v : ℕ) → v ≤ 255 → Accepted (v ∷ 0 ∷ 0 ∷ [])
+false-accepted : (v : ℕ) → v ≤ maxVariables → Accepted (v ∷ 0 ∷ 0 ∷ [])
 false-accepted v h = record {
   formed = record {
     whole = refl;

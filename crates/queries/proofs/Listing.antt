@@ -9,6 +9,7 @@ use native.Mathlib.Decide.{ℕ-discrete}
 use lib.ListN.{length, getD, set, take, drop, replicate, length-set, length-append, length-replicate, getD-replicate, List·getD-append, take-append-drop}
 use lib.Seq.{getD-set-same, getD-set-other, drop-set-lt, drop-at, getD-at, getD-take, ext-getD, length-take-le}
 use borrow.Author.Tests.{le-leb, lt-leb, eq-eqb, ne-eqb}
+use Rattle.diagram.specs.Limits.{maxNodes}
 use Rattle.diagram.specs.Diagram.{varOf, size, vars, Formed}
 use Rattle.diagram.specs.Reading.{tests}
 use Rattle.diagram.specs.Marking.{count}
@@ -100,7 +101,7 @@ module _ (w e d : List ℕ) (v : ℕ) (ev : v ≡ vars w) (fits : v ≤ length e
       inside : x < vars w
       inside = rw ex (f .ranges p (s .from) h .var)
 
-      pub listing-small : n ≤ 4096
+      pub listing-small : n ≤ maxNodes
       listing-small = omega (arith, s .counts x inside, count-most p (tests w x), f .few)
 
       pub listing-on : (out′ : List ℕ) → out′ ≡ set out x (n + 1) → Listing w d (p + 1) out′

@@ -7,6 +7,7 @@ use native.Mathlib.Omega.{arith}
 use native.Mathlib.Numerals.{add-one}
 use lib.Dec.{eqb}
 use borrow.Author.Tests.{lt-ltb, le-ltb, eq-eqb, ne-eqb}
+use Rattle.diagram.specs.Limits.{maxVariables}
 use Rattle.diagram.specs.Diagram.{varOf, lowOf, highOf, size, vars, root, Ordered}
 use Rattle.diagram.proofs.Tests.{by-eq, and-both, both-and}
 use Rattle.diagram.proofs.Reading.{layered, root-in, by-two, var-most}
@@ -129,7 +130,7 @@ module _ (w : List ℕ) (o : Ordered w) where
   testing-begins n e = record { at = along-begins n e; tested = λ j h. absurd (omega arith) }
 
   module _ {i p : ℕ} (t : Testing w i p) where
-    pub testing-small : i ≤ 255
+    pub testing-small : i ≤ maxVariables
     testing-small = omega (arith, along-var (t .at), t .at .passed, o .formed .variables)
 
     -- a variable that isn't the one that is due

@@ -11,6 +11,7 @@ use borrow.Author.Tests.{eq-eqb, ne-eqb}
 use Rattle.naturals.specs.Natural.{value, limit, Holds, Fitted}
 use Rattle.naturals.specs.declared.Fit.{Fit}
 use Rattle.naturals.proofs.Answer.{holds-as, fitted-below}
+use Rattle.diagram.specs.Limits.{maxNodes}
 use Rattle.diagram.specs.Diagram.{varOf, lowOf, highOf, size, vars, Ordered}
 use Rattle.diagram.proofs.Tests.{by-eq, by-test, or-right}
 use Rattle.diagram.proofs.Reading.{Layer, layered, by-two}
@@ -199,7 +200,7 @@ module _ {w changed room : List ℕ} {n p : ℕ} (j : Joining w changed room n p
   pub join-high : (high : ℕ) → high ≡ highOf w p → Parting w room n p high
   join-high high e = let l = layer (j .turning) in rw e (child (highOf w p) (l .high) (l .above-high))
 
-  pub join-asks : (n ≤ 4096) × In (countsFrom n) room p
+  pub join-asks : (n ≤ maxNodes) × In (countsFrom n) room p
   join-asks =
       let few = ordered (j .turning) .formed .few in
       let e = is-size (j .turning) in
@@ -374,7 +375,7 @@ level-place given a ne =
 pub next-is : (room : List ℕ) (n p : ℕ) {i q : ℕ} → i ≡ p → q ≡ getD room (linksFrom n + i) 0 → q ≡ getD room (linksFrom n + p) 0
 next-is room n p e h = h ∙ ap (λ (k : ℕ). getD room (linksFrom n + k) 0) e
 
-pub turning-few : {w changed room : List ℕ} {n p : ℕ} → Turning w changed room n p → n ≤ 4096
+pub turning-few : {w changed room : List ℕ} {n p : ℕ} → Turning w changed room n p → n ≤ maxNodes
 turning-few t = let few = t .given .ordered .formed .few in let e = t .given .nodes in omega arith
 
 pub all-done : {w start changed room : List ℕ} {c : ℕ} → Renewed w start changed room c 0 → c ≡ 0 → Renewed w start changed room 0 0

@@ -9,6 +9,8 @@ use cases::number;
 use cases::run_of;
 use cases::words_of;
 use diagram::limits::MAX_NODES;
+use diagram::limits::MAX_WORDS;
+use diagram::limits::ROOM_PER_NODE;
 use diagram::node::word;
 use diagram::verdict::Verdict;
 use libc::STDOUT_FILENO;
@@ -18,9 +20,11 @@ ghost use lib.ListN.{length};
 
 const TEXT: usize = 524288;
 
-const WORDS: usize = 12300;
+// The words of one node more than a diagram may have, and of the lengths and fillings of a line.
+const WORDS: usize = MAX_WORDS + 12;
 
-const ROOM: usize = 262400;
+// More room than is asked for.
+const ROOM: usize = ROOM_PER_NODE * MAX_NODES + 256;
 
 fn say(text: &[u8], value: u64) {
     io::write_all(STDOUT_FILENO, text);

@@ -11,7 +11,7 @@ use Rattle.diagram.specs.Valuations.{countOf, weightOf}
 use Rattle.diagram.specs.Verdict.{Outcome, accepted, refused}
 use Rattle.weights.specs.Weighed.{weightsVerdict}
 use Rattle.writing.specs.Writing.{bytes}
-use Rattle.blocks.specs.Block.{maxStored, nodes, refused as unread}
+use Rattle.blocks.specs.Block.{maxStored, maxStoredWords, nodes, refused as unread}
 use Rattle.block_file.specs.File.{Reading, reading, readFile}
 use Rattle.text.specs.Digits.{decimal, hexadecimal}
 
@@ -46,14 +46,20 @@ head w count = bytes "vars " ++ decimal (vars w) ++ (bytes "\nnodes " ++ decimal
 
 -- ---- the report
 
--- A diagram's refusal, or its count and the weight of each of its nodes. The words of its weights and of the room are
--- those that the most nodes of a file need.
+-- A diagram's refusal, or its count and the weight of each of its nodes.
 abbrev pub weighedReport : List ℕ → Outcome → List ℕ
 weighedReport w (accepted n v) = head w (countOf w) ++ lines w (weightOf w) 0 (size w)
 weighedReport w (refused number place) = refusal number place
 
+-- The words of its weights and of the room are those that the most nodes of a file need.
+abbrev pub weightsLent : ℕ
+weightsLent = wordCount * maxStored
+
+abbrev pub roomLent : ℕ
+roomLent = roomPerNode * maxStored
+
 unfoldable pub diagramReport : List ℕ → List ℕ
-diagramReport w = weighedReport w (weightsVerdict w (roomPerNode * maxStored) (wordCount * maxStored))
+diagramReport w = weighedReport w (weightsVerdict w roomLent weightsLent)
 
 -- The refusal of the file, or the report of the diagram that stands in the output.
 abbrev pub storedReport : Reading → List ℕ
@@ -61,4 +67,4 @@ storedReport (reading (nodes n) left) = diagramReport (take (3 * n) left)
 storedReport (reading (unread number place) left) = refusal number place
 
 unfoldable pub reportOf : List ℕ → List ℕ
-reportOf s = storedReport (readFile s (replicate (3 * maxStored) 0))
+reportOf s = storedReport (readFile s (replicate maxStoredWords 0))

@@ -1,7 +1,9 @@
 // The lines of the report. Counts and weights are hexadecimal, the rest is decimal.
+use blocks::layout::MOST;
 use diagram::node::word;
 use naturals::Natural;
 use naturals::load;
+use text::print::HEXADECIMAL;
 use text::print::write_decimal;
 use text::print::write_hexadecimal;
 use writing::put;
@@ -15,6 +17,19 @@ ghost use Rattle.diagram.specs.Diagram.{size};
 ghost use Rattle.writing.specs.Writing.{Wrote};
 ghost use Rattle.text.specs.Digits.{decimal, hexadecimal};
 ghost use Rattle.report.specs.Report.{weightIn, refusedAt, refusal, line, lines, head};
+
+// The longest report of a file (`reportBuffer` of specs/Reported.antt, where the words stand that these bytes are): the head, and
+// a line for each node. Each has two numbers of at most five digits and a count.
+const HEAD_WORDS: usize = 20;
+
+const LINE_WORDS: usize = 19;
+
+const SMALL: usize = 5;
+
+pub const REPORT: usize = HEAD_WORDS
+    + 2 * SMALL
+    + HEXADECIMAL
+    + MOST * (LINE_WORDS + 2 * SMALL + HEXADECIMAL);
 
 // A label and a number after it.
 pub fn write_number(out: &mut [u8], at: usize, label: &[u8], x: u64) -> usize

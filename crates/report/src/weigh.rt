@@ -2,6 +2,7 @@
 use crate::lines::write_lines;
 use crate::lines::write_refusal;
 use block_file::read::read_file;
+use blocks::layout::FILE_WORDS;
 use blocks::layout::MOST;
 use blocks::stored::Stored;
 use diagram::limits::ROOM_PER_NODE;
@@ -12,9 +13,7 @@ ghost use lib.ListN.{length};
 ghost use Rattle.writing.specs.Writing.{Wrote};
 ghost use Rattle.report.specs.Report.{reportOf, diagramReport};
 
-// Words of the most nodes that a file may have, of their weights, and of the room to weigh them.
-const WORDS: usize = 3 * MOST;
-
+// Words of the weights of the most nodes that a file may have, and of the room to weigh them.
 const WEIGHTS: usize = naturals::WORDS * MOST;
 
 const ROOM: usize = ROOM_PER_NODE * MOST;
@@ -36,7 +35,7 @@ pub fn report_diagram(out: &mut [u8], words: &[u32]) -> usize
 pub fn report(out: &mut [u8], bytes: &[u8]) -> usize
     ensures { λ r. ⌜ Wrote (reportOf (now (bytes .entry))) (now (out .entry)) 0 (now (out .exit)) r ⌝ }
 {
-    let mut words = [0u32; WORDS];
+    let mut words = [0u32; FILE_WORDS];
     let stored = read_file(bytes, &mut words);
     match stored {
         Stored::Nodes(nodes) => report_diagram(out, &words[..3 * nodes]),

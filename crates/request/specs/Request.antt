@@ -1,11 +1,13 @@
 -- The words of a request: which are taken, and what they mean. Words are lists of bytes.
-use Prim.Native.Nat.{ℕ, _^_}
+use Prim.Native.Nat.{ℕ, _<_, _^_}
+use mathlib.Core.Path.{_≡_}
 use mathlib.Core.Bool.{Bool, true, false, cond, not, _&&_}
 use mathlib.Core.List.{List, [], _∷_}
+use lib.ListN.{length}
 use lib.Dec.{eqb}
 use Rattle.naturals.specs.Natural.{value, limit}
 use Rattle.writing.specs.Writing.{bytes}
-use Rattle.text.specs.Digits.{Reading, number, none, parsed}
+use Rattle.text.specs.Digits.{decimalDigits, Reading, number, none, parsed}
 use Rattle.request.specs.declared.Asked.{Asked}
 use Rattle.request.specs.declared.Asked.the-variants.{Help, Unknown, Which, Cut}
 use Rattle.request.specs.declared.Target.{Target}
@@ -51,6 +53,18 @@ requestOf count direction kind text =
     (cond (alike direction (bytes "keep")) (aimed true kind text)
     (cond (alike direction (bytes "suppress")) (aimed false kind text)
     unknown)))
+
+-- ---- how long a word may be
+
+-- The bytes that the program lends for a word: the digits that the largest number of cases has in decimal.
+abbrev pub wordBuffer : ℕ
+wordBuffer = decimalDigits
+
+-- A longer word means what an empty one means, which is what the program reads in its place (proofs/Long.antt).
+pub record Buffered : Type 0 where
+  pub direction-long : (count : ℕ) (direction kind text : List ℕ) → wordBuffer < length direction → requestOf count direction kind text ≡ requestOf count [] kind text
+  pub kind-long : (count : ℕ) (direction kind text : List ℕ) → wordBuffer < length kind → requestOf count direction kind text ≡ requestOf count direction [] text
+  pub number-long : (count : ℕ) (direction kind text : List ℕ) → wordBuffer < length text → requestOf count direction kind text ≡ requestOf count direction kind []
 
 -- ---- the same as the code has it
 

@@ -8,11 +8,15 @@ use text::parse::Number;
 use text::parse::parse_decimal;
 use text::parse::parse_hexadecimal;
 use text::parse::parse_natural;
+use text::print::DECIMAL;
 use words::same;
 ghost use mathlib.Core.Path.{_≡_};
 ghost use mathlib.Core.Bool.{cond};
 ghost use Rattle.naturals.specs.Natural.{value};
 ghost use Rattle.request.specs.Request.{nodes, cases, unknown, cut, meant, aimed, requestOf};
+
+// No word that is taken is longer, so a longer one may be read as an empty one (`wordBuffer` and `Buffered` of specs/Request.antt).
+pub const WORD: usize = DECIMAL;
 
 // What the words come to. `Which` is for the word `count`, which does not say whether its number is decimal.
 pub enum Asked {

@@ -2,10 +2,11 @@
 // summary, the one line of a refusal and the help go to standard error. What is written is decided by `answer` of
 // crates/shrinking alone: here the words are fetched, the input is read, and both channels are written.
 use blocks::layout::BLOCK;
-use blocks::layout::MOST;
-use blocks::layout::NODES;
+use blocks::layout::FILE;
 use libc::STDERR_FILENO;
 use libc::STDOUT_FILENO;
+use messages::summary::SUMMARY;
+use request::WORD;
 use shrinking::Ends;
 use shrinking::answer::answer;
 use shrinking::answer::wants_input;
@@ -15,14 +16,6 @@ ghost use Rattle.shrink_program.specs.Program.{Answered, Ran};
 
 // The blocks that a file may have, and one more to see whether bytes stand after them.
 const INPUT: usize = FILE + BLOCK;
-
-const FILE: usize = BLOCK * ((MOST + NODES - 1) / NODES);
-
-// The longest summary has eight decimal numbers of at most ten digits a word, four hexadecimal ones of eight, and 111 bytes.
-const TEXT: usize = 128 * naturals::WORDS;
-
-// No word that is taken is longer. A longer one is read as an empty one, which is never taken.
-const WORD: usize = 10 * naturals::WORDS;
 
 fn blank_input() -> [u8; INPUT] {
     [0u8; INPUT]
@@ -56,7 +49,7 @@ fn run(count: usize, direction: &[u8], kind: &[u8], number: &[u8], bytes: &[u8])
     ensures { λ r. ⌜ Answered count (now (direction .entry)) (now (kind .entry)) (now (number .entry)) (now (bytes .entry)) (r .file) (r .text) ⌝ }
 {
     let mut file = [0u8; FILE];
-    let mut text = [0u8; TEXT];
+    let mut text = [0u8; SUMMARY];
     let ends = answer(count, direction, kind, number, bytes, &mut file, &mut text);
     deliver(&file, &text, ends);
     ends

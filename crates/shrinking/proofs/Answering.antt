@@ -10,7 +10,7 @@ use Rattle.diagram.specs.Diagram.{size, Accepted}
 use Rattle.diagram.specs.Verdict.{Outcome, accepted, refused as rejected, said, verdictOf}
 use Rattle.diagram.specs.declared.verdict.Verdict.{Verdict}
 use Rattle.diagram.specs.declared.verdict.Verdict.the-variants.{Accepted as Yes, Refused as No}
-use Rattle.blocks.specs.Block.{nodes, refused as unread, said as told}
+use Rattle.blocks.specs.Block.{nodes, refused as unread, said as told, blockBytes, blockNodes, maxStored, maxStoredWords}
 use Rattle.blocks.specs.declared.stored.Stored.{Stored}
 use Rattle.blocks.specs.declared.stored.Stored.the-variants.{Nodes, Refused as Unread}
 use Rattle.block_file.specs.File.{Reading, reading, readFile, ReadsFile, WritesFile, writeOutcome, written, fileOf, blockCount}
@@ -21,6 +21,7 @@ use Rattle.messages.specs.Texts.{helpText, unknownText, whichText, refusalText}
 use Rattle.request.specs.Request.{Aim, Meaning, help, unknown, which, cut}
 use Rattle.shrinking.specs.Shrinking.{Done, shrunk, refused, ifStored, storing, wanted, wantedVerdict, Wants, diagramDone, done, summary, Shrinks}
 use Rattle.shrinking.proofs.Wanting.{admitted, answer-accepted}
+use Rattle.report.specs.Report.{roomLent}
 
 -- ---- the answer
 
@@ -37,22 +38,22 @@ module _ (keep : Bool) (aim : Aim) (w a : List ℕ) (trials : ℕ) (file left : 
     outcome-is : writeOutcome a (length file) ≡ nodes n
     outcome-is = sym (h .answer) ∙ ap told e
 
-    pub store-few : n ≤ 120
+    pub store-few : n ≤ maxStored
     store-few = let i = is-written a (length file) n outcome-is in omega (arith, i .lengths .few, i .count)
 
     pub store-done : {text text′ : List ℕ} {text-end : ℕ} → Wrote (summary keep aim w a trials) text 0 text′ text-end
-        → Shrinks (storing keep aim w a trials (length file)) file left text text′ (512 * ((n + (50 - 1)) / 50)) text-end
+        → Shrinks (storing keep aim w a trials (length file)) file left text text′ (blockBytes * ((n + (blockNodes - 1)) / blockNodes)) text-end
     unfolding storing written
     store-done t =
         let l : left ≡ fileOf a ++ drop (length (fileOf a)) file = rw outcome-is at (h .leaves) in
-        let s : 512 * ((n + (50 - 1)) / 50) ≡ length (fileOf a) = omega (arith, file-length a, is-written a (length file) n outcome-is .count) in
+        let s : blockBytes * ((n + (blockNodes - 1)) / blockNodes) ≡ length (fileOf a) = omega (arith, file-length a, is-written a (length file) n outcome-is .count) in
         rw outcome-is (record { stored = l; stored-end = s; told = t })
 
 -- ---- the diagram
 
 module _ (keep : Bool) (aim : Aim) (w room room′ out out′ : List ℕ) {r : Verdict} {k trials : ℕ} (m : Wants w keep aim room room′ out out′ r k trials)
-    (lent : length out ≡ 360) (roomy : length room ≡ 7680) where
-  verdict-is : said r ≡ wantedVerdict keep aim w 7680 360
+    (lent : length out ≡ maxStoredWords) (roomy : length room ≡ roomLent) where
+  verdict-is : said r ≡ wantedVerdict keep aim w roomLent maxStoredWords
   verdict-is = rw (lent, roomy) at (m .builds .answers .verdict)
 
   pub diagram-refused : {n p : ℕ} {file text text′ : List ℕ} {end text-end : ℕ} → r ≡ No n p → (end ≡ 0) × Wrote (refusalText n p) text 0 text′ text-end
@@ -60,7 +61,7 @@ module _ (keep : Bool) (aim : Aim) (w room room′ out out′ : List ℕ) {r : V
   unfolding diagramDone
   diagram-refused e t = rw (sym verdict-is, e) (record { stored = refl; stored-end = t .0; told = t .1 })
 
-  module _ {n v : ℕ} (e : r ≡ Yes n v) (same : length out′ ≡ 360) where
+  module _ {n v : ℕ} (e : r ≡ Yes n v) (same : length out′ ≡ maxStoredWords) where
     accepted-is : wantedVerdict keep aim w (length room) (length out) ≡ accepted n v
     accepted-is = sym (m .builds .answers .verdict) ∙ ap said e
 
@@ -76,13 +77,13 @@ module _ (keep : Bool) (aim : Aim) (w room room′ out out′ : List ℕ) {r : V
     trials-is : trials ≡ wanted keep aim w .trials
     trials-is = rw accepted-is at (m .trials)
 
-    answer-few : length (wanted keep aim w .words) ≤ 360
+    answer-few : length (wanted keep aim w .words) ≤ maxStoredWords
     answer-few =
         let l : length (wanted keep aim w .words ++ drop (length (wanted keep aim w .words)) out) ≡ length (wanted keep aim w .words) + length (drop (length (wanted keep aim w .words)) out) = length-append (wanted keep aim w .words) _ in
         let o : length out′ ≡ length (wanted keep aim w .words ++ drop (length (wanted keep aim w .words)) out) = ap length out-is in
         omega arith
 
-    pub answer-long : 3 * k ≤ 360
+    pub answer-long : 3 * k ≤ maxStoredWords
     answer-long = omega (arith, answer .formed .whole, answer-few, count-is)
 
     words-are : take (3 * k) out′ ≡ wanted keep aim w .words
@@ -90,7 +91,7 @@ module _ (keep : Bool) (aim : Aim) (w room room′ out out′ : List ℕ) {r : V
         let l : 3 * k ≡ length (wanted keep aim w .words) = omega (arith, answer .formed .whole, count-is) in
         rw (l, out-is) (take-append-seam (wanted keep aim w .words) _)
 
-    pub answer-ready : Accepted w × (size w ≤ 120) × Accepted (take (3 * k) out′) × (size (take (3 * k) out′) ≤ 120)
+    pub answer-ready : Accepted w × (size w ≤ maxStored) × Accepted (take (3 * k) out′) × (size (take (3 * k) out′) ≤ maxStored)
     answer-ready =
         let d = admitted keep aim w (length room) (length out) accepted-is .2 in
         rw words-are (d .accepted, omega (arith, d .fits), answer, omega (arith, answer .formed .whole, answer-few))
@@ -102,7 +103,7 @@ module _ (keep : Bool) (aim : Aim) (w room room′ out out′ : List ℕ) {r : V
 
 -- ---- the file
 
-module _ (keep : Bool) (aim : Aim) (s blank left : List ℕ) {r : Stored} (h : ReadsFile s blank left r) (is-blank : blank ≡ replicate 360 0) where
+module _ (keep : Bool) (aim : Aim) (s blank left : List ℕ) {r : Stored} (h : ReadsFile s blank left r) (is-blank : blank ≡ replicate maxStoredWords 0) where
   pub file-refused : {k p : ℕ} {file text text′ : List ℕ} {end text-end : ℕ} → r ≡ Unread k p → (end ≡ 0) × Wrote (refusalText k p) text 0 text′ text-end
       → Shrinks (done (cut keep aim) s (length file)) file file text text′ end text-end
   unfolding done
@@ -114,8 +115,8 @@ module _ (keep : Bool) (aim : Aim) (s blank left : List ℕ) {r : Stored} (h : R
   unfolding done
   file-done e t = rw (sym is-blank, sym (h .is), e) t
 
-module _ (s blank left : List ℕ) {r : Stored} (h : ReadsFile s blank left r) (is-blank : blank ≡ replicate 360 0) where
-  pub file-few : {n : ℕ} → r ≡ Nodes n → n ≤ 120
+module _ (s blank left : List ℕ) {r : Stored} (h : ReadsFile s blank left r) (is-blank : blank ≡ replicate maxStoredWords 0) where
+  pub file-few : {n : ℕ} → r ≡ Nodes n → n ≤ maxStored
   unfolding readFile
   file-few e = read-few 3 0 0 s blank (sym (rw e at (h .is)))
 

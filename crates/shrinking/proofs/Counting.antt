@@ -12,9 +12,11 @@ use Rattle.diagram.specs.declared.verdict.Verdict.{Verdict}
 use Rattle.diagram.specs.declared.verdict.Output.the-variants.{Nothing}
 use Rattle.diagram.proofs.Meaning.{accepted-verdict}
 use Rattle.counts.specs.Counted.{Counts}
+use Rattle.blocks.specs.Block.{maxStored}
+use Rattle.report.specs.Report.{roomLent}
 
-pub count-is : (w before after : List ℕ) {r : Verdict} {count : List ℕ} → Counts w (countOf w) before after r count → length before ≡ 7680
-    → Accepted w → size w ≤ 120 → value count ≡ countOf w
+pub count-is : (w before after : List ℕ) {r : Verdict} {count : List ℕ} → Counts w (countOf w) before after r count → length before ≡ roomLent
+    → Accepted w → size w ≤ maxStored → value count ≡ countOf w
 unfolding short
 count-is w before after h l a few =
     let room : roomOf w ≤ length before = omega arith in

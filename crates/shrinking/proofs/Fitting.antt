@@ -12,7 +12,7 @@ use borrow.Author.Tests.{ltb-true, ltb-false}
 use Rattle.diagram.specs.Diagram.{size}
 use Rattle.diagram.specs.Valuations.{countOf}
 use Rattle.diagram.specs.Verdict.{Outcome, accepted, refused as rejected}
-use Rattle.blocks.specs.Block.{Outcome as Stored, nodes as stored, refused as unread, row}
+use Rattle.blocks.specs.Block.{Outcome as Stored, nodes as stored, refused as unread, row, blockBytes, maxStored, maxStoredWords}
 use Rattle.block_file.specs.File.{Reading, reading, readFile, writeOutcome, fileOf, blockCount}
 use Rattle.block_file.proofs.Storing.{file-length, is-written}
 use Rattle.block_file.proofs.Enough.{front-enough}
@@ -21,6 +21,7 @@ use Rattle.writing.proofs.Laws.{wrote-length, wrote-fits, wrote-place}
 use Rattle.messages.proofs.Fitting.{refusal-length, target-length, missed-length, sizes-length, counts-length, change-length, trials-length}
 use Rattle.request.specs.Request.{Aim, Meaning, help, unknown, which, cut}
 use Rattle.shrinking.specs.Shrinking.{Done, told, refused, shrunk, ifStored, storing, wanted, wantedVerdict, ifCut, diagramDone, ifRead, blank, looks, done, summary, fileBytes, textBytes, fileBuffer, textBuffer, Shrinks}
+use Rattle.report.specs.Report.{roomLent}
 
 summary-length : (keep : Bool) (aim : Aim) (w a : List ℕ) (trials : ℕ) → length (summary keep aim w a trials) ≤ textBuffer
 unfolding summary
@@ -53,7 +54,7 @@ module _ (P : Done → Type 0) (lent : ℕ) (no : (number place : ℕ) → P (re
 
   diagram-all : (keep : Bool) (aim : Aim) (w : List ℕ) → P (diagramDone keep aim w lent)
   unfolding diagramDone
-  diagram-all keep aim w = if-cut keep aim w (wantedVerdict keep aim w 7680 360)
+  diagram-all keep aim w = if-cut keep aim w (wantedVerdict keep aim w roomLent maxStoredWords)
 
   read-all : (keep : Bool) (aim : Aim) (r : Reading) → P (ifRead keep aim lent r)
   read-all keep aim (reading (stored n) left) = diagram-all keep aim (take (3 * n) left)
@@ -97,10 +98,10 @@ never-short a lent place fits e =
     let x = row-past 1 _ _ _ (λ z. omega arith) e in
     let y = row-past 2 _ _ _ (λ z. omega arith) (x .1) in
     let u = row-past 25 _ _ _ (λ z. omega arith) (y .1) in
-    let few : size a ≤ 120 = ltb-false _ _ (u .0) in
-    let short : ltb lent (512 * blockCount (size a)) ≡ true =
+    let few : size a ≤ maxStored = ltb-false _ _ (u .0) in
+    let short : ltb lent (blockBytes * blockCount (size a)) ≡ true =
     row-four _ _ _ (u .1) (λ f g. (let v = row-past 26 _ _ _ (λ z. omega arith) g in (let z : _≡_ {A = ℕ} 0 1 = cc in absurd (omega arith)))) in
-    let l : lent < 512 * blockCount (size a) = ltb-true _ _ short in
+    let l : lent < blockBytes * blockCount (size a) = ltb-true _ _ short in
     omega arith
 
 -- ---- the input

@@ -19,7 +19,7 @@ use Rattle.writing.specs.Writing.{bytes}
 use Rattle.writing.proofs.Laws.{by-le}
 use Rattle.naturals.specs.Natural.{limit}
 use Rattle.text.specs.Digits.{Reading as Parsed, number, none, parsed}
-use Rattle.blocks.specs.Block.{Outcome as Stored, nodes as stored, refused as unread}
+use Rattle.blocks.specs.Block.{Outcome as Stored, nodes as stored, refused as unread, maxStoredWords}
 use Rattle.block_file.specs.File.{Reading, reading, readFile, writeOutcome, fileOf}
 use Rattle.block_file.proofs.Storing.{is-written}
 use Rattle.block_file.proofs.Returning.{written-reads}
@@ -28,6 +28,7 @@ use Rattle.shrinking.specs.Shrinking.{ifStored, storing, wanted, wantedV
 use Rattle.shrinking.specs.Supervised.{output, ReadsAs, Supervised}
 use Rattle.shrinking.proofs.Wanting.{then-first, under-is, over-is, admitted, keep-over, suppress-under}
 use Rattle.shrinking.proofs.Fitting.{file-fits, text-fits, never-short, front-is-enough, no-file, no-input}
+use Rattle.report.specs.Report.{roomLent}
 
 -- ---- the words of an accepted diagram are words of 32 bits
 
@@ -76,7 +77,7 @@ module _ (w : List ℕ) (f : Formed w) where
 -- ---- a cut of the file of w
 
 module _ (w : List ℕ) (lent n : ℕ) (small : (k : ℕ) → getD w k 0 < 2 ^ 32) (e : writeOutcome w lent ≡ stored n) (P : List ℕ → Type 0) (keep : Bool) (aim : Aim)
-    (right : (m v : ℕ) → wantedVerdict keep aim w 7680 360 ≡ accepted m v → P (wanted keep aim w .words) × Accepted (wanted keep aim w .words)) where
+    (right : (m v : ℕ) → wantedVerdict keep aim w roomLent maxStoredWords ≡ accepted m v → P (wanted keep aim w .words) × Accepted (wanted keep aim w .words)) where
   abbrev answer : List ℕ
   answer = wanted keep aim w .words
 
@@ -91,7 +92,7 @@ module _ (w : List ℕ) (lent n : ℕ) (small : (k : ℕ) → getD w k 0 < 2 ^ 3
         true-of = h;
       })
 
-  cut-reads : (o : Outcome) → wantedVerdict keep aim w 7680 360 ≡ o → (fileBytes (ifCut keep aim w fileBuffer o) ≡ []) ⊎ ReadsAs P (fileBytes (ifCut keep aim w fileBuffer o))
+  cut-reads : (o : Outcome) → wantedVerdict keep aim w roomLent maxStoredWords ≡ o → (fileBytes (ifCut keep aim w fileBuffer o) ≡ []) ⊎ ReadsAs P (fileBytes (ifCut keep aim w fileBuffer o))
   unfolding storing
   cut-reads (rejected k p) g = inl refl
   cut-reads (accepted m v) g = let r = right m v g in stored-reads (writeOutcome answer fileBuffer) (r .1) (r .0) refl
@@ -104,7 +105,7 @@ module _ (w : List ℕ) (lent n : ℕ) (small : (k : ℕ) → getD w k 0 < 2 ^ 3
   file-reads =
       let i = is-written w lent n e in
       let r : readFile (fileOf w) blank ≡ reading (stored n) (w ++ drop (length w) blank) = written-reads w blank lent small e (omega (arith, i .lengths .whole, i .lengths .few)) in
-      rw (r, words-back) (cut-reads (wantedVerdict keep aim w 7680 360) refl)
+      rw (r, words-back) (cut-reads (wantedVerdict keep aim w roomLent maxStoredWords) refl)
 
 -- ---- words that begin with keep ask for no cut or for one that keeps; likewise suppress
 
@@ -145,14 +146,14 @@ module _ (w : List ℕ) (lent n : ℕ) (small : (k : ℕ) → getD w k 0 < 2 ^ 3
   keeps-by to-help = inl refl
   keeps-by to-unknown = inl refl
   keeps-by to-which = inl refl
-  keeps-by (to-cut aim) = file-reads w lent n small e (Over w) true aim (λ m v g. (let o = keep-over w 7680 360 aim g in (o, o .accepted)))
+  keeps-by (to-cut aim) = file-reads w lent n small e (Over w) true aim (λ m v g. (let o = keep-over w roomLent maxStoredWords aim g in (o, o .accepted)))
 
   suppresses-by : {m : Meaning} → Turns false m → (fileBytes (done m (fileOf w) fileBuffer) ≡ []) ⊎ ReadsAs (Under w) (fileBytes (done m (fileOf w) fileBuffer))
   unfolding done
   suppresses-by to-help = inl refl
   suppresses-by to-unknown = inl refl
   suppresses-by to-which = inl refl
-  suppresses-by (to-cut aim) = file-reads w lent n small e (Under w) false aim (λ m v g. (let o = suppress-under w 7680 360 aim g in (o, o .accepted)))
+  suppresses-by (to-cut aim) = file-reads w lent n small e (Under w) false aim (λ m v g. (let o = suppress-under w roomLent maxStoredWords aim g in (o, o .accepted)))
 
 cases-kept : (w : List ℕ) (k room lent n v : ℕ) → wantedVerdict true (cases k) w room lent ≡ accepted n v → k ≤ countOf (wanted true (cases k) w .words)
 unfolding wanted wantedVerdict

@@ -5,8 +5,6 @@ use mathlib.Core.Path.{_≡_}
 use mathlib.Core.Bool.{Bool, true, false}
 use mathlib.Core.List.{List, [], _++_}
 use lib.ListN.{length, take, drop, replicate}
-use Rattle.naturals.specs.Natural.{wordCount}
-use Rattle.diagram.specs.Limits.{roomPerNode}
 use Rattle.diagram.specs.Diagram.{size}
 use Rattle.diagram.specs.Valuations.{countOf}
 use Rattle.diagram.specs.Verdict.{Outcome, accepted, refused as rejected, verdictFor}
@@ -14,11 +12,12 @@ use Rattle.diagram.specs.declared.verdict.Verdict.{Verdict}
 use Rattle.diagram.specs.declared.verdict.Output.the-variants.{Diagram}
 use Rattle.approximation.specs.Search.{Answer, underToSize, overToSize, underToCount, overToCount}
 use Rattle.targets.specs.Targets.{underCountVerdict, overCountVerdict, Meets}
-use Rattle.blocks.specs.Block.{blockBytes, maxStored, Outcome as Stored, nodes as stored, refused as unread}
+use Rattle.blocks.specs.Block.{blockBytes, maxStored, maxStoredWords, Outcome as Stored, nodes as stored, refused as unread}
 use Rattle.block_file.specs.File.{blockCount, Reading, reading, readFile, writeOutcome, fileOf}
 use Rattle.writing.specs.Writing.{Wrote}
+use Rattle.report.specs.Report.{roomLent}
 use Rattle.request.specs.Request.{Aim, nodes, cases, Meaning, help, unknown, which, cut}
-use Rattle.messages.specs.Texts.{helpText, unknownText, whichText, refusalText, targetText, missedText, sizesText, countsText, changeText, trialsText}
+use Rattle.messages.specs.Texts.{helpText, unknownText, whichText, refusalText, targetText, missedText, sizesText, countsText, changeText, trialsText, longestSummary}
 
 -- ---- the one cut that is meant: keep goes over, suppress goes under
 
@@ -59,11 +58,11 @@ ifCut keep aim w lent (accepted n v) = storing keep aim w (wanted keep aim w .wo
 ifCut keep aim w lent (rejected number place) = refused number place
 
 unfoldable pub diagramDone : Bool → Aim → List ℕ → ℕ → Done
-diagramDone keep aim w lent = ifCut keep aim w lent (wantedVerdict keep aim w (roomPerNode * maxStored) (3 * maxStored))
+diagramDone keep aim w lent = ifCut keep aim w lent (wantedVerdict keep aim w roomLent maxStoredWords)
 
 -- What the input is read into.
 abbrev pub blank : List ℕ
-blank = replicate (3 * maxStored) 0
+blank = replicate maxStoredWords 0
 
 abbrev pub ifRead : Bool → Aim → ℕ → Reading → Done
 ifRead keep aim lent (reading (stored n) left) = diagramDone keep aim (take (3 * n) left) lent
@@ -104,12 +103,12 @@ textBytes (told t) = t
 textBytes (refused number place) = refusalText number place
 textBytes (shrunk keep aim w a trials) = summary keep aim w a trials
 
--- The buffers of the program: each holds every answer (proofs/Fitting.antt).
+-- The buffers of the program: the blocks of the most nodes, and the longest summary. Each holds every answer (proofs/Fitting.antt).
 abbrev pub fileBuffer : ℕ
 fileBuffer = blockBytes * blockCount maxStored
 
 abbrev pub textBuffer : ℕ
-textBuffer = 128 * wordCount
+textBuffer = longestSummary
 
 -- The file begins with its bytes and is as it was beyond them; the text is what is said.
 pub record Shrinks (d : Done) (file file-left text text-left : List ℕ) (file-end text-end : ℕ) : Type 0 where

@@ -5,6 +5,7 @@ use crate::wanted::shrink_words;
 use block_file::read::read_file;
 use block_file::write::write_file;
 use blocks::layout::BLOCK;
+use blocks::layout::FILE_WORDS;
 use blocks::layout::MOST;
 use blocks::layout::NODES;
 use blocks::stored::Stored;
@@ -22,9 +23,7 @@ ghost use Rattle.request.specs.Request.{cut, aimOf};
 ghost use Rattle.messages.specs.Texts.{refusalText};
 ghost use Rattle.shrinking.specs.Shrinking.{storing, diagramDone, done, Shrinks};
 
-// Words of the most nodes that a file may have, and of the room to cut them.
-const WORDS: usize = 3 * MOST;
-
+// Words of the room to cut the most nodes that a file may have.
 const ROOM: usize = ROOM_PER_NODE * MOST;
 
 fn refuse(text: &mut [u8], number: u32, place: usize) -> Ends
@@ -68,7 +67,7 @@ pub(crate) fn shrink_diagram(
 ) -> Ends
     ensures { λ r. ⌜ Shrinks (diagramDone (target .keep) (aimOf target) (now (words .entry)) (length (now (file .entry)))) (now (file .entry)) (now (file .exit)) (now (text .entry)) (now (text .exit)) (r .file) (r .text) ⌝ }
 {
-    let mut output = [0u32; WORDS];
+    let mut output = [0u32; FILE_WORDS];
     let mut room = [0u32; ROOM];
     let cut = shrink_words(words, target, &mut room, &mut output);
     let verdict = cut.verdict;
@@ -89,7 +88,7 @@ pub(crate) fn shrink_diagram(
 pub(crate) fn shrink(bytes: &[u8], target: Target, file: &mut [u8], text: &mut [u8]) -> Ends
     ensures { λ r. ⌜ Shrinks (done (cut (target .keep) (aimOf target)) (now (bytes .entry)) (length (now (file .entry)))) (now (file .entry)) (now (file .exit)) (now (text .entry)) (now (text .exit)) (r .file) (r .text) ⌝ }
 {
-    let mut words = [0u32; WORDS];
+    let mut words = [0u32; FILE_WORDS];
     let stored = read_file(bytes, &mut words);
     match stored {
         Stored::Nodes(nodes) => shrink_diagram(&words[..3 * nodes], target, file, text),

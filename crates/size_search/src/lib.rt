@@ -1,6 +1,6 @@
 // The search for a size (document 01, "The evening's cut"). Its answer stands in the working room.
-use cuts::cut::SENT;
 use diagram::lengths::most;
+use diagram::limits::MAX_WORDS;
 use diagram::node::BddPointer;
 use trials::answers::Answer;
 use trials::answers::constantly;
@@ -58,7 +58,7 @@ fn searched(words: &[u32], room: &mut [u32], target: usize, nodes: usize, vars: 
     requires { ⌜ Searching (now words) (now room) nodes vars × (2 < target) × (target < nodes) ⌝ }
     ensures { λ r. ⌜ Found (now (words .entry)) (underToSize (now (words .entry)) target) (now (room .entry)) (now (room .exit)) (r .nodes) (r .trials) ⌝ }
 {
-    let mut sent = [0u32; SENT];
+    let mut sent = [0u32; MAX_WORDS];
     prepare(words, room, nodes, vars);
     search(words, &mut sent, room, target, nodes, vars)
 }

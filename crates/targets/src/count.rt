@@ -2,8 +2,8 @@
 use crate::Approximated;
 use count_search::cut_to_count;
 use count_search::under_count;
-use cuts::cut::SENT;
 use diagram::lengths::most;
+use diagram::limits::MAX_WORDS;
 use diagram::validate::admit;
 use diagram::verdict::Output;
 use diagram::verdict::Verdict;
@@ -50,7 +50,7 @@ fn over(
     requires { ⌜ Counting true (now words) (now room) (now output) (value (target .words)) nodes vars ⌝ }
     ensures { λ r. ⌜ Hit (overToCount (now (words .entry)) (value (target .words))) (now (room .entry)) (now (room .exit)) (now (output .entry)) (now (output .exit)) (r .nodes) (r .trials) ⌝ }
 {
-    let mut flipped = [0u32; SENT];
+    let mut flipped = [0u32; MAX_WORDS];
     let made = negate(words, &mut flipped, nodes, vars);
     let all = power_of_two(vars);
     let left = excess(all.natural, target);

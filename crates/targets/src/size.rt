@@ -1,7 +1,7 @@
 // To a size.
 use crate::Approximated;
-use cuts::cut::SENT;
 use diagram::lengths::most;
+use diagram::limits::MAX_WORDS;
 use diagram::validate::admit;
 use diagram::verdict::Output;
 use diagram::verdict::Verdict;
@@ -42,7 +42,7 @@ fn over(
     requires { ⌜ Targeting (now words) (now room) (now output) nodes vars ⌝ }
     ensures { λ r. ⌜ Hit (overToSize (now (words .entry)) target) (now (room .entry)) (now (room .exit)) (now (output .entry)) (now (output .exit)) (r .nodes) (r .trials) ⌝ }
 {
-    let mut flipped = [0u32; SENT];
+    let mut flipped = [0u32; MAX_WORDS];
     let made = negate(words, &mut flipped, nodes, vars);
     let found = under_size(&flipped[..3 * made], room, target, made, vars);
     let count = give_back(room, output, most(nodes), found.nodes, vars);

@@ -1,23 +1,19 @@
 // Reads a block file on standard input and prints the count of its diagram and the weight of each node, or the one line
-// of its refusal. At most three blocks are read, and a little more to see whether bytes stand after them.
+// of its refusal. At most a whole file is read, and a little more to see whether bytes stand after it.
 use blocks::layout::BLOCK;
-use blocks::layout::MOST;
-use blocks::layout::NODES;
+use blocks::layout::FILE;
 use libc::STDERR_FILENO;
 use libc::STDOUT_FILENO;
+use report::lines::REPORT;
 use report::weigh::report;
+ghost use mathlib.Core.Path.{_≡_};
+ghost use lib.ListN.{length};
+ghost use Rattle.report.specs.Report.{reportOf};
 
-const INPUT: usize = BLOCK * ((MOST + NODES - 1) / NODES) + BLOCK;
-
-// Every report fits: `fits` of crates/report/specs/Reported.antt.
-const TEXT: usize = 16384;
+const INPUT: usize = FILE + BLOCK;
 
 fn blank_input() -> [u8; INPUT] {
     [0u8; INPUT]
-}
-
-fn blank_text() -> [u8; TEXT] {
-    [0u8; TEXT]
 }
 
 // Whether all of it was written.
@@ -28,8 +24,7 @@ fn show(text: &[u8], end: usize) -> bool {
     io::write_all(STDOUT_FILENO, &text[..end])
 }
 
-fn weigh(bytes: &[u8], text: &mut [u8]) {
-    let end = report(text, bytes);
+fn deliver(text: &[u8], end: usize) {
     if !show(text, end) {
         io::write_all(
             STDERR_FILENO,
@@ -38,9 +33,18 @@ fn weigh(bytes: &[u8], text: &mut [u8]) {
     }
 }
 
+// How many bytes there are to print: the whole report, for the buffer holds every one.
+fn weigh(bytes: &[u8]) -> usize
+    ensures { λ r. ⌜ r ≡ length (reportOf (now (bytes .entry))) ⌝ }
+{
+    let mut text = [0u8; REPORT];
+    let end = report(&mut text, bytes);
+    deliver(&text, end);
+    end
+}
+
 fn main() {
     let mut bytes = blank_input();
-    let mut text = blank_text();
     let length = io::read_full(0, &mut bytes);
-    weigh(&bytes[..length], &mut text);
+    weigh(&bytes[..length]);
 }

@@ -9,6 +9,8 @@ use cases::least;
 use cases::number;
 use cases::run_of;
 use cases::words_of;
+use diagram::limits::MAX_NODES;
+use diagram::limits::ROOM_PER_NODE;
 use diagram::node::word;
 use diagram::verdict::Verdict;
 use libc::STDOUT_FILENO;
@@ -17,14 +19,18 @@ use naturals::load;
 use weights::node_valuation_weights;
 ghost use Prim.Native.Nat.{_≤_, _<_};
 ghost use lib.ListN.{length};
+ghost use Rattle.diagram.specs.Limits.{maxNodes};
 
 const TEXT: usize = 524288;
 
-const WORDS: usize = 12300;
+// A few nodes more than a diagram may have: some cases offer and lend more than is taken.
+const NODES: usize = MAX_NODES + 4;
 
-const OUTPUT: usize = 32800;
+const WORDS: usize = 3 * NODES;
 
-const ROOM: usize = 262400;
+const OUTPUT: usize = naturals::WORDS * NODES;
+
+const ROOM: usize = ROOM_PER_NODE * NODES;
 
 fn say(text: &[u8], value: u64) {
     io::write_all(STDOUT_FILENO, text);
@@ -76,7 +82,7 @@ fn show(a: Natural) {
 }
 
 fn say_weights(output: &[u32], nodes: usize)
-    requires { ⌜ nodes ≤ 4096 ⌝ }
+    requires { ⌜ nodes ≤ maxNodes ⌝ }
 {
     io::write_all(STDOUT_FILENO, b", weights");
     let mut i = 0;
@@ -90,7 +96,7 @@ fn say_weights(output: &[u32], nodes: usize)
 
 // What the output has: the weights of that many nodes, and words as they were.
 fn say_output(output: &[u32], word: u32, nodes: usize)
-    requires { ⌜ nodes ≤ 4096 ⌝ }
+    requires { ⌜ nodes ≤ maxNodes ⌝ }
 {
     say(
         b", output kept ",
@@ -103,10 +109,10 @@ fn say_output(output: &[u32], word: u32, nodes: usize)
 }
 
 fn weighed(verdict: Verdict) -> usize
-    ensures { λ r. ⌜ r ≤ 4096 ⌝ }
+    ensures { λ r. ⌜ r ≤ maxNodes ⌝ }
 {
     match verdict {
-        Verdict::Accepted { nodes, vars: _ } => least(nodes, 4096),
+        Verdict::Accepted { nodes, vars: _ } => least(nodes, MAX_NODES),
         Verdict::Refused {
             number: _,
             place: _,

@@ -2,11 +2,12 @@
 use Prim.Native.Nat.{_≤_}
 use native.Mathlib.Omega.{arith}
 use borrow.Author.Needs.{needs}
+use Rattle.naturals.specs.Natural.{wordCount}
 use Rattle.counts_run.proofs.say_natural.Statement.{statement}
 use Rattle.counts_run.proofs.say_natural.Tie as tie
 
 abbrev Inv-loop : tie.InvT-loop
-Inv-loop text natural i₀ i = i ≤ 8
+Inv-loop text natural i₀ i = i ≤ wordCount
 
 abbrev μ-loop : tie.MeasureT-loop
 μ-loop text natural i₀ i = i

@@ -1,16 +1,20 @@
-use Prim.Native.Nat.{_-_, _≤_}
+use Prim.Native.Nat.{_+_, _-_, _≤_}
 use borrow.Author.Needs.{needs}
+use Rattle.naturals.specs.Natural.{wordCount}
 use Rattle.naturals_run.proofs.room.Statement.{statement}
 use Rattle.naturals_run.proofs.room.Tie as tie
 
 abbrev Inv-loop : tie.InvT-loop
-Inv-loop s₀ i₀ s i = i ≤ 20
+Inv-loop s₀ i₀ s i = i ≤ wordCount + 12
 
 abbrev μ-loop : tie.MeasureT-loop
-μ-loop s₀ i₀ s i = 20 - i
+μ-loop s₀ i₀ s i = wordCount + 12 - i
 
 loop-holds : tie.Need-loop-holds Inv-loop μ-loop
 loop-holds c = search needs
+
+cast-loop : tie.Need-cast-loop Inv-loop μ-loop
+cast-loop c = search needs
 
 add-s : tie.Need-add-s Inv-loop μ-loop
 add-s c = search needs
@@ -43,6 +47,7 @@ room-spec =
     Inv-loop
     μ-loop
     loop-holds
+    cast-loop
     add-s
     cast-s
     mul-s

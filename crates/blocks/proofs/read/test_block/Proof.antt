@@ -1,4 +1,4 @@
-use Rattle.blocks.specs.Block.{nodes}
+use Rattle.blocks.specs.Block.{nodes, blockNodes, blockWords}
 use mathlib.Core.Path.{ap}
 use Rattle.blocks.specs.Block.{two}
 use Prim.Native.Nat.{_+_, _*_, _≤_}
@@ -54,7 +54,7 @@ cast-held : tie.Need-cast-held
 cast-held c = search needs
 
 unused-zero-requires : tie.Need-unused-zero-requires
-unused-zero-requires c κs = (let h : two (c .before .before .before .before .before .before .before .before .before .args .block .now) 2 ≤ 50 = held-few (c .before .before .before .before .before .before .before .before .before .args .block .now) (c .before .before .before .before .before .before .before .before .before .args .number) (c .before .before .before .before .before .before .before .before .before .args .stated) (sym (c .before .before .before .before .counts-right .ensures) ∙ not-false _ (c .before .before .before .if3 .left)) in omega (arith, c .get-two .ensures .0), c .before .before .before .before .before .before .before .if1 .left)
+unused-zero-requires c κs = (let h : two (c .before .before .before .before .before .before .before .before .before .args .block .now) 2 ≤ blockNodes = held-few (c .before .before .before .before .before .before .before .before .before .args .block .now) (c .before .before .before .before .before .before .before .before .before .args .number) (c .before .before .before .before .before .before .before .before .before .args .stated) (sym (c .before .before .before .before .counts-right .ensures) ∙ not-false _ (c .before .before .before .if3 .left)) in omega (arith, c .get-two .ensures .0), c .before .before .before .before .before .before .before .if1 .left)
 
 mul-fits : tie.Need-mul-fits
 mul-fits c = omega (arith, due-small (c .before .before .before .before .before .before .before .before .before .before .args .block .now) (c .before .before .before .before .before .before .before .before .before .before .args .number) (c .before .before .before .before .before .before .before .before .before .before .args .stated) (sym (c .before .before .before .before .before .counts-right .ensures) ∙ not-false _ (c .before .before .before .before .if3 .left)) (omega (arith, c .before .before .if4 .left, c .before .before .before .get-four .ensures)))
@@ -75,10 +75,10 @@ refused-requires-6 : tie.Need-refused-requires-6
 refused-requires-6 c κs = search needs
 
 returns-6 : tie.Need-returns-6
-returns-6 c = c .refused6 .ensures ∙ refused-4 (c .before .before .before .before .before .before .before .before .before .before .before .before .before .args .block .now) (c .before .before .before .before .before .before .before .before .before .before .before .before .before .args .number) (c .before .before .before .before .before .before .before .before .before .before .before .before .before .args .stated) (c .before .before .before .before .before .before .before .before .before .before .before .before .before .args .lent) (c .before .before .before .before .before .before .before .before .before .before .before .if1 .left) (sym (c .before .before .before .before .before .before .before .before .before .before .sums-right .ensures) ∙ not-false _ (c .before .before .before .before .before .before .before .before .before .if2 .left)) (sym (c .before .before .before .before .before .before .before .before .counts-right .ensures) ∙ not-false _ (c .before .before .before .before .before .before .before .if3 .left)) (omega (arith, c .before .before .before .before .before .if4 .left, c .before .before .before .before .before .before .get-four .ensures)) (rw (c .before .before .before .before .get-two .ensures .0) at (sym (c .before .before .before .unused-zero .ensures) ∙ not-false _ (c .before .before .if5 .left))) (omega (arith, leb-false (150 * c .before .before .before .before .before .before .before .before .before .before .before .before .before .args .number + 3 * c .before .before .before .before .get-two .result) (c .before .before .before .before .before .before .before .before .before .before .before .before .before .args .lent) (not-true _ (c .before .if6 .taken)), c .before .before .before .before .get-two .ensures .0))
+returns-6 c = c .refused6 .ensures ∙ refused-4 (c .before .before .before .before .before .before .before .before .before .before .before .before .before .args .block .now) (c .before .before .before .before .before .before .before .before .before .before .before .before .before .args .number) (c .before .before .before .before .before .before .before .before .before .before .before .before .before .args .stated) (c .before .before .before .before .before .before .before .before .before .before .before .before .before .args .lent) (c .before .before .before .before .before .before .before .before .before .before .before .if1 .left) (sym (c .before .before .before .before .before .before .before .before .before .before .sums-right .ensures) ∙ not-false _ (c .before .before .before .before .before .before .before .before .before .if2 .left)) (sym (c .before .before .before .before .before .before .before .before .counts-right .ensures) ∙ not-false _ (c .before .before .before .before .before .before .before .if3 .left)) (omega (arith, c .before .before .before .before .before .if4 .left, c .before .before .before .before .before .before .get-four .ensures)) (rw (c .before .before .before .before .get-two .ensures .0) at (sym (c .before .before .before .unused-zero .ensures) ∙ not-false _ (c .before .before .if5 .left))) (omega (arith, leb-false (blockWords * c .before .before .before .before .before .before .before .before .before .before .before .before .before .args .number + 3 * c .before .before .before .before .get-two .result) (c .before .before .before .before .before .before .before .before .before .before .before .before .before .args .lent) (not-true _ (c .before .if6 .taken)), c .before .before .before .before .get-two .ensures .0))
 
 returns-7 : tie.Need-returns-7
-returns-7 c = ap nodes (c .before .before .before .before .before .get-four .ensures) ∙ taken (c .before .before .before .before .before .before .before .before .before .before .before .before .args .block .now) (c .before .before .before .before .before .before .before .before .before .before .before .before .args .number) (c .before .before .before .before .before .before .before .before .before .before .before .before .args .stated) (c .before .before .before .before .before .before .before .before .before .before .before .before .args .lent) (c .before .before .before .before .before .before .before .before .before .before .if1 .left) (sym (c .before .before .before .before .before .before .before .before .before .sums-right .ensures) ∙ not-false _ (c .before .before .before .before .before .before .before .before .if2 .left)) (sym (c .before .before .before .before .before .before .before .counts-right .ensures) ∙ not-false _ (c .before .before .before .before .before .before .if3 .left)) (omega (arith, c .before .before .before .before .if4 .left, c .before .before .before .before .before .get-four .ensures)) (rw (c .before .before .before .get-two .ensures .0) at (sym (c .before .before .unused-zero .ensures) ∙ not-false _ (c .before .if5 .left))) (omega (arith, leb-true (150 * c .before .before .before .before .before .before .before .before .before .before .before .before .args .number + 3 * c .before .before .before .get-two .result) (c .before .before .before .before .before .before .before .before .before .before .before .before .args .lent) (not-false _ (c .if6 .left)), c .before .before .before .get-two .ensures .0))
+returns-7 c = ap nodes (c .before .before .before .before .before .get-four .ensures) ∙ taken (c .before .before .before .before .before .before .before .before .before .before .before .before .args .block .now) (c .before .before .before .before .before .before .before .before .before .before .before .before .args .number) (c .before .before .before .before .before .before .before .before .before .before .before .before .args .stated) (c .before .before .before .before .before .before .before .before .before .before .before .before .args .lent) (c .before .before .before .before .before .before .before .before .before .before .if1 .left) (sym (c .before .before .before .before .before .before .before .before .before .sums-right .ensures) ∙ not-false _ (c .before .before .before .before .before .before .before .before .if2 .left)) (sym (c .before .before .before .before .before .before .before .counts-right .ensures) ∙ not-false _ (c .before .before .before .before .before .before .if3 .left)) (omega (arith, c .before .before .before .before .if4 .left, c .before .before .before .before .before .get-four .ensures)) (rw (c .before .before .before .get-two .ensures .0) at (sym (c .before .before .unused-zero .ensures) ∙ not-false _ (c .before .if5 .left))) (omega (arith, leb-true (blockWords * c .before .before .before .before .before .before .before .before .before .before .before .before .args .number + 3 * c .before .before .before .get-two .result) (c .before .before .before .before .before .before .before .before .before .before .before .before .args .lent) (not-false _ (c .if6 .left)), c .before .before .before .get-two .ensures .0))
 
 pub test-block-spec : {M : Type 1} → statement M
 test-block-spec =

@@ -8,6 +8,7 @@ use borrow.Author.Needs.{needs}
 use native.Mathlib.Omega.{arith}
 use Rattle.blocks.proofs.sums.weighted_sum.Statement.{statement}
 use Rattle.blocks.proofs.sums.weighted_sum.Tie as tie
+use Rattle.blocks.specs.Block.{blockBytes}
 
 abbrev Inv-loop : tie.InvT-loop
 Inv-loop bytes sum₀ i₀ sum i = Weighted bytes i sum
@@ -31,10 +32,10 @@ cast-sum-2 : tie.Need-cast-sum-2 Inv-loop μ-loop
 cast-sum-2 c = omega (arith, c .shared-slice-known .given (c .before .before .loop .i))
 
 mul-sum : tie.Need-mul-sum Inv-loop μ-loop
-mul-sum c = let h : c .before .before .loop .i + 1 ≤ 512 = omega arith in omega (arith, product-small (c .before .before .loop .i + 1) (getD (c .before .before .before .args .bytes .now) (c .before .before .loop .i) 0) h (omega (arith, c .shared-slice-known .given (c .before .before .loop .i))))
+mul-sum c = let h : c .before .before .loop .i + 1 ≤ blockBytes = omega arith in omega (arith, product-small (c .before .before .loop .i + 1) (getD (c .before .before .before .args .bytes .now) (c .before .before .loop .i) 0) h (omega (arith, c .shared-slice-known .given (c .before .before .loop .i))))
 
 add-sum-2 : tie.Need-add-sum-2 Inv-loop μ-loop
-add-sum-2 c = let h : c .before .before .loop .i + 1 ≤ 512 = omega arith in omega (arith, product-small (c .before .before .loop .i + 1) (getD (c .before .before .before .args .bytes .now) (c .before .before .loop .i) 0) h (omega (arith, c .shared-slice-known .given (c .before .before .loop .i))))
+add-sum-2 c = let h : c .before .before .loop .i + 1 ≤ blockBytes = omega arith in omega (arith, product-small (c .before .before .loop .i + 1) (getD (c .before .before .before .args .bytes .now) (c .before .before .loop .i) 0) h (omega (arith, c .shared-slice-known .given (c .before .before .loop .i))))
 
 add-i : tie.Need-add-i Inv-loop μ-loop
 add-i c = search needs

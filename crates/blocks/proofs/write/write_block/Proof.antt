@@ -6,6 +6,7 @@ use native.Mathlib.Omega.{arith}
 use borrow.Author.Needs.{needs}
 use Rattle.blocks.proofs.write.write_block.Statement.{statement}
 use Rattle.blocks.proofs.write.write_block.Tie as tie
+use Rattle.blocks.specs.Block.{blockBytes}
 
 slice-aggregate-put-front : tie.Need-slice-aggregate-put-front
 slice-aggregate-put-front c = search needs
@@ -17,25 +18,25 @@ array-share-prefix-block : tie.Need-array-share-prefix-block
 array-share-prefix-block c = search needs
 
 slice-aggregate-sum : tie.Need-slice-aggregate-sum
-slice-aggregate-sum c = let h : length (c .before .before .put-front .last .0) ≡ 512 = c .before .before .put-front .kept .0 in sym (length-take-le 508 (c .before .before .put-front .last .0) (omega arith))
+slice-aggregate-sum c = let h : length (c .before .before .put-front .last .0) ≡ blockBytes = c .before .before .put-front .kept .0 in sym (length-take-le 508 (c .before .before .put-front .last .0) (omega arith))
 
 sum-requires : tie.Need-sum-requires
-sum-requires c κs = let h : length (c .before .before .put-front .last .0) ≡ 512 = c .before .before .put-front .kept .0 in let k : length (take 508 (c .before .before .put-front .last .0)) ≡ 508 = length-take-le 508 (c .before .before .put-front .last .0) (omega arith) in omega arith
+sum-requires c κs = let h : length (c .before .before .put-front .last .0) ≡ blockBytes = c .before .before .put-front .kept .0 in let k : length (take 508 (c .before .before .put-front .last .0)) ≡ 508 = length-take-le 508 (c .before .before .put-front .last .0) (omega arith) in omega arith
 
 array-share-prefix-block-2 : tie.Need-array-share-prefix-block-2
 array-share-prefix-block-2 c = search needs
 
 slice-aggregate-weighted-sum : tie.Need-slice-aggregate-weighted-sum
-slice-aggregate-weighted-sum c = let h : length (c .before .before .before .before .put-front .last .0) ≡ 512 = c .before .before .before .before .put-front .kept .0 in sym (length-take-le 508 (c .before .before .before .before .put-front .last .0) (omega arith))
+slice-aggregate-weighted-sum c = let h : length (c .before .before .before .before .put-front .last .0) ≡ blockBytes = c .before .before .before .before .put-front .kept .0 in sym (length-take-le 508 (c .before .before .before .before .put-front .last .0) (omega arith))
 
 weighted-sum-requires : tie.Need-weighted-sum-requires
-weighted-sum-requires c κs = let h : length (c .before .before .before .before .put-front .last .0) ≡ 512 = c .before .before .before .before .put-front .kept .0 in let k : length (take 508 (c .before .before .before .before .put-front .last .0)) ≡ 508 = length-take-le 508 (c .before .before .before .before .put-front .last .0) (omega arith) in omega arith
+weighted-sum-requires c κs = let h : length (c .before .before .before .before .put-front .last .0) ≡ blockBytes = c .before .before .before .before .put-front .kept .0 in let k : length (take 508 (c .before .before .before .before .put-front .last .0)) ≡ 508 = length-take-le 508 (c .before .before .before .before .put-front .last .0) (omega arith) in omega arith
 
 array-share-prefix-block-3 : tie.Need-array-share-prefix-block-3
 array-share-prefix-block-3 c = search needs
 
 slice-aggregate-write : tie.Need-slice-aggregate-write
-slice-aggregate-write c = let h : length (c .before .before .before .before .before .before .before .put-front .last .0) ≡ 512 = c .before .before .before .before .before .before .before .put-front .kept .0 in sym (length-take-le 508 (c .before .before .before .before .before .before .before .put-front .last .0) (omega arith))
+slice-aggregate-write c = let h : length (c .before .before .before .before .before .before .before .put-front .last .0) ≡ blockBytes = c .before .before .before .before .before .before .before .put-front .kept .0 in sym (length-take-le 508 (c .before .before .before .before .before .before .before .put-front .last .0) (omega arith))
 
 write-requires : tie.Need-write-requires
 write-requires c κs = search needs

@@ -1,4 +1,5 @@
 -- `diagram::validate::admit` meets its contract.
+use Rattle.diagram.specs.Limits.{roomPerNode}
 use Rattle.diagram.proofs.Words.{front-cleared}
 use denote.Ref.{now}
 use Prim.Native.Nat.{_*_, _≤_}
@@ -38,21 +39,21 @@ slice-relend-prefix-inspect c =
 
 slice-aggregate-inspect : tie.Need-slice-aggregate-inspect
 slice-aggregate-inspect c =
-    let l : 64 * c .before .most .result ≤ length (now (c .before .before .before .before .before .before .before .before .args .room)) = omega (arith, (all-is (now (c .before .before .before .before .before .before .before .before .args .words)) (length (now (c .before .before .before .before .before .before .before .before .args .room))) _ _ (c .before .most .result) (lengths-accepted (now (c .before .before .before .before .before .before .before .before .args .words)) (c .before .before .before .before .before .before .before .before .args .output) (length (now (c .before .before .before .before .before .before .before .before .args .room))) _ _ (sym (c .before .before .before .before .before .lengths .ensures) ∙ ap said (c .before .before .before .measured .given .1))) (c .before .most .ensures)), (lengths-accepted (now (c .before .before .before .before .before .before .before .before .args .words)) (c .before .before .before .before .before .before .before .before .args .output) (length (now (c .before .before .before .before .before .before .before .before .args .room))) _ _ (sym (c .before .before .before .before .before .lengths .ensures) ∙ ap said (c .before .before .before .measured .given .1))) .fits) in
-    sym (length-take-le (64 * c .before .most .result) (now (c .before .before .before .before .before .before .before .before .args .room)) l)
+    let l : roomPerNode * c .before .most .result ≤ length (now (c .before .before .before .before .before .before .before .before .args .room)) = omega (arith, (all-is (now (c .before .before .before .before .before .before .before .before .args .words)) (length (now (c .before .before .before .before .before .before .before .before .args .room))) _ _ (c .before .most .result) (lengths-accepted (now (c .before .before .before .before .before .before .before .before .args .words)) (c .before .before .before .before .before .before .before .before .args .output) (length (now (c .before .before .before .before .before .before .before .before .args .room))) _ _ (sym (c .before .before .before .before .before .lengths .ensures) ∙ ap said (c .before .before .before .measured .given .1))) (c .before .most .ensures)), (lengths-accepted (now (c .before .before .before .before .before .before .before .before .args .words)) (c .before .before .before .before .before .before .before .before .args .output) (length (now (c .before .before .before .before .before .before .before .before .args .room))) _ _ (sym (c .before .before .before .before .before .lengths .ensures) ∙ ap said (c .before .before .before .measured .given .1))) .fits) in
+    sym (length-take-le (roomPerNode * c .before .most .result) (now (c .before .before .before .before .before .before .before .before .args .room)) l)
 
 inspect-requires : tie.Need-inspect-requires
 inspect-requires c κs =
-    let l : 64 * c .before .most .result ≤ length (now (c .before .before .before .before .before .before .before .before .args .room)) = omega (arith, (all-is (now (c .before .before .before .before .before .before .before .before .args .words)) (length (now (c .before .before .before .before .before .before .before .before .args .room))) _ _ (c .before .most .result) (lengths-accepted (now (c .before .before .before .before .before .before .before .before .args .words)) (c .before .before .before .before .before .before .before .before .args .output) (length (now (c .before .before .before .before .before .before .before .before .args .room))) _ _ (sym (c .before .before .before .before .before .lengths .ensures) ∙ ap said (c .before .before .before .measured .given .1))) (c .before .most .ensures)), (lengths-accepted (now (c .before .before .before .before .before .before .before .before .args .words)) (c .before .before .before .before .before .before .before .before .args .output) (length (now (c .before .before .before .before .before .before .before .before .args .room))) _ _ (sym (c .before .before .before .before .before .lengths .ensures) ∙ ap said (c .before .before .before .measured .given .1))) .fits) in
-    sized-of (now (c .before .before .before .before .before .before .before .before .args .words)) (length (now (c .before .before .before .before .before .before .before .before .args .room))) _ _ (64 * c .before .most .result) _ (lengths-accepted (now (c .before .before .before .before .before .before .before .before .args .words)) (c .before .before .before .before .before .before .before .before .args .output) (length (now (c .before .before .before .before .before .before .before .before .args .room))) _ _ (sym (c .before .before .before .before .before .lengths .ensures) ∙ ap said (c .before .before .before .measured .given .1))) (all-is (now (c .before .before .before .before .before .before .before .before .args .words)) (length (now (c .before .before .before .before .before .before .before .before .args .room))) _ _ (c .before .most .result) (lengths-accepted (now (c .before .before .before .before .before .before .before .before .args .words)) (c .before .before .before .before .before .before .before .before .args .output) (length (now (c .before .before .before .before .before .before .before .before .args .room))) _ _ (sym (c .before .before .before .before .before .lengths .ensures) ∙ ap said (c .before .before .before .measured .given .1))) (c .before .most .ensures))
-    (length-take-le (64 * c .before .most .result) (now (c .before .before .before .before .before .before .before .before .args .room)) l)
+    let l : roomPerNode * c .before .most .result ≤ length (now (c .before .before .before .before .before .before .before .before .args .room)) = omega (arith, (all-is (now (c .before .before .before .before .before .before .before .before .args .words)) (length (now (c .before .before .before .before .before .before .before .before .args .room))) _ _ (c .before .most .result) (lengths-accepted (now (c .before .before .before .before .before .before .before .before .args .words)) (c .before .before .before .before .before .before .before .before .args .output) (length (now (c .before .before .before .before .before .before .before .before .args .room))) _ _ (sym (c .before .before .before .before .before .lengths .ensures) ∙ ap said (c .before .before .before .measured .given .1))) (c .before .most .ensures)), (lengths-accepted (now (c .before .before .before .before .before .before .before .before .args .words)) (c .before .before .before .before .before .before .before .before .args .output) (length (now (c .before .before .before .before .before .before .before .before .args .room))) _ _ (sym (c .before .before .before .before .before .lengths .ensures) ∙ ap said (c .before .before .before .measured .given .1))) .fits) in
+    sized-of (now (c .before .before .before .before .before .before .before .before .args .words)) (length (now (c .before .before .before .before .before .before .before .before .args .room))) _ _ (roomPerNode * c .before .most .result) _ (lengths-accepted (now (c .before .before .before .before .before .before .before .before .args .words)) (c .before .before .before .before .before .before .before .before .args .output) (length (now (c .before .before .before .before .before .before .before .before .args .room))) _ _ (sym (c .before .before .before .before .before .lengths .ensures) ∙ ap said (c .before .before .before .measured .given .1))) (all-is (now (c .before .before .before .before .before .before .before .before .args .words)) (length (now (c .before .before .before .before .before .before .before .before .args .room))) _ _ (c .before .most .result) (lengths-accepted (now (c .before .before .before .before .before .before .before .before .args .words)) (c .before .before .before .before .before .before .before .before .args .output) (length (now (c .before .before .before .before .before .before .before .before .args .room))) _ _ (sym (c .before .before .before .before .before .lengths .ensures) ∙ ap said (c .before .before .before .measured .given .1))) (c .before .most .ensures))
+    (length-take-le (roomPerNode * c .before .most .result) (now (c .before .before .before .before .before .before .before .before .args .room)) l)
 
 same-length : tie.Need-same-length
 same-length c = search needs
 
 returns-2 : tie.Need-returns-2
 returns-2 c =
-    let all = 64 * c .before .before .before .before .most .result in
+    let all = roomPerNode * c .before .before .before .before .most .result in
     let l : all ≤ length (now (c .before .before .before .before .before .before .before .before .before .before .before .args .room)) = omega (arith, (all-is (now (c .before .before .before .before .before .before .before .before .before .before .before .args .words)) (length (now (c .before .before .before .before .before .before .before .before .before .before .before .args .room))) _ _ (c .before .before .before .before .most .result) (lengths-accepted (now (c .before .before .before .before .before .before .before .before .before .before .before .args .words)) (c .before .before .before .before .before .before .before .before .before .before .before .args .output) (length (now (c .before .before .before .before .before .before .before .before .before .before .before .args .room))) _ _ (sym (c .before .before .before .before .before .before .before .before .lengths .ensures) ∙ ap said (c .before .before .before .before .before .before .measured .given .1))) (c .before .before .before .before .most .ensures)), (lengths-accepted (now (c .before .before .before .before .before .before .before .before .before .before .before .args .words)) (c .before .before .before .before .before .before .before .before .before .before .before .args .output) (length (now (c .before .before .before .before .before .before .before .before .before .before .before .args .room))) _ _ (sym (c .before .before .before .before .before .before .before .before .lengths .ensures) ∙ ap said (c .before .before .before .before .before .before .measured .given .1))) .fits) in
     contents-decide (now (c .before .before .before .before .before .before .before .before .before .before .before .args .words)) (c .before .before .before .before .before .before .before .before .before .before .before .args .output) (now (c .before .before .before .before .before .before .before .before .before .before .before .args .room)) (c .before .before .before .before .before .before .before .before .lengths .result) (c .before .before .before .before .before .before .before .before .lengths .ensures) _ _ (c .before .before .before .before .before .before .measured .given .1) (c .before .before .inspect .result) (c .before .before .inspect .ensures .0) all (all-is (now (c .before .before .before .before .before .before .before .before .before .before .before .args .words)) (length (now (c .before .before .before .before .before .before .before .before .before .before .before .args .room))) _ _ (c .before .before .before .before .most .result) (lengths-accepted (now (c .before .before .before .before .before .before .before .before .before .before .before .args .words)) (c .before .before .before .before .before .before .before .before .before .before .before .args .output) (length (now (c .before .before .before .before .before .before .before .before .before .before .before .args .room))) _ _ (sym (c .before .before .before .before .before .before .before .before .lengths .ensures) ∙ ap said (c .before .before .before .before .before .before .measured .given .1))) (c .before .before .before .before .most .ensures)) _
     (front-cleared (now (c .before .before .before .before .before .before .before .before .before .before .before .args .room)) all (c .before .before .inspect .last .1 .0) l (c .before .before .inspect .ensures .1))

@@ -17,6 +17,12 @@ slice-aggregate-write-2 c = search needs
 write-requires-2 : tie.Need-write-requires-2
 write-requires-2 c κs = search needs
 
+slice-aggregate-write-limit : tie.Need-slice-aggregate-write-limit
+slice-aggregate-write-limit c = search needs
+
+write-limit-requires : tie.Need-write-limit-requires
+write-limit-requires c κs = search needs
+
 slice-aggregate-write-3 : tie.Need-slice-aggregate-write-3
 slice-aggregate-write-3 c = search needs
 
@@ -83,23 +89,17 @@ slice-aggregate-write-13 c = search needs
 write-requires-13 : tie.Need-write-requires-13
 write-requires-13 c κs = search needs
 
+slice-aggregate-write-limit-2 : tie.Need-slice-aggregate-write-limit-2
+slice-aggregate-write-limit-2 c = search needs
+
+write-limit-requires-2 : tie.Need-write-limit-requires-2
+write-limit-requires-2 c κs = search needs
+
 slice-aggregate-write-14 : tie.Need-slice-aggregate-write-14
 slice-aggregate-write-14 c = search needs
 
 write-requires-14 : tie.Need-write-requires-14
 write-requires-14 c κs = search needs
-
-slice-aggregate-write-15 : tie.Need-slice-aggregate-write-15
-slice-aggregate-write-15 c = search needs
-
-write-requires-15 : tie.Need-write-requires-15
-write-requires-15 c κs = search needs
-
-slice-aggregate-write-16 : tie.Need-slice-aggregate-write-16
-slice-aggregate-write-16 c = search needs
-
-write-requires-16 : tie.Need-write-requires-16
-write-requires-16 c κs = search needs
 
 same-length : tie.Need-same-length
 same-length c = search needs
@@ -120,98 +120,98 @@ same-length-3 c = search needs
 
 returns-3 : tie.Need-returns-3
 unfolding phrase
-returns-3 c = rw (c .before .before .before .before .before .match .keys3) (c .before .before .write3 .ensures)
+returns-3 c = rw (c .before .before .before .before .before .match .keys3) (c .before .before .write-limit .ensures)
 
 same-length-4 : tie.Need-same-length-4
 same-length-4 c = search needs
 
 returns-4 : tie.Need-returns-4
 unfolding phrase
-returns-4 c = rw (c .before .before .before .before .before .match .keys4) (c .before .before .write4 .ensures)
+returns-4 c = rw (c .before .before .before .before .before .match .keys4) (c .before .before .write3 .ensures)
 
 same-length-5 : tie.Need-same-length-5
 same-length-5 c = search needs
 
 returns-5 : tie.Need-returns-5
 unfolding phrase
-returns-5 c = rw (c .before .before .before .before .before .match .keys5) (c .before .before .write5 .ensures)
+returns-5 c = rw (c .before .before .before .before .before .match .keys5) (c .before .before .write4 .ensures)
 
 same-length-6 : tie.Need-same-length-6
 same-length-6 c = search needs
 
 returns-6 : tie.Need-returns-6
 unfolding phrase
-returns-6 c = rw (c .before .before .before .before .before .match .keys6) (c .before .before .write6 .ensures)
+returns-6 c = rw (c .before .before .before .before .before .match .keys6) (c .before .before .write5 .ensures)
 
 same-length-7 : tie.Need-same-length-7
 same-length-7 c = search needs
 
 returns-7 : tie.Need-returns-7
 unfolding phrase
-returns-7 c = rw (c .before .before .before .before .before .match .keys7) (c .before .before .write7 .ensures)
+returns-7 c = rw (c .before .before .before .before .before .match .keys7) (c .before .before .write6 .ensures)
 
 same-length-8 : tie.Need-same-length-8
 same-length-8 c = search needs
 
 returns-8 : tie.Need-returns-8
 unfolding phrase
-returns-8 c = rw (c .before .before .before .before .before .match .keys8) (c .before .before .write8 .ensures)
+returns-8 c = rw (c .before .before .before .before .before .match .keys8) (c .before .before .write7 .ensures)
 
 same-length-9 : tie.Need-same-length-9
 same-length-9 c = search needs
 
 returns-9 : tie.Need-returns-9
 unfolding phrase
-returns-9 c = rw (c .before .before .before .before .before .match .keys9) (c .before .before .write9 .ensures)
+returns-9 c = rw (c .before .before .before .before .before .match .keys9) (c .before .before .write8 .ensures)
 
 same-length-10 : tie.Need-same-length-10
 same-length-10 c = search needs
 
 returns-10 : tie.Need-returns-10
 unfolding phrase
-returns-10 c = rw (c .before .before .before .before .before .match .keys10) (c .before .before .write10 .ensures)
+returns-10 c = rw (c .before .before .before .before .before .match .keys10) (c .before .before .write9 .ensures)
 
 same-length-11 : tie.Need-same-length-11
 same-length-11 c = search needs
 
 returns-11 : tie.Need-returns-11
 unfolding phrase
-returns-11 c = rw (c .before .before .before .before .before .match .keys11) (c .before .before .write11 .ensures)
+returns-11 c = rw (c .before .before .before .before .before .match .keys11) (c .before .before .write10 .ensures)
 
 same-length-12 : tie.Need-same-length-12
 same-length-12 c = search needs
 
 returns-12 : tie.Need-returns-12
 unfolding phrase
-returns-12 c = rw (c .before .before .before .before .before .match .keys12) (c .before .before .write12 .ensures)
+returns-12 c = rw (c .before .before .before .before .before .match .keys12) (c .before .before .write11 .ensures)
 
 same-length-13 : tie.Need-same-length-13
 same-length-13 c = search needs
 
 returns-13 : tie.Need-returns-13
 unfolding phrase
-returns-13 c = rw (c .before .before .before .before .before .match .keys13) (c .before .before .write13 .ensures)
+returns-13 c = rw (c .before .before .before .before .before .match .keys13) (c .before .before .write12 .ensures)
 
 same-length-14 : tie.Need-same-length-14
 same-length-14 c = search needs
 
 returns-14 : tie.Need-returns-14
 unfolding phrase
-returns-14 c = rw (c .before .before .before .before .before .match .keys14) (c .before .before .write14 .ensures)
+returns-14 c = rw (c .before .before .before .before .before .match .keys14) (c .before .before .write13 .ensures)
 
 same-length-15 : tie.Need-same-length-15
 same-length-15 c = search needs
 
 returns-15 : tie.Need-returns-15
 unfolding phrase
-returns-15 c = rw (c .before .before .before .before .before .match .keys15) (c .before .before .write15 .ensures)
+returns-15 c = rw (c .before .before .before .before .before .match .keys15) (c .before .before .write-limit2 .ensures)
 
 same-length-16 : tie.Need-same-length-16
 same-length-16 c = search needs
 
 returns-16 : tie.Need-returns-16
 unfolding phrase
-returns-16 c = simp (ne-eqb (c .before .before .before .before .before .before .before .args .number) 4 (c .before .before .before .before .before .match .rest .0 .0 .0 .0 .0 .0 .0 .0 .0 .0 .0 .0 .0 .0 .1), ne-eqb (c .before .before .before .before .before .before .before .args .number) 6 (c .before .before .before .before .before .match .rest .0 .0 .0 .0 .0 .0 .0 .0 .0 .0 .0 .0 .0 .1), ne-eqb (c .before .before .before .before .before .before .before .args .number) 7 (c .before .before .before .before .before .match .rest .0 .0 .0 .0 .0 .0 .0 .0 .0 .0 .0 .0 .1), ne-eqb (c .before .before .before .before .before .before .before .args .number) 8 (c .before .before .before .before .before .match .rest .0 .0 .0 .0 .0 .0 .0 .0 .0 .0 .0 .1), ne-eqb (c .before .before .before .before .before .before .before .args .number) 9 (c .before .before .before .before .before .match .rest .0 .0 .0 .0 .0 .0 .0 .0 .0 .0 .1), ne-eqb (c .before .before .before .before .before .before .before .args .number) 10 (c .before .before .before .before .before .match .rest .0 .0 .0 .0 .0 .0 .0 .0 .0 .1), ne-eqb (c .before .before .before .before .before .before .before .args .number) 11 (c .before .before .before .before .before .match .rest .0 .0 .0 .0 .0 .0 .0 .0 .1), ne-eqb (c .before .before .before .before .before .before .before .args .number) 12 (c .before .before .before .before .before .match .rest .0 .0 .0 .0 .0 .0 .0 .1), ne-eqb (c .before .before .before .before .before .before .before .args .number) 16 (c .before .before .before .before .before .match .rest .0 .0 .0 .0 .0 .0 .1), ne-eqb (c .before .before .before .before .before .before .before .args .number) 19 (c .before .before .before .before .before .match .rest .0 .0 .0 .0 .0 .1), ne-eqb (c .before .before .before .before .before .before .before .args .number) 21 (c .before .before .before .before .before .match .rest .0 .0 .0 .0 .1), ne-eqb (c .before .before .before .before .before .before .before .args .number) 22 (c .before .before .before .before .before .match .rest .0 .0 .0 .1), ne-eqb (c .before .before .before .before .before .before .before .args .number) 23 (c .before .before .before .before .before .match .rest .0 .0 .1), ne-eqb (c .before .before .before .before .before .before .before .args .number) 24 (c .before .before .before .before .before .match .rest .0 .1), ne-eqb (c .before .before .before .before .before .before .before .args .number) 25 (c .before .before .before .before .before .match .rest .1)) (c .before .before .write16 .ensures)
+returns-16 c = simp (ne-eqb (c .before .before .before .before .before .before .before .args .number) 4 (c .before .before .before .before .before .match .rest .0 .0 .0 .0 .0 .0 .0 .0 .0 .0 .0 .0 .0 .0 .1), ne-eqb (c .before .before .before .before .before .before .before .args .number) 6 (c .before .before .before .before .before .match .rest .0 .0 .0 .0 .0 .0 .0 .0 .0 .0 .0 .0 .0 .1), ne-eqb (c .before .before .before .before .before .before .before .args .number) 7 (c .before .before .before .before .before .match .rest .0 .0 .0 .0 .0 .0 .0 .0 .0 .0 .0 .0 .1), ne-eqb (c .before .before .before .before .before .before .before .args .number) 8 (c .before .before .before .before .before .match .rest .0 .0 .0 .0 .0 .0 .0 .0 .0 .0 .0 .1), ne-eqb (c .before .before .before .before .before .before .before .args .number) 9 (c .before .before .before .before .before .match .rest .0 .0 .0 .0 .0 .0 .0 .0 .0 .0 .1), ne-eqb (c .before .before .before .before .before .before .before .args .number) 10 (c .before .before .before .before .before .match .rest .0 .0 .0 .0 .0 .0 .0 .0 .0 .1), ne-eqb (c .before .before .before .before .before .before .before .args .number) 11 (c .before .before .before .before .before .match .rest .0 .0 .0 .0 .0 .0 .0 .0 .1), ne-eqb (c .before .before .before .before .before .before .before .args .number) 12 (c .before .before .before .before .before .match .rest .0 .0 .0 .0 .0 .0 .0 .1), ne-eqb (c .before .before .before .before .before .before .before .args .number) 16 (c .before .before .before .before .before .match .rest .0 .0 .0 .0 .0 .0 .1), ne-eqb (c .before .before .before .before .before .before .before .args .number) 19 (c .before .before .before .before .before .match .rest .0 .0 .0 .0 .0 .1), ne-eqb (c .before .before .before .before .before .before .before .args .number) 21 (c .before .before .before .before .before .match .rest .0 .0 .0 .0 .1), ne-eqb (c .before .before .before .before .before .before .before .args .number) 22 (c .before .before .before .before .before .match .rest .0 .0 .0 .1), ne-eqb (c .before .before .before .before .before .before .before .args .number) 23 (c .before .before .before .before .before .match .rest .0 .0 .1), ne-eqb (c .before .before .before .before .before .before .before .args .number) 24 (c .before .before .before .before .before .match .rest .0 .1), ne-eqb (c .before .before .before .before .before .before .before .args .number) 25 (c .before .before .before .before .before .match .rest .1)) (c .before .before .write14 .ensures)
 
 pub write-phrase-spec : {M : Type 1} → statement M
 write-phrase-spec =
@@ -221,6 +221,8 @@ write-phrase-spec =
     write-requires
     slice-aggregate-write-2
     write-requires-2
+    slice-aggregate-write-limit
+    write-limit-requires
     slice-aggregate-write-3
     write-requires-3
     slice-aggregate-write-4
@@ -243,12 +245,10 @@ write-phrase-spec =
     write-requires-12
     slice-aggregate-write-13
     write-requires-13
+    slice-aggregate-write-limit-2
+    write-limit-requires-2
     slice-aggregate-write-14
     write-requires-14
-    slice-aggregate-write-15
-    write-requires-15
-    slice-aggregate-write-16
-    write-requires-16
     same-length
     returns
     same-length-2

@@ -1,3 +1,4 @@
+use Rattle.blocks.specs.Block.{maxStoredWords}
 use lib.ListN.{length}
 use lib.Seq.{length-take-le}
 use Prim.Native.Nat.{_*_}
@@ -24,7 +25,7 @@ array-share-prefix-words : tie.Need-array-share-prefix-words
 array-share-prefix-words c = omega (arith, file-few (c .before .before .before .before .before .before .before .before .before .args .bytes .now) _ _ (c .before .before .before .before .before .read-file .ensures) refl (c .before .before .stored .given .1), c .before .before .before .before .before .read-file .kept .1 .0)
 
 slice-aggregate-report-diagram : tie.Need-slice-aggregate-report-diagram
-slice-aggregate-report-diagram c = let h : length (c .before .before .before .before .before .before .read-file .last .1 .0) ≡ 360 = c .before .before .before .before .before .before .read-file .kept .1 .0 in sym (length-take-le (3 * c .before .before .before .stored .given .0 .0) (c .before .before .before .before .before .before .read-file .last .1 .0) (omega (arith, file-few (c .before .before .before .before .before .before .before .before .before .before .args .bytes .now) _ _ (c .before .before .before .before .before .before .read-file .ensures) refl (c .before .before .before .stored .given .1))))
+slice-aggregate-report-diagram c = let h : length (c .before .before .before .before .before .before .read-file .last .1 .0) ≡ maxStoredWords = c .before .before .before .before .before .before .read-file .kept .1 .0 in sym (length-take-le (3 * c .before .before .before .stored .given .0 .0) (c .before .before .before .before .before .before .read-file .last .1 .0) (omega (arith, file-few (c .before .before .before .before .before .before .before .before .before .before .args .bytes .now) _ _ (c .before .before .before .before .before .before .read-file .ensures) refl (c .before .before .before .stored .given .1))))
 
 report-diagram-requires : tie.Need-report-diagram-requires
 report-diagram-requires c κs = search needs

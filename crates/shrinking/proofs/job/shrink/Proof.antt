@@ -8,6 +8,7 @@ use native.Mathlib.Omega.{arith}
 use borrow.Author.Needs.{needs}
 use Rattle.shrinking.proofs.job.shrink.Statement.{statement}
 use Rattle.shrinking.proofs.job.shrink.Tie as tie
+use Rattle.blocks.specs.Block.{maxStoredWords}
 
 slice-aggregate-read-file : tie.Need-slice-aggregate-read-file
 slice-aggregate-read-file c = search needs
@@ -25,7 +26,7 @@ array-share-prefix-words : tie.Need-array-share-prefix-words
 array-share-prefix-words c = omega (arith, file-few (c .before .before .before .before .before .before .before .before .before .args .bytes .now) _ _ (c .before .before .before .before .read-file .ensures) refl (c .before .stored .given .1), c .before .before .before .before .read-file .kept .1 .0)
 
 slice-aggregate-shrink-diagram : tie.Need-slice-aggregate-shrink-diagram
-slice-aggregate-shrink-diagram c = let h : length (c .before .before .before .before .before .read-file .last .1 .0) ≡ 360 = c .before .before .before .before .before .read-file .kept .1 .0 in sym (length-take-le (3 * c .before .before .stored .given .0 .0) (c .before .before .before .before .before .read-file .last .1 .0) (omega (arith, file-few (c .before .before .before .before .before .before .before .before .before .before .args .bytes .now) _ _ (c .before .before .before .before .before .read-file .ensures) refl (c .before .before .stored .given .1))))
+slice-aggregate-shrink-diagram c = let h : length (c .before .before .before .before .before .read-file .last .1 .0) ≡ maxStoredWords = c .before .before .before .before .before .read-file .kept .1 .0 in sym (length-take-le (3 * c .before .before .stored .given .0 .0) (c .before .before .before .before .before .read-file .last .1 .0) (omega (arith, file-few (c .before .before .before .before .before .before .before .before .before .before .args .bytes .now) _ _ (c .before .before .before .before .before .read-file .ensures) refl (c .before .before .stored .given .1))))
 
 shrink-diagram-requires : tie.Need-shrink-diagram-requires
 shrink-diagram-requires c κs = search needs

@@ -8,6 +8,7 @@ use native.Mathlib.Omega.{arith}
 use borrow.Author.Needs.{needs}
 use Rattle.targets.proofs.size.over.Statement.{statement}
 use Rattle.targets.proofs.size.over.Tie as tie
+use Rattle.diagram.specs.Limits.{maxWords}
 
 slice-aggregate-negate : tie.Need-slice-aggregate-negate
 slice-aggregate-negate c = search needs
@@ -16,22 +17,22 @@ negate-requires : tie.Need-negate-requires
 negate-requires c κs = (c .before .before .before .before .pre .is-size, negation-ready (c .before .before .before .before .pre), omega (arith, negation-few (c .before .before .before .before .pre)))
 
 mul-flipped : tie.Need-mul-flipped
-mul-flipped c = omega (arith, flipped-few (c .before .before .before .before .before .before .pre) (flip (c .before .before .before .before .before .before .pre) (replicate 12288 0) (c .before .negate .ensures)))
+mul-flipped c = omega (arith, flipped-few (c .before .before .before .before .before .before .pre) (flip (c .before .before .before .before .before .before .pre) (replicate maxWords 0) (c .before .negate .ensures)))
 
 array-share-prefix-flipped : tie.Need-array-share-prefix-flipped
-array-share-prefix-flipped c = omega (arith, flipped-few (c .before .before .before .before .before .before .pre) (flip (c .before .before .before .before .before .before .pre) (replicate 12288 0) (c .before .negate .ensures)))
+array-share-prefix-flipped c = omega (arith, flipped-few (c .before .before .before .before .before .before .pre) (flip (c .before .before .before .before .before .before .pre) (replicate maxWords 0) (c .before .negate .ensures)))
 
 slice-aggregate-under-size : tie.Need-slice-aggregate-under-size
-slice-aggregate-under-size c = sym (length-take-le _ _ (omega (arith, flipped-few (c .before .before .before .before .before .before .before .pre) (flip (c .before .before .before .before .before .before .before .pre) (replicate 12288 0) (c .before .before .negate .ensures)))))
+slice-aggregate-under-size c = sym (length-take-le _ _ (omega (arith, flipped-few (c .before .before .before .before .before .before .before .pre) (flip (c .before .before .before .before .before .before .before .pre) (replicate maxWords 0) (c .before .before .negate .ensures)))))
 
 under-size-requires : tie.Need-under-size-requires
-under-size-requires c κs = flipped-searches (c .before .before .before .before .before .before .before .before .pre) (flip (c .before .before .before .before .before .before .before .before .pre) (replicate 12288 0) (c .before .before .before .negate .ensures))
+under-size-requires c κs = flipped-searches (c .before .before .before .before .before .before .before .before .pre) (flip (c .before .before .before .before .before .before .before .before .pre) (replicate maxWords 0) (c .before .before .before .negate .ensures))
 
 most-requires : tie.Need-most-requires
 most-requires c κs = search needs
 
 give-back-requires : tie.Need-give-back-requires
-give-back-requires c κs = back-returns (c .before .before .before .before .before .before .before .before .before .before .before .before .before .before .pre) (flip (c .before .before .before .before .before .before .before .before .before .before .before .before .before .before .pre) (replicate 12288 0) (c .before .before .before .before .before .before .before .before .before .negate .ensures)) (c .most .ensures) (c .before .before .before .before .before .under-size .ensures) (to-size-under _ _ (flipped-searches (c .before .before .before .before .before .before .before .before .before .before .before .before .before .before .pre) (flip (c .before .before .before .before .before .before .before .before .before .before .before .before .before .before .pre) (replicate 12288 0) (c .before .before .before .before .before .before .before .before .before .negate .ensures)) .accepted))
+give-back-requires c κs = back-returns (c .before .before .before .before .before .before .before .before .before .before .before .before .before .before .pre) (flip (c .before .before .before .before .before .before .before .before .before .before .before .before .before .before .pre) (replicate maxWords 0) (c .before .before .before .before .before .before .before .before .before .negate .ensures)) (c .most .ensures) (c .before .before .before .before .before .under-size .ensures) (to-size-under _ _ (flipped-searches (c .before .before .before .before .before .before .before .before .before .before .before .before .before .before .pre) (flip (c .before .before .before .before .before .before .before .before .before .before .before .before .before .before .pre) (replicate maxWords 0) (c .before .before .before .before .before .before .before .before .before .negate .ensures)) .accepted))
 
 same-length : tie.Need-same-length
 same-length c = search needs
@@ -40,7 +41,7 @@ same-length-2 : tie.Need-same-length-2
 same-length-2 c = search needs
 
 returns : tie.Need-returns
-returns c = over-hits (c .before .before .before .before .before .before .before .before .before .before .before .before .before .before .before .before .before .before .before .pre) (flip (c .before .before .before .before .before .before .before .before .before .before .before .before .before .before .before .before .before .before .before .pre) (replicate 12288 0) (c .before .before .before .before .before .before .before .before .before .before .before .before .before .before .negate .ensures)) (c .before .before .before .before .before .most .ensures) (c .before .before .before .before .before .before .before .before .before .before .before .before .before .before .before .before .before .before .before .args .target) (c .before .before .before .before .before .before .before .before .before .before .under-size .ensures) (c .before .before .before .before .give-back .ensures)
+returns c = over-hits (c .before .before .before .before .before .before .before .before .before .before .before .before .before .before .before .before .before .before .before .pre) (flip (c .before .before .before .before .before .before .before .before .before .before .before .before .before .before .before .before .before .before .before .pre) (replicate maxWords 0) (c .before .before .before .before .before .before .before .before .before .before .before .before .before .before .negate .ensures)) (c .before .before .before .before .before .most .ensures) (c .before .before .before .before .before .before .before .before .before .before .before .before .before .before .before .before .before .before .before .args .target) (c .before .before .before .before .before .before .before .before .before .before .under-size .ensures) (c .before .before .before .before .give-back .ensures)
 
 pub over-spec : {M : Type 1} → statement M
 over-spec =

@@ -1,0 +1,75 @@
+-- A word that is longer than the program's buffer for it means what an empty one means.
+use Prim.Native.Nat.{ℕ, _≤_, _<_, _^_}
+use mathlib.Core.Path.{_≡_, refl, sym}
+use mathlib.Core.Bool.{Bool, true, false}
+use mathlib.Core.List.{List, [], _∷_}
+use mathlib.Core.Logic.{_≢_}
+use native.Mathlib.Omega.{arith}
+use lib.ListN.{length}
+use Rattle.naturals.specs.Natural.{limit}
+use Rattle.writing.specs.Writing.{bytes}
+use Rattle.text.specs.Digits.{decimalDigits, hexadecimalDigits, decimal, hexadecimal, Reading, number, none, padded, parsed, Exactly}
+use Rattle.text.proofs.Numerals.{decimal-length, hexadecimal-length, decimal-exactly, natural-exactly, hexadecimal-exactly}
+use Rattle.request.specs.Request.{alike, unknown, aimed, requestOf, wordBuffer, Buffered}
+use Rattle.request.proofs.Alike.{unlike-lengths}
+
+-- ---- a number
+
+no-number : (r : Reading) → ((n : ℕ) → r ≢ number n) → r ≡ none
+no-number (number n) h = absurd (h n refl)
+no-number none h = refl
+
+module _ (text : List ℕ) (long : wordBuffer < length text) where
+  -- Every text that is parsed is one that is printed, and those have few digits.
+  none-long : (base bound : ℕ) (printed : ℕ → List ℕ) → Exactly base bound printed → ((n : ℕ) → length (printed n) ≤ wordBuffer) → parsed base bound text ≡ none
+  none-long base bound printed only short =
+      no-number (parsed base bound text)
+      (λ n e. (let f : length text ≡ length (printed n) = rw (only .only text n e .0) refl in absurd (omega (arith, short n))))
+
+  no-size : parsed 10 (2 ^ 32) text ≡ none
+  no-size = none-long 10 (2 ^ 32) decimal decimal-exactly decimal-length
+
+  no-cases : parsed 10 limit text ≡ none
+  no-cases = none-long 10 limit decimal natural-exactly decimal-length
+
+  no-hex : parsed 16 limit text ≡ none
+  no-hex = none-long 16 limit hexadecimal hexadecimal-exactly (λ n. omega (arith, hexadecimal-length n))
+
+nothing : (base bound : ℕ) → parsed base bound [] ≡ none
+unfolding parsed padded
+nothing base bound = refl
+
+aimed-long : (keep : Bool) (kind text : List ℕ) → wordBuffer < length text → aimed keep kind text ≡ aimed keep kind []
+unfolding aimed
+aimed-long keep kind text h = rw (no-size text h, no-cases text h, no-hex text h, nothing 10 (2 ^ 32), nothing 10 limit, nothing 16 limit) refl
+
+-- ---- another word
+
+module _ (word : List ℕ) (long : wordBuffer < length word) where
+  unlike : (known : List ℕ) → length known ≤ wordBuffer → alike word known ≡ false
+  unlike known h = sym (unlike-lengths word known (λ e. absurd (omega arith)))
+
+  kind-unknown : (keep : Bool) (text : List ℕ) → aimed keep word text ≡ unknown
+  unfolding aimed
+  kind-unknown keep text =
+      rw (unlike (bytes "size") (omega arith), unlike (bytes "cases") (omega arith), unlike (bytes "hex") (omega arith), unlike (bytes "count") (omega arith)) refl
+
+empty-unknown : (keep : Bool) (text : List ℕ) → aimed keep [] text ≡ unknown
+unfolding aimed alike
+empty-unknown keep text = refl
+
+direction-long : (count : ℕ) (direction kind text : List ℕ) → wordBuffer < length direction → requestOf count direction kind text ≡ requestOf count [] kind text
+unfolding requestOf alike
+direction-long count direction kind text h = rw (unlike direction h (bytes "keep") (omega arith), unlike direction h (bytes "suppress") (omega arith)) refl
+
+kind-long : (count : ℕ) (direction kind text : List ℕ) → wordBuffer < length kind → requestOf count direction kind text ≡ requestOf count direction [] text
+unfolding requestOf
+kind-long count direction kind text h =
+    rw (kind-unknown kind h true text, kind-unknown kind h false text, empty-unknown true text, empty-unknown false text) refl
+
+number-long : (count : ℕ) (direction kind text : List ℕ) → wordBuffer < length text → requestOf count direction kind text ≡ requestOf count direction kind []
+unfolding requestOf
+number-long count direction kind text h = rw (aimed-long true kind text h, aimed-long false kind text h) refl
+
+pub buffered : Buffered
+buffered = record { direction-long = direction-long; kind-long = kind-long; number-long = number-long }

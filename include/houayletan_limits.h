@@ -1,0 +1,16 @@
+/* The numbers of Houayletan for C and C++, each once. The library's own are crates/diagram/src/limits.rt and naturals::WORDS;
+ * tests/papers.py holds these to them. */
+#ifndef HOUAYLETAN_LIMITS_H
+#define HOUAYLETAN_LIMITS_H
+
+/* The most nodes and the most variables of a diagram. */
+#define HOUAYLETAN_NODES 4096
+#define HOUAYLETAN_VARS 255
+
+/* The words of working room for each node. */
+#define HOUAYLETAN_ROOM_PER_NODE 64
+
+/* The words of a count. */
+#define HOUAYLETAN_COUNT_WORDS 8
+
+#endif
