@@ -1,13 +1,13 @@
-"""Writes crates/reduction_run/stdout: what reduction must answer in each case that the program runs. Reduction is done here
-from truth tables where there are few variables, and else from node lists with a dictionary of the triples met so far."""
+"""Writes crates/reduction_run/stdin and stdout: the cases of reduction, and what it must answer. Reduction is done here from
+truth tables where there are few variables, and else from node lists with a dictionary of the triples met so far."""
 import os
+import random
 import sys
 
-from reading import ROOM, most, verdict
+from reading import ROOM, most, room_after, verdict
 
 sys.setrecursionlimit(10000)
 HERE = os.path.dirname(os.path.abspath(__file__))
-LENT, LENT_ROOM = 12291, 262150
 
 
 def from_nodes(words):
@@ -70,21 +70,17 @@ def table_of(words):
     return table
 
 
-def total(words):
-    s = 0
-    for x in words:
-        s = (s * 31 + x) % 2**32
-    return s
-
-
-def line(name, words, answer, lent=LENT, room=LENT_ROOM):
+def line(words, room, marked, lent, filled, reduce):
+    """The case, and its answer."""
     kind, a, b = verdict(words, room, ('diagram', lent))
-    if kind == 'refused':
-        zeros = 0 if a <= 5 else ROOM * most(len(words) // 3)
-        return f'{name}: refused {a} at {b}  nodes 0  beyond yes  room {zeros} yes'
-    reduced = answer(words)
-    shown = ''.join(f' {x}' for x in reduced) if len(reduced) <= 15 else ''
-    return f'{name}: accepted {a} {b}  nodes {len(reduced) // 3} {total(reduced)}{shown}  beyond yes  room {ROOM * most(a)} yes  again yes'
+    case = ' '.join(str(x) for x in [room, marked, lent, filled] + words)
+    zero = room_after(words, room, ('diagram', lent))
+    reduced = reduce(words) if kind == 'accepted' else []
+    said = f'accepted nodes {a} vars {b}' if kind == 'accepted' else f'refused {a} at {b}'
+    said += f', answer nodes {len(reduced) // 3}, room zero {zero} kept {room - zero}, output kept {lent - len(reduced)}'
+    if reduced:
+        said += ', words ' + ' '.join(str(x) for x in reduced)
+    return case, said
 
 
 def by_table(words):
@@ -93,12 +89,21 @@ def by_table(words):
     return answer
 
 
-def small(name, words, lent=LENT, room=LENT_ROOM):
-    return line(name, words, by_table, lent, room)
+def exactly(words, reduce):
+    """With an output and a room of just the length that is asked for."""
+    m = most(len(words) // 3)
+    return line(words, ROOM * m, 7, 3 * m, 9, reduce)
 
 
-def long(name, nodes):
-    return line(name, [x for node in nodes for x in node], from_nodes)
+def more(words, reduce):
+    """With more of both; and the answer as a case of its own, which reducing doesn't change."""
+    m = most(len(words) // 3)
+    lines = [line(words, ROOM * m + 3, 7, 3 * m + 4, 9, reduce)]
+    if verdict(words, ROOM * m)[0] == 'accepted':
+        reduced = reduce(words)
+        assert reduce(reduced) == reduced
+        lines.append(exactly(reduced, reduce))
+    return lines
 
 
 def terminals(vars_):
@@ -151,45 +156,73 @@ def mixed(seed, size):
     return table[:size]
 
 
-def functions(name, vars_, tables):
-    nodes = [len(from_table(vars_, t)) // 3 for t in tables]
-    return f'{name} {vars_} variables: {len(nodes)} of which right {len(nodes)} with nodes {sum(nodes)}'
+def plant(vars_, table, rng):
+    """A function as its whole decision tree, the nodes but the root in any order."""
+    if vars_ == 0:
+        return [0, 0, 0, 0, 1, 1][:3 + 3 * table[0]]
+    inner = [(i, j) for i in range(1, vars_) for j in range(2**i)]
+    rng.shuffle(inner)
+    places = {where: p for p, where in enumerate(inner + [(0, 0)], 2)}
+
+    def child(i, j):
+        return places[i, j] if i < vars_ else table[j]
+
+    made = terminals(vars_) + [(i, child(i + 1, 2 * j), child(i + 1, 2 * j + 1)) for i, j in inner + [(0, 0)]]
+    return [x for node in made for x in node]
+
+
+def flat(nodes):
+    return [x for node in nodes for x in node]
 
 
 D = [3, 0, 0, 3, 1, 1, 2, 0, 1, 1, 2, 1, 0, 2, 3]
-lines = [
-    small('D', D),
-    small('D, longer', [3, 0, 0, 3, 1, 1, 1, 4, 1, 1, 5, 5, 2, 0, 1, 2, 0, 1, 0, 3, 2]),
-    small('x0 and x1 and x2', [3, 0, 0, 3, 1, 1, 2, 0, 1, 1, 0, 2, 0, 0, 3]),
-    small('C3', [3, 0, 0, 3, 1, 1, 1, 0, 1, 0, 0, 2]),
-    small('C4', [3, 0, 0, 3, 1, 1, 2, 0, 1, 0, 2, 0]),
-    small('C5', [3, 0, 0, 3, 1, 1, 2, 0, 1, 0, 2, 1]),
-    small('exclusive or', [2, 0, 0, 2, 1, 1, 1, 1, 0, 1, 0, 1, 0, 3, 2]),
-    small('false', [3, 0, 0]),
-    small('true', [3, 0, 0, 3, 1, 1]),
-    long('257 nodes, false', constant(0)),
-    long('257 nodes, true', constant(1)),
-    long('511 nodes, odd', odd()),
-    long('4,096 nodes, few', few()),
-    long('4,096 nodes, all', every()),
-    small('no words', []),
-    small('broken words', [3, 0, 0, 3]),
-    small('4,097 nodes', [0] * 12291),
-    small('bad terminal', [3, 0, 0, 3, 1, 0]),
-    small('256 variables', [256, 0, 0]),
-    small('bad variable', [3, 0, 0, 3, 1, 1, 3, 0, 1]),
-    small('bad low link', [3, 0, 0, 3, 1, 1, 0, 3, 1]),
-    small('bad high link', [3, 0, 0, 3, 1, 1, 0, 1, 3]),
-    small('bad order', [3, 0, 0, 3, 1, 1, 1, 0, 1, 1, 2, 0]),
-    small('unreached', [3, 0, 0, 3, 1, 1, 1, 0, 1, 1, 1, 0]),
-    small('short output', D, lent=14, room=320),
-    small('output and room that fit', D, lent=15, room=320),
-    small('short room', D, lent=15, room=319),
+WORKED = [
+    D,
+    # D with one node twice, a node with low = high, and children after their parents
+    [3, 0, 0, 3, 1, 1, 1, 4, 1, 1, 5, 5, 2, 0, 1, 2, 0, 1, 0, 3, 2],
+    # x0 and x1 and x2; the answers of C3, C4, C5 of document 01
+    [3, 0, 0, 3, 1, 1, 2, 0, 1, 1, 0, 2, 0, 0, 3],
+    [3, 0, 0, 3, 1, 1, 1, 0, 1, 0, 0, 2],
+    [3, 0, 0, 3, 1, 1, 2, 0, 1, 0, 2, 0],
+    [3, 0, 0, 3, 1, 1, 2, 0, 1, 0, 2, 1],
+    # an exclusive or, with its two lower nodes the other way round
+    [2, 0, 0, 2, 1, 1, 1, 1, 0, 1, 0, 1, 0, 3, 2],
+    # false and true
+    [3, 0, 0],
+    [3, 0, 0, 3, 1, 1],
 ]
-for v in range(4):
-    lines.append(functions('all functions of', v, [[f >> x & 1 for x in range(2 ** v)] for f in range(2 ** 2 ** v)]))
-for v in range(4, 9):
-    lines.append(functions('some functions of', v, [mixed(f, 2 ** v) for f in range(100)]))
+REFUSED = [
+    [],
+    [3, 0, 0, 3],
+    [0] * 12291,
+    [3, 0, 0, 3, 1, 0],
+    [256, 0, 0],
+    [3, 0, 0, 3, 1, 1, 3, 0, 1],
+    [3, 0, 0, 3, 1, 1, 0, 3, 1],
+    [3, 0, 0, 3, 1, 1, 0, 1, 3],
+    [3, 0, 0, 3, 1, 1, 1, 0, 1, 1, 2, 0],
+    [3, 0, 0, 3, 1, 1, 1, 0, 1, 1, 1, 0],
+]
+# How many functions of so many variables: all of the few, some of the others.
+SOME = {4: 60, 5: 40, 6: 20, 7: 12, 8: 8}
 
-with open(os.path.join(HERE, '..', 'crates', 'reduction_run', 'stdout'), 'w', encoding='ascii') as f:
-    f.write(''.join(line + '\n' for line in lines))
+lines = []
+for words in WORKED:
+    lines += [exactly(words, by_table)] + more(words, by_table)
+for nodes in (constant(0), constant(1), odd(), few(), every()):
+    lines.append(exactly(flat(nodes), from_nodes))
+for words in REFUSED:
+    lines += [line(words, ROOM * most(len(words) // 3) + 3, 7, 3 * most(len(words) // 3) + 4, 9, by_table)]
+# an output and a room that are a word too short
+lines += [line(D, 320, 7, 14, 9, by_table), line(D, 319, 7, 15, 9, by_table)]
+rng = random.Random(1986)
+for v in range(4):
+    for f in range(2 ** 2 ** v):
+        lines += more(plant(v, [f >> x & 1 for x in range(2 ** v)], rng), by_table)
+for v, count in SOME.items():
+    for f in range(count):
+        lines += more(plant(v, mixed(f, 2 ** v), rng), by_table)
+
+for name, k in (('stdin', 0), ('stdout', 1)):
+    with open(os.path.join(HERE, '..', 'crates', 'reduction_run', name), 'w', encoding='ascii') as f:
+        f.write(''.join(line[k] + '\n' for line in lines))

@@ -1,9 +1,11 @@
-"""Writes stdin, args and stdout of crates/shrink, shrink_suppress_run, shrink_refused_run and shrink_damaged_run: a diagram, a request, and the file of the nodes that document 01 works out by hand or that cuts_cases.py cuts to."""
+"""Writes stdin, args and stdout of crates/shrink, and stdin and stdout of crates/shrinking_run: a diagram, requests, and what document 01 works out by hand or program_cases.py
+answers."""
 import os
 
 import block
-from cuts_cases import count_words, cuts, flat
+from blocks_cases import changed
 from diagram_cases import D
+from program_cases import UNKNOWN, shrunk
 
 TOP = os.path.join(os.path.dirname(os.path.abspath(__file__)), '..')
 TERMINALS = [3, 0, 0, 3, 1, 1]
@@ -22,11 +24,11 @@ def case(crate, words, answer, diagram=D):
 
 # C8: over to size 4.
 case('shrink', ['keep', 'size', '4'], C5)
-# At most twelve cases. Taken for hexadecimal, 12 would be eighteen, and nothing would be cut.
-case('shrink_suppress_run', ['suppress', 'cases', '12'], flat(cuts('c', count_words(12), OR4)[0]), OR4)
-# A zero in front.
-case('shrink_refused_run', ['keep', 'size', '04'], [])
-# A file with a wrong sum: no byte may come out of it.
-case('shrink_damaged_run', ['keep', 'size', '4'], [])
-with open(os.path.join(TOP, 'examples', 'damaged.block'), 'rb') as damaged, open(os.path.join(TOP, 'crates', 'shrink_damaged_run', 'stdin'), 'wb') as file:
-    file.write(damaged.read())
+# The file of x0 or x1 or x2 or x3, and for each call of the program standard output and standard error.
+FILE = b''.join(block.write(OR4))
+DAMAGED = changed(FILE, 508, 0)
+assert DAMAGED != FILE
+answers = [shrunk('suppress', 'cases', 12, FILE), shrunk('keep', 'size', 4, FILE), (b'', UNKNOWN), shrunk('keep', 'size', 4, DAMAGED)]
+for name, data in (('stdin', FILE), ('stdout', b''.join(a + b for a, b in answers))):
+    with open(os.path.join(TOP, 'crates', 'shrinking_run', name), 'wb') as file:
+        file.write(data)

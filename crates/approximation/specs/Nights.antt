@@ -34,7 +34,7 @@ unless (refused number place) reply = refusal number place
 -- What each request is answered with, where the output and the working room are what document 01 asks for: weights; the number
 -- of paths; a cut by a list, with its count; a cut to a size or to a count, with its trials.
 abbrev pub weights : List ℕ → Reply
-weights w = unless (weightsVerdict w (wordCount * size w) (roomOf w)) (numbers (table (weightOf w) 0 (size w)))
+weights w = unless (weightsVerdict w (roomOf w) (wordCount * size w)) (numbers (table (weightOf w) 0 (size w)))
 
 abbrev pub pathCount : List ℕ → Reply
 pathCount w = unless (verdictOf w Nothing (roomOf w)) (numbers (pathCountOf w ∷ []))

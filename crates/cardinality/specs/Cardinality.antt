@@ -46,9 +46,9 @@ cardinalityOf w = mul binary64 (floatAt w (vars w) (root w)) (powerOfTwo (varOf 
 
 -- What the operation answers: the check's verdict, the count, which is 0.0 where the words are refused, and the working room
 -- as the check leaves it.
-pub record CountsFloat (w before after : List ℕ) (verdict : Verdict) (count : Float) : Type 0 where
-  pub checked : Checked w Nothing before after verdict
-  pub counted : count ≡ ifAccepted (verdictOf w Nothing (length before)) (cardinalityOf w) nought
+pub record CountsFloat (w room room′ : List ℕ) (r : Verdict) (count : Float) : Type 0 where
+  pub checked : Checked w Nothing room room′ r
+  pub counted : count ≡ ifAccepted (verdictOf w Nothing (length room)) (cardinalityOf w) nought
 
 -- What is promised of the count of any ordered array, and so of any accepted one (`float-count` of proofs/Answers.antt): a count
 -- of at most 2 ^ 53 comes out exactly, false gives 0.0, and no count is a NaN.

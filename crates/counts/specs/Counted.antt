@@ -8,6 +8,6 @@ use Rattle.diagram.specs.declared.verdict.Verdict.{Verdict}
 use Rattle.diagram.specs.declared.verdict.Output.the-variants.{Nothing}
 
 -- The count is n, and zero where the words are refused.
-pub record Counts (w : List ℕ) (n : ℕ) (before after : List ℕ) (verdict : Verdict) (count : List ℕ) : Type 0 where
-  pub checked : Checked w Nothing before after verdict
-  pub counted : Holds (ifAccepted (verdictOf w Nothing (length before)) n 0) count
+pub record Counts (w : List ℕ) (n : ℕ) (room room′ : List ℕ) (r : Verdict) (count : List ℕ) : Type 0 where
+  pub checked : Checked w Nothing room room′ r
+  pub counted : Holds (ifAccepted (verdictOf w Nothing (length room)) n 0) count

@@ -129,7 +129,7 @@ fn say_room(room: &[u32], word: u32) {
 // The nodes of each variable: what stands before the first word that is as it was.
 fn run_per_variable(words: &[u32], room: &mut [u32], output: &mut [u32], word: u32) {
     fill(output, word);
-    let verdict = size_per_variable(words, output, room);
+    let verdict = size_per_variable(words, room, output);
     io::write_all(STDOUT_FILENO, b", per variable ");
     say_verdict(verdict);
     io::write_all(STDOUT_FILENO, b" words");
@@ -139,7 +139,7 @@ fn run_per_variable(words: &[u32], room: &mut [u32], output: &mut [u32], word: u
 // Negation with an output that is too short for any answer, which has to stay as it was.
 fn run_short(words: &[u32], room: &mut [u32]) {
     let mut output = [9u32; 5];
-    let negated = not(words, &mut output, room);
+    let negated = not(words, room, &mut output);
     io::write_all(STDOUT_FILENO, b", short ");
     let verdict = negated.verdict;
     say_verdict(verdict);
@@ -148,7 +148,7 @@ fn run_short(words: &[u32], room: &mut [u32]) {
 
 fn run_not(words: &[u32], room: &mut [u32], output: &mut [u32], word: u32) {
     fill(output, word);
-    let negated = not(words, output, room);
+    let negated = not(words, room, output);
     io::write_all(STDOUT_FILENO, b", not ");
     let verdict = negated.verdict;
     say_verdict(verdict);

@@ -1,22 +1,21 @@
 -- The answer of cutting by a list.
 use Prim.Native.Nat.{ℕ, _+_, _-_, _*_, _≤_, _<_, max, min}
 use mathlib.Core.Path.{_≡_, refl, sym, ap, _∙_}
-use mathlib.Core.Bool.{Bool, false, not, _||_}
+use mathlib.Core.Bool.{not, _||_}
 use mathlib.Core.List.{List, _++_}
 use native.Mathlib.Omega.{arith}
 use native.Mathlib.Decide.{decLt}
 use lib.ListN.{length, getD, take, drop, replicate, length-drop, length-append, length-replicate, getD-replicate, take-append-drop}
 use lib.Seq.{getD-take, ext-getD, drop-drop, length-take-le}
 use lib.Dec.{eqb}
-use borrow.Author.Tests.{ltb-false}
 use Rattle.diagram.specs.Limits.{maxNodes}
 use Rattle.diagram.specs.Diagram.{size, vars, root, Accepted}
-use Rattle.diagram.specs.Verdict.{Outcome, accepted, refused, said, andThen, ifAccepted, verdictOf, short, most, roomOf, roomAfter, Checked}
+use Rattle.diagram.specs.Verdict.{accepted, said, most, roomOf, Checked}
 use Rattle.diagram.specs.declared.verdict.Verdict.{Verdict}
 use Rattle.diagram.specs.declared.verdict.Verdict.the-variants.{Accepted as Yes, Refused as No}
 use Rattle.diagram.specs.declared.verdict.Output.the-variants.{Diagram}
 use Rattle.diagram.proofs.Reading.{accepted-ordered}
-use Rattle.diagram.proofs.Entering.{admitted, lent-fits, lent-zero}
+use Rattle.diagram.proofs.Entering.{refusal-is, verdict-is, admitted, lent-fits, lent-word, lent-enough, builds-refused, builds-accepted}
 use Rattle.room_map.specs.Map.{marksTo, answerFrom, tablesTo}
 use Rattle.reduction.specs.Room.{Copied}
 use Rattle.reduction.proofs.Answering.{copied-front}
@@ -132,13 +131,6 @@ module _ {w list : List ℕ} {t : ℕ} {r out : List ℕ} {n v : ℕ} (a : Listi
 
 -- ---- the verdicts
 
-room-zero : (r : List ℕ) (k : ℕ) → take k r ≡ replicate k 0 → (j : ℕ) → j < k → getD r j 0 ≡ 0
-room-zero r k e j h = sym (getD-take k r j 0 h) ∙ ap (λ (l : List ℕ). getD l j 0) e ∙ getD-replicate k j 0 0 h
-
-lent-enough : (w : List ℕ) (lent : ℕ) → short w (Diagram lent) ≡ false → 3 * most w ≤ lent
-unfolding short
-lent-enough w lent e = ltb-false lent (3 * most w) e
-
 -- An acceptance of a list has the diagram's own counts.
 listable : (w list : List ℕ) (n v : ℕ) → listOf w list ≡ accepted n v → Listable w list
 listable w list n v e = by-list w list
@@ -146,16 +138,14 @@ listable w list n v e = by-list w list
     (λ i o. let x = ending-refused w list i o in let z : _≡_ {A = ℕ} 0 1 = cc in absurd (omega arith))
     (λ a. a)
 
-module _ {w : List ℕ} (list : List ℕ) (t : ℕ) {before after : List ℕ} (out : List ℕ) {verdict : Verdict} (checked : Checked w (Diagram (length out)) before after verdict) where
-  pub check-refuses : {k p : ℕ} → verdict ≡ No k p → Approximates w list t before after out out verdict 0
-  check-refuses {k} {p} e =
-      let told : verdictOf w (Diagram (length out)) (length before) ≡ refused k p = sym (checked .verdict) ∙ ap said e in
-      record { verdict = rw told (ap said e); nodes = rw told refl; output = rw told refl; left = checked .left }
+module _ {w : List ℕ} (list : List ℕ) (t : ℕ) {room room′ : List ℕ} (out : List ℕ) {verdict : Verdict} (checked : Checked w (Diagram (length out)) room room′ verdict) where
+  abbrev result : List ℕ
+  result = cut w (listed list) t
+
+  pub check-refuses : {k p : ℕ} → verdict ≡ No k p → Approximates w list t room room′ out out verdict 0
+  check-refuses e = builds-refused (cutVerdict w list) result out (checked .left) e (rw (refusal-is checked e) refl)
 
   module _ {n v : ℕ} (e : verdict ≡ Yes n v) where
-    told : verdictOf w (Diagram (length out)) (length before) ≡ accepted n v
-    told = sym (checked .verdict) ∙ ap said e
-
     pub list-few : (0 < n) × (n ≤ maxNodes)
     list-few =
         let is = admitted checked e .nodes in
@@ -165,22 +155,18 @@ module _ {w : List ℕ} (list : List ℕ) (t : ℕ) {before after : List ℕ} (o
         (omega arith, omega arith)
 
     module _ (l : Verdict) (says : (w : List ℕ) → n ≡ size w → v ≡ vars w → said l ≡ listOf w list) where
-      listing-is : said l ≡ listOf w list
-      listing-is = says w (admitted checked e .nodes) (admitted checked e .variables)
+      -- the check accepts: the verdict is what the list's checks say
+      listing-is : cutVerdict w list (length room) (length out) ≡ said l
+      listing-is = rw (verdict-is checked e) (sym (says w (admitted checked e .nodes) (admitted checked e .variables)))
 
-      pub list-refuses : {k p : ℕ} → l ≡ No k p → Approximates w list t before after out out l 0
-      list-refuses {k} {p} f =
-          let no-list : listOf w list ≡ refused k p = sym listing-is ∙ ap said f in
-          record { verdict = rw (told, no-list) (ap said f); nodes = rw (told, no-list) refl; output = rw (told, no-list) refl; left = checked .left }
+      pub list-refuses : {k p : ℕ} → l ≡ No k p → Approximates w list t room room′ out out l 0
+      list-refuses f = builds-refused (cutVerdict w list) result out (checked .left) f (listing-is ∙ ap said f)
 
       module _ {n′ v′ : ℕ} (f : l ≡ Yes n′ v′) where
-        list-fine : listOf w list ≡ accepted n′ v′
-        list-fine = sym listing-is ∙ ap said f
-
-        pub list-given : t < 2 → Listing w list t after out n v
+        pub list-given : t < 2 → Listing w list t room′ out n v
         list-given terminal =
             let given = admitted checked e in
-            let fine = listable w list n′ v′ list-fine in
+            let fine = listable w list n′ v′ (sym (says w (given .nodes) (given .variables)) ∙ ap said f) in
             record {
               accepted = given .accepted;
               is-size = given .nodes;
@@ -188,14 +174,9 @@ module _ {w : List ℕ} (list : List ℕ) (t : ℕ) {before after : List ℕ} (o
               terminal = terminal;
               inside = fine .inside;
               long = lent-fits checked e (roomOf w) (omega arith);
-              zero = λ j h. room-zero after (roomOf w) (lent-zero checked e (roomOf w) (omega arith)) j h;
+              zero = lent-word checked e (roomOf w) (omega arith);
               output = lent-enough w (length out) (given .lent);
             }
 
-        pub list-answered : {after′ out′ : List ℕ} {k : ℕ} → Listed w list t after after′ out out′ k → Approximates w list t before after′ out out′ l k
-        list-answered a = record {
-          verdict = rw (told, list-fine) (ap said f);
-          nodes = rw (told, list-fine) (a .count);
-          output = rw (told, list-fine) (a .written);
-          left = a .room ∙ checked .left;
-        }
+        pub list-answered : {room″ out′ : List ℕ} {k : ℕ} → Listed w list t room′ room″ out out′ k → Approximates w list t room room″ out out′ l k
+        list-answered a = builds-accepted (cutVerdict w list) result out (a .room ∙ checked .left) f (listing-is ∙ ap said f) (a .count) (a .written)

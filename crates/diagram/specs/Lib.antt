@@ -8,7 +8,6 @@
 -- and, for the code inside, which no promise to a caller names:
 --     Faults      the search for what is out of range
 --     Marking     the search for reachable nodes in the working room
---     Map         the working room while a target is searched for
 pub mod Limits
 pub mod Diagram
 pub mod Valuations
@@ -17,4 +16,3 @@ pub mod Verdict
 pub mod Demand1
 pub mod Faults
 pub mod Marking
-pub mod Map

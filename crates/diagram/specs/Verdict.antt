@@ -146,18 +146,22 @@ abbrev pub outputAfter : Outcome → List ℕ → List ℕ → List ℕ
 outputAfter verdict answer output = ifAccepted verdict (answer ++ drop (length answer) output) output
 
 -- What every check promises: the verdict, and what is left in the room.
-pub record Checked (w : List ℕ) (output : Output) (before after : List ℕ) (r : Verdict) : Type 0 where
-  pub verdict : said r ≡ verdictOf w output (length before)
-  pub left : after ≡ roomAfter w output before
+pub record Checked (w : List ℕ) (output : Output) (room room′ : List ℕ) (r : Verdict) : Type 0 where
+  pub verdict : said r ≡ verdictOf w output (length room)
+  pub left : room′ ≡ roomAfter w output room
 
--- What every operation with an output promises: what its verdict says, the answer in front of what was in the output, and the
--- room as the check leaves it. What an operation adds stands beside this, in its own crate.
-pub record Answers (outcome : Outcome) (answer w : List ℕ) (lent : Output) (room room′ out out′ : List ℕ) (r : Verdict) : Type 0 where
-  pub verdict : said r ≡ outcome
-  pub left : room′ ≡ roomAfter w lent room
-  pub output : out′ ≡ outputAfter outcome answer out
+-- The check's verdict for an output of a kind, by the lengths of the room and of the output.
+abbrev pub verdictFor : (ℕ → Output) → List ℕ → ℕ → ℕ → Outcome
+verdictFor kind w room out = verdictOf w (kind out) room
+
+-- What every operation with an output promises: what its verdict says, by the lengths of room and output; the room as the check
+-- leaves it; and the answer in front of what was in the output. What an operation adds stands beside this, in its own crate.
+pub record Answers (outcome : ℕ → ℕ → Outcome) (kind : ℕ → Output) (answer w room room′ out out′ : List ℕ) (r : Verdict) : Type 0 where
+  pub verdict : said r ≡ outcome (length room) (length out)
+  pub left : room′ ≡ roomAfter w (kind (length out)) room
+  pub output : out′ ≡ outputAfter (outcome (length room) (length out)) answer out
 
 -- And where the answer is a diagram: so many nodes stand in the output, none where it is as it was.
-pub record Builds (outcome : Outcome) (answer w room room′ out out′ : List ℕ) (r : Verdict) (count : ℕ) : Type 0 where
-  pub answers : Answers outcome answer w (Diagram (length out)) room room′ out out′ r
-  pub nodes : count ≡ ifAccepted outcome (size answer) 0
+pub record Builds (outcome : ℕ → ℕ → Outcome) (answer w room room′ out out′ : List ℕ) (r : Verdict) (count : ℕ) : Type 0 where
+  pub answers : Answers outcome Diagram answer w room room′ out out′ r
+  pub nodes : count ≡ ifAccepted (outcome (length room) (length out)) (size answer) 0

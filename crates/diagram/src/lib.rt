@@ -1,7 +1,6 @@
 // Decision diagrams as 32-bit words: what they mean, and the check that any words can be offered to.
 pub mod lengths;
 pub mod limits;
-pub mod map;
 pub mod node;
 mod plain;
 mod ranges;

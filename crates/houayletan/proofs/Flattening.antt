@@ -4,17 +4,15 @@ use mathlib.Core.Path.{_≡_, refl, ap, _∙_}
 use mathlib.Core.Bool.{Bool, false}
 use mathlib.Core.List.{List}
 use lib.ListN.{length}
+use lib.Ieee.{Float}
 use Rattle.diagram.specs.Verdict.{Outcome, accepted, refused, said, verdictOf, ifAccepted}
 use Rattle.diagram.specs.declared.verdict.Verdict.{Verdict}
-use Rattle.diagram.specs.declared.verdict.Output.the-variants.{Nothing, Diagram}
-use Rattle.negation.specs.Negation.{negated, Negates}
-use Rattle.queries.specs.Queries.{Tells, Lists}
-use Rattle.approximation.specs.Cut.{cut, listed}
-use Rattle.approximation.specs.Search.{Answer}
-use Rattle.cuts.specs.Approximates.{cutVerdict, Approximates}
-use Rattle.targets.specs.Targets.{Meets}
-use Rattle.houayletan.specs.Flat.{flatOf, bit, FlatAmount, FlatDiagram, FlatTarget, FlatLists}
+use Rattle.diagram.specs.declared.verdict.Output.the-variants.{Nothing}
+use Rattle.queries.specs.Queries.{Tells}
+use Rattle.houayletan.specs.Flat.{flatOf, bit, Flat, FlatCount, FlatFloat, FlatAmount, FlatDiagram, FlatTarget}
 use Rattle.houayletan.specs.declared.HouayletanVerdict.{HouayletanVerdict}
+use Rattle.houayletan.specs.declared.HouayletanCount.{HouayletanCount}
+use Rattle.houayletan.specs.declared.HouayletanFloat.{HouayletanFloat}
 use Rattle.houayletan.specs.declared.HouayletanAmount.{HouayletanAmount}
 use Rattle.houayletan.specs.declared.HouayletanDiagram.{HouayletanDiagram}
 use Rattle.houayletan.specs.declared.HouayletanApproximation.{HouayletanApproximation}
@@ -23,38 +21,35 @@ bit-told : (o : Outcome) (b : Bool) → bit (ifAccepted o b false) ≡ ifAccepte
 bit-told (accepted n v) b = refl
 bit-told (refused k p) b = refl
 
-module _ {w before after : List ℕ} {v : Verdict} where
-  pub amount-told : {n told : ℕ} → Tells w before after v n 0 told → (r : HouayletanAmount) → (r .verdict ≡ flatOf (said v)) × (r .amount ≡ told)
-      → FlatAmount w n before after r
-  amount-told a r (e, f) = record { verdict = e ∙ ap flatOf (a .checked .verdict); amount = f ∙ a .told-is; left = a .checked .left }
+module _ {v : Verdict} where
+  pub flat-verdict : (promise : Verdict → Type 0) → promise v → (r : HouayletanVerdict) → r ≡ flatOf (said v) → Flat promise r
+  flat-verdict promise a r e = record { verdict = v; kept = a; flat = e }
 
-  pub yes-told : {b told : Bool} → Tells w before after v b false told → (r : HouayletanAmount) → (r .verdict ≡ flatOf (said v)) × (r .amount ≡ bit told)
-      → FlatAmount w (bit b) before after r
-  yes-told {b} a r (e, f) = record {
-    verdict = e ∙ ap flatOf (a .checked .verdict);
-    amount = f ∙ ap bit (a .told-is) ∙ bit-told (verdictOf w Nothing (length before)) b;
-    left = a .checked .left;
-  }
+  pub flat-count : (promise : Verdict → List ℕ → Type 0) {count : List ℕ} → promise v count
+      → (r : HouayletanCount) → (r .verdict ≡ flatOf (said v)) × (r .count ≡ count) → FlatCount promise r
+  flat-count promise a r (e, f) = record { verdict = v; kept = rw f a; flat = e }
 
-  pub lists-told : {out out′ : List ℕ} → Lists w before after out out′ v → (r : HouayletanVerdict) → r ≡ flatOf (said v) → FlatLists w before after out out′ r
-  lists-told a r e = record { verdict = e ∙ ap flatOf (a .checked .verdict); output = a .result; left = a .checked .left }
+  pub flat-float : (promise : Verdict → Float → Type 0) {count : Float} → promise v count
+      → (r : HouayletanFloat) → (r .verdict ≡ flatOf (said v)) × (r .count ≡ count) → FlatFloat promise r
+  flat-float promise a r (e, f) = record { verdict = v; kept = rw f a; flat = e }
 
-  pub not-told : {out out′ : List ℕ} {k : ℕ} → Negates w before after out out′ v k → (r : HouayletanDiagram)
-      → r .verdict ≡ flatOf (said v) → r .nodes ≡ k
-      → FlatDiagram (verdictOf w (Diagram (length out)) (length before)) w (negated w) before after out out′ r
-  not-told a r e f = record { verdict = e ∙ ap flatOf (a .checked .verdict); nodes = f ∙ a .nodes; left = a .checked .left; output = a .result }
+  pub flat-amount : (promise : Verdict → ℕ → Type 0) {amount : ℕ} → promise v amount
+      → (r : HouayletanAmount) → (r .verdict ≡ flatOf (said v)) × (r .amount ≡ amount) → FlatAmount promise r
+  flat-amount promise a r (e, f) = record { verdict = v; kept = rw f a; flat = e }
 
-  pub cut-told : {list out out′ : List ℕ} {t k : ℕ} → Approximates w list t before after out out′ v k → (r : HouayletanDiagram)
-      → (r .verdict ≡ flatOf (said v)) × (r .nodes ≡ k)
-      → FlatDiagram (cutVerdict w list (length out) (length before)) w (cut w (listed list) t) before after out out′ r
-  cut-told a r (e, f) = record { verdict = e ∙ ap flatOf (a .verdict); nodes = f ∙ a .nodes; left = a .left; output = a .output }
+  pub flat-diagram : (promise : Verdict → ℕ → Type 0) {nodes : ℕ} → promise v nodes
+      → (r : HouayletanDiagram) → (r .verdict ≡ flatOf (said v)) × (r .nodes ≡ nodes) → FlatDiagram promise r
+  flat-diagram promise a r (e, f) = record { verdict = v; kept = rw f a; flat = e }
 
-  pub target-told : {outcome : Outcome} {b : Answer} {out out′ : List ℕ} {k trials : ℕ} → Meets outcome b w before after out out′ v k trials
-      → (r : HouayletanApproximation) → (r .verdict ≡ flatOf (said v)) × (r .nodes ≡ k) × (r .trials ≡ trials) → FlatTarget outcome b w before after out out′ r
-  target-told a r (e, f, g) = record {
-    verdict = e ∙ ap flatOf (a .verdict);
-    nodes = f ∙ a .nodes;
-    trials = g ∙ a .trials;
-    left = a .left;
-    output = a .output;
+  pub flat-target : (promise : Verdict → ℕ → ℕ → Type 0) {nodes trials : ℕ} → promise v nodes trials
+      → (r : HouayletanApproximation) → (r .verdict ≡ flatOf (said v)) × (r .nodes ≡ nodes) × (r .trials ≡ trials) → FlatTarget promise r
+  flat-target promise a r (e, f, g) = record { verdict = v; kept = rw (f, g) a; flat = e }
+
+  -- a yes or a no as a number
+  pub flat-answer : {w : List ℕ} {b told : Bool} {room room′ : List ℕ} → Tells w b false room room′ v told
+      → (r : HouayletanAmount) → (r .verdict ≡ flatOf (said v)) × (r .amount ≡ bit told) → FlatAmount (Tells w (bit b) 0 room room′) r
+  flat-answer {w} {b} {told} {room} a r (e, f) = record {
+    verdict = v;
+    kept = record { checked = a .checked; told-is = f ∙ ap bit (a .told-is) ∙ bit-told (verdictOf w Nothing (length room)) b };
+    flat = e;
   }

@@ -1,17 +1,11 @@
--- The answers as C and Rust see them: document 01's number and values for each case of an answer.
-use Prim.Native.Nat.{ℕ, _*_}
+-- The answers as C and Rust see them: each operation's own promise, and its verdict as document 01's number and values.
+use Prim.Native.Nat.{ℕ}
 use mathlib.Core.Path.{_≡_}
-use mathlib.Core.List.{List, _++_}
-use lib.ListN.{length, drop}
-use Rattle.naturals.specs.Natural.{wordCount, Holds}
 use mathlib.Core.Bool.{Bool, cond}
-use Rattle.diagram.specs.Diagram.{size, vars}
-use Rattle.diagram.specs.Verdict.{Outcome, accepted, refused, verdictOf, roomAfter, ifAccepted}
-use Rattle.diagram.specs.declared.verdict.Output.the-variants.{Nothing, Diagram, Weights, PerVariable}
-use Rattle.cardinality.specs.Cardinality.{nought, cardinalityOf}
-use Rattle.queries.specs.Queries.{table, nodesAt}
-use Rattle.approximation.specs.Search.{Answer}
-use Rattle.weights.specs.Weighed.{weightsVerdict, weightWords}
+use mathlib.Core.List.{List}
+use lib.Ieee.{Float}
+use Rattle.diagram.specs.Verdict.{Outcome, accepted, refused, said}
+use Rattle.diagram.specs.declared.verdict.Verdict.{Verdict}
 use Rattle.houayletan.specs.declared.HouayletanCount.{HouayletanCount}
 use Rattle.houayletan.specs.declared.HouayletanFloat.{HouayletanFloat}
 use Rattle.houayletan.specs.declared.HouayletanDiagram.{HouayletanDiagram}
@@ -24,52 +18,29 @@ abbrev pub flatOf : Outcome → HouayletanVerdict
 flatOf (accepted n v) = record { number = 0; place = 0; nodes = n; vars = v }
 flatOf (refused number place) = record { number = number; place = place; nodes = 0; vars = 0 }
 
--- A count: the verdict, the number n or 0 where the words are refused, and the working room afterwards.
-pub record FlatCount (w : List ℕ) (n : ℕ) (before after : List ℕ) (r : HouayletanCount) : Type 0 where
-  pub verdict : r .verdict ≡ flatOf (verdictOf w Nothing (length before))
-  pub count : Holds (ifAccepted (verdictOf w Nothing (length before)) n 0) (r .count)
-  pub left : after ≡ roomAfter w Nothing before
+-- What an operation promises of its verdict, which is then laid flat.
+pub record Flat (promise : Verdict → Type 0) (r : HouayletanVerdict) : Type 0 where
+  pub verdict : Verdict
+  pub kept : promise verdict
+  pub flat : r ≡ flatOf (said verdict)
 
--- A count as an f64: the verdict, the count or 0.0 where the words are refused, and the working room afterwards.
-pub record FlatFloat (w before after : List ℕ) (r : HouayletanFloat) : Type 0 where
-  pub verdict : r .verdict ≡ flatOf (verdictOf w Nothing (length before))
-  pub count : r .count ≡ ifAccepted (verdictOf w Nothing (length before)) (cardinalityOf w) nought
-  pub left : after ≡ roomAfter w Nothing before
+-- The same where a number stands beside the verdict: the words of a count, a count as an f64, an amount, the nodes in the
+-- output, or these and the trials.
+abbrev pub FlatCount : (Verdict → List ℕ → Type 0) → HouayletanCount → Type 0
+FlatCount promise r = Flat (λ v. promise v (r .count)) (r .verdict)
 
--- A diagram in the output: the outcome, the number of nodes that were made, which is 0 where it refuses, the working room
--- afterwards, and the output, which is as it was beyond what was made and, at a refusal, throughout.
-pub record FlatDiagram (outcome : Outcome) (w made before after out out′ : List ℕ) (r : HouayletanDiagram) : Type 0 where
-  pub verdict : r .verdict ≡ flatOf outcome
-  pub nodes : r .nodes ≡ ifAccepted outcome (size made) 0
-  pub left : after ≡ roomAfter w (Diagram (length out)) before
-  pub output : out′ ≡ ifAccepted outcome (made ++ drop (length made) out) out
+abbrev pub FlatFloat : (Verdict → Float → Type 0) → HouayletanFloat → Type 0
+FlatFloat promise r = Flat (λ v. promise v (r .count)) (r .verdict)
 
--- The same with the number of trials.
-pub record FlatTarget (outcome : Outcome) (a : Answer) (w before after out out′ : List ℕ) (r : HouayletanApproximation) : Type 0 where
-  pub verdict : r .verdict ≡ flatOf outcome
-  pub nodes : r .nodes ≡ ifAccepted outcome (size (a .words)) 0
-  pub trials : r .trials ≡ ifAccepted outcome (a .trials) 0
-  pub left : after ≡ roomAfter w (Diagram (length out)) before
-  pub output : out′ ≡ ifAccepted outcome (a .words ++ drop (length (a .words)) out) out
+abbrev pub FlatAmount : (Verdict → ℕ → Type 0) → HouayletanAmount → Type 0
+FlatAmount promise r = Flat (λ v. promise v (r .amount)) (r .verdict)
 
--- An amount, or a yes as 1 and a no as 0.
-pub record FlatAmount (w : List ℕ) (n : ℕ) (before after : List ℕ) (r : HouayletanAmount) : Type 0 where
-  pub verdict : r .verdict ≡ flatOf (verdictOf w Nothing (length before))
-  pub amount : r .amount ≡ ifAccepted (verdictOf w Nothing (length before)) n 0
-  pub left : after ≡ roomAfter w Nothing before
+abbrev pub FlatDiagram : (Verdict → ℕ → Type 0) → HouayletanDiagram → Type 0
+FlatDiagram promise r = Flat (λ v. promise v (r .nodes)) (r .verdict)
 
+abbrev pub FlatTarget : (Verdict → ℕ → ℕ → Type 0) → HouayletanApproximation → Type 0
+FlatTarget promise r = Flat (λ v. promise v (r .nodes) (r .trials)) (r .verdict)
+
+-- A yes as 1 and a no as 0.
 abbrev pub bit : Bool → ℕ
 bit b = cond b 1 0
-
--- A word for each variable in the output.
-pub record FlatLists (w before after out out′ : List ℕ) (r : HouayletanVerdict) : Type 0 where
-  pub verdict : r ≡ flatOf (verdictOf w (PerVariable (length out)) (length before))
-  pub output : out′ ≡ ifAccepted (verdictOf w (PerVariable (length out)) (length before)) (table (vars w) (nodesAt w) ++ drop (vars w) out) out
-  pub left : after ≡ roomAfter w (PerVariable (length out)) before
-
--- Weights in the output: the verdict; the weights where it accepts, the output as it was where it refuses; the working
--- room afterwards.
-pub record FlatWeights (w before after out out′ : List ℕ) (r : HouayletanVerdict) : Type 0 where
-  pub verdict : r ≡ flatOf (weightsVerdict w (length out) (length before))
-  pub output : out′ ≡ ifAccepted (weightsVerdict w (length out) (length before)) (weightWords w (size w) ++ drop (wordCount * size w) out) out
-  pub left : after ≡ roomAfter w (Weights (length out)) before

@@ -14,14 +14,12 @@ use queries::num_vars;
 use queries::per_variable::size_per_variable;
 use queries::size;
 ghost use mathlib.Core.Path.{_≡_};
-ghost use lib.ListN.{length};
 ghost use lib.Dec.{eqb};
-ghost use Rattle.diagram.specs.declared.verdict.Output.{Output};
 ghost use Rattle.diagram.specs.Diagram.{size as sizeOf, vars as varsOf};
-ghost use Rattle.diagram.specs.Verdict.{said, verdictOf};
-ghost use Rattle.negation.specs.Negation.{negated};
-ghost use Rattle.queries.specs.Queries.{isClause, isValuation};
-ghost use Rattle.houayletan.specs.Flat.{flatOf, bit, FlatAmount, FlatDiagram, FlatLists};
+ghost use Rattle.diagram.specs.Verdict.{said};
+ghost use Rattle.negation.specs.Negation.{Negates};
+ghost use Rattle.queries.specs.Queries.{isClause, isValuation, Tells, Lists};
+ghost use Rattle.houayletan.specs.Flat.{flatOf, bit, Flat, FlatAmount, FlatDiagram};
 
 fn flat_amount(amount: Amount) -> HouayletanAmount
     ensures { λ r. ⌜ (r .verdict ≡ flatOf (said (amount .verdict))) × (r .amount ≡ amount .amount) ⌝ }
@@ -53,7 +51,7 @@ fn flat_answer(answer: Answer) -> HouayletanAmount
 // How many nodes there are.
 #[no_mangle]
 pub extern "C" fn houayletan_size(words: &[u32], room: &mut [u32]) -> HouayletanAmount
-    ensures { λ r. ⌜ FlatAmount (now (words .entry)) (sizeOf (now (words .entry))) (now (room .entry)) (now (room .exit)) r ⌝ }
+    ensures { λ r. ⌜ FlatAmount (Tells (now (words .entry)) (sizeOf (now (words .entry))) 0 (now (room .entry)) (now (room .exit))) r ⌝ }
 {
     flat_amount(size(words, room))
 }
@@ -61,7 +59,7 @@ pub extern "C" fn houayletan_size(words: &[u32], room: &mut [u32]) -> Houayletan
 // How many variables there are.
 #[no_mangle]
 pub extern "C" fn houayletan_num_vars(words: &[u32], room: &mut [u32]) -> HouayletanAmount
-    ensures { λ r. ⌜ FlatAmount (now (words .entry)) (varsOf (now (words .entry))) (now (room .entry)) (now (room .exit)) r ⌝ }
+    ensures { λ r. ⌜ FlatAmount (Tells (now (words .entry)) (varsOf (now (words .entry))) 0 (now (room .entry)) (now (room .exit))) r ⌝ }
 {
     flat_amount(num_vars(words, room))
 }
@@ -69,7 +67,7 @@ pub extern "C" fn houayletan_num_vars(words: &[u32], room: &mut [u32]) -> Houayl
 // Whether the array is the constant true.
 #[no_mangle]
 pub extern "C" fn houayletan_is_true(words: &[u32], room: &mut [u32]) -> HouayletanAmount
-    ensures { λ r. ⌜ FlatAmount (now (words .entry)) (bit (eqb (sizeOf (now (words .entry))) 2)) (now (room .entry)) (now (room .exit)) r ⌝ }
+    ensures { λ r. ⌜ FlatAmount (Tells (now (words .entry)) (bit (eqb (sizeOf (now (words .entry))) 2)) 0 (now (room .entry)) (now (room .exit))) r ⌝ }
 {
     flat_answer(is_true(words, room))
 }
@@ -77,7 +75,7 @@ pub extern "C" fn houayletan_is_true(words: &[u32], room: &mut [u32]) -> Houayle
 // Whether the array is the constant false.
 #[no_mangle]
 pub extern "C" fn houayletan_is_false(words: &[u32], room: &mut [u32]) -> HouayletanAmount
-    ensures { λ r. ⌜ FlatAmount (now (words .entry)) (bit (eqb (sizeOf (now (words .entry))) 1)) (now (room .entry)) (now (room .exit)) r ⌝ }
+    ensures { λ r. ⌜ FlatAmount (Tells (now (words .entry)) (bit (eqb (sizeOf (now (words .entry))) 1)) 0 (now (room .entry)) (now (room .exit))) r ⌝ }
 {
     flat_answer(is_false(words, room))
 }
@@ -85,7 +83,7 @@ pub extern "C" fn houayletan_is_false(words: &[u32], room: &mut [u32]) -> Houayl
 // Whether the array is a single path to node 1.
 #[no_mangle]
 pub extern "C" fn houayletan_is_clause(words: &[u32], room: &mut [u32]) -> HouayletanAmount
-    ensures { λ r. ⌜ FlatAmount (now (words .entry)) (bit (isClause (now (words .entry)))) (now (room .entry)) (now (room .exit)) r ⌝ }
+    ensures { λ r. ⌜ FlatAmount (Tells (now (words .entry)) (bit (isClause (now (words .entry)))) 0 (now (room .entry)) (now (room .exit))) r ⌝ }
 {
     flat_answer(is_clause(words, room))
 }
@@ -93,7 +91,7 @@ pub extern "C" fn houayletan_is_clause(words: &[u32], room: &mut [u32]) -> Houay
 // Whether it is a single path that tests every variable.
 #[no_mangle]
 pub extern "C" fn houayletan_is_valuation(words: &[u32], room: &mut [u32]) -> HouayletanAmount
-    ensures { λ r. ⌜ FlatAmount (now (words .entry)) (bit (isValuation (now (words .entry)))) (now (room .entry)) (now (room .exit)) r ⌝ }
+    ensures { λ r. ⌜ FlatAmount (Tells (now (words .entry)) (bit (isValuation (now (words .entry)))) 0 (now (room .entry)) (now (room .exit))) r ⌝ }
 {
     flat_answer(is_valuation(words, room))
 }
@@ -105,9 +103,9 @@ pub extern "C" fn houayletan_size_per_variable(
     room: &mut [u32],
     output: &mut [u32],
 ) -> HouayletanVerdict
-    ensures { λ r. ⌜ FlatLists (now (words .entry)) (now (room .entry)) (now (room .exit)) (now (output .entry)) (now (output .exit)) r ⌝ }
+    ensures { λ r. ⌜ Flat (Lists (now (words .entry)) (now (room .entry)) (now (room .exit)) (now (output .entry)) (now (output .exit))) r ⌝ }
 {
-    flat(size_per_variable(words, output, room))
+    flat(size_per_variable(words, room, output))
 }
 
 // The diagram that holds exactly where this one doesn't.
@@ -117,9 +115,9 @@ pub extern "C" fn houayletan_not(
     room: &mut [u32],
     output: &mut [u32],
 ) -> HouayletanDiagram
-    ensures { λ r. ⌜ FlatDiagram (verdictOf (now (words .entry)) (Output.Diagram (length (now (output .entry)))) (length (now (room .entry)))) (now (words .entry)) (negated (now (words .entry))) (now (room .entry)) (now (room .exit)) (now (output .entry)) (now (output .exit)) r ⌝ }
+    ensures { λ r. ⌜ FlatDiagram (Negates (now (words .entry)) (now (room .entry)) (now (room .exit)) (now (output .entry)) (now (output .exit))) r ⌝ }
 {
-    let made = not(words, output, room);
+    let made = not(words, room, output);
     let verdict = made.verdict;
     HouayletanDiagram {
         verdict: flat(verdict),

@@ -13,13 +13,10 @@ use targets::count::underapproximate_to_cardinality;
 use targets::size::overapproximate_to_size;
 use targets::size::underapproximate_to_size;
 ghost use mathlib.Core.Path.{_≡_};
-ghost use lib.ListN.{length};
 ghost use Rattle.naturals.specs.Natural.{value};
 ghost use Rattle.diagram.specs.Verdict.{said};
-ghost use Rattle.approximation.specs.Cut.{underBy, overBy};
-ghost use Rattle.approximation.specs.Search.{underToSize, overToSize, underToCount, overToCount};
-ghost use Rattle.cuts.specs.Approximates.{cutVerdict};
-ghost use Rattle.targets.specs.Targets.{sizeVerdict, underCountVerdict, overCountVerdict};
+ghost use Rattle.cuts.specs.Approximates.{Approximates};
+ghost use Rattle.targets.specs.Targets.{UnderToSize, OverToSize, UnderToCount, OverToCount};
 ghost use Rattle.houayletan.specs.Flat.{flatOf, FlatDiagram, FlatTarget};
 
 fn flat_cut(cut: Approximation) -> HouayletanDiagram
@@ -51,7 +48,7 @@ pub extern "C" fn houayletan_underapproximate(
     room: &mut [u32],
     output: &mut [u32],
 ) -> HouayletanDiagram
-    ensures { λ r. ⌜ FlatDiagram (cutVerdict (now (words .entry)) (now (list .entry)) (length (now (output .entry))) (length (now (room .entry)))) (now (words .entry)) (underBy (now (words .entry)) (now (list .entry))) (now (room .entry)) (now (room .exit)) (now (output .entry)) (now (output .exit)) r ⌝ }
+    ensures { λ r. ⌜ FlatDiagram (Approximates (now (words .entry)) (now (list .entry)) 0 (now (room .entry)) (now (room .exit)) (now (output .entry)) (now (output .exit))) r ⌝ }
 {
     flat_cut(underapproximate(words, list, room, output))
 }
@@ -64,7 +61,7 @@ pub extern "C" fn houayletan_overapproximate(
     room: &mut [u32],
     output: &mut [u32],
 ) -> HouayletanDiagram
-    ensures { λ r. ⌜ FlatDiagram (cutVerdict (now (words .entry)) (now (list .entry)) (length (now (output .entry))) (length (now (room .entry)))) (now (words .entry)) (overBy (now (words .entry)) (now (list .entry))) (now (room .entry)) (now (room .exit)) (now (output .entry)) (now (output .exit)) r ⌝ }
+    ensures { λ r. ⌜ FlatDiagram (Approximates (now (words .entry)) (now (list .entry)) 1 (now (room .entry)) (now (room .exit)) (now (output .entry)) (now (output .exit))) r ⌝ }
 {
     flat_cut(overapproximate(words, list, room, output))
 }
@@ -77,7 +74,7 @@ pub extern "C" fn houayletan_underapproximate_to_size(
     room: &mut [u32],
     output: &mut [u32],
 ) -> HouayletanApproximation
-    ensures { λ r. ⌜ FlatTarget (sizeVerdict (now (words .entry)) (length (now (output .entry))) (length (now (room .entry)))) (underToSize (now (words .entry)) target) (now (words .entry)) (now (room .entry)) (now (room .exit)) (now (output .entry)) (now (output .exit)) r ⌝ }
+    ensures { λ r. ⌜ FlatTarget (UnderToSize (now (words .entry)) target (now (room .entry)) (now (room .exit)) (now (output .entry)) (now (output .exit))) r ⌝ }
 {
     flat_target(underapproximate_to_size(words, target, room, output))
 }
@@ -90,7 +87,7 @@ pub extern "C" fn houayletan_overapproximate_to_size(
     room: &mut [u32],
     output: &mut [u32],
 ) -> HouayletanApproximation
-    ensures { λ r. ⌜ FlatTarget (sizeVerdict (now (words .entry)) (length (now (output .entry))) (length (now (room .entry)))) (overToSize (now (words .entry)) target) (now (words .entry)) (now (room .entry)) (now (room .exit)) (now (output .entry)) (now (output .exit)) r ⌝ }
+    ensures { λ r. ⌜ FlatTarget (OverToSize (now (words .entry)) target (now (room .entry)) (now (room .exit)) (now (output .entry)) (now (output .exit))) r ⌝ }
 {
     flat_target(overapproximate_to_size(words, target, room, output))
 }
@@ -103,7 +100,7 @@ pub extern "C" fn houayletan_underapproximate_to_cardinality(
     room: &mut [u32],
     output: &mut [u32],
 ) -> HouayletanApproximation
-    ensures { λ r. ⌜ FlatTarget (underCountVerdict (now (words .entry)) (value (target .words)) (length (now (output .entry))) (length (now (room .entry)))) (underToCount (now (words .entry)) (value (target .words))) (now (words .entry)) (now (room .entry)) (now (room .exit)) (now (output .entry)) (now (output .exit)) r ⌝ }
+    ensures { λ r. ⌜ FlatTarget (UnderToCount (now (words .entry)) (value (target .words)) (now (room .entry)) (now (room .exit)) (now (output .entry)) (now (output .exit))) r ⌝ }
 {
     let words_of = target.words;
     flat_target(underapproximate_to_cardinality(words, Natural { words: words_of }, room, output))
@@ -117,7 +114,7 @@ pub extern "C" fn houayletan_overapproximate_to_cardinality(
     room: &mut [u32],
     output: &mut [u32],
 ) -> HouayletanApproximation
-    ensures { λ r. ⌜ FlatTarget (overCountVerdict (now (words .entry)) (value (target .words)) (length (now (output .entry))) (length (now (room .entry)))) (overToCount (now (words .entry)) (value (target .words))) (now (words .entry)) (now (room .entry)) (now (room .exit)) (now (output .entry)) (now (output .exit)) r ⌝ }
+    ensures { λ r. ⌜ FlatTarget (OverToCount (now (words .entry)) (value (target .words)) (now (room .entry)) (now (room .exit)) (now (output .entry)) (now (output .exit))) r ⌝ }
 {
     let words_of = target.words;
     flat_target(overapproximate_to_cardinality(words, Natural { words: words_of }, room, output))

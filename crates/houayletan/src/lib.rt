@@ -19,11 +19,14 @@ ghost use Prim.Native.Nat.{min};
 ghost use mathlib.Core.List.{_++_};
 ghost use lib.ListN.{length, drop, replicate};
 ghost use Rattle.diagram.specs.declared.verdict.Output.{Output};
-ghost use Rattle.diagram.specs.Verdict.{said, verdictOf, roomAfter};
+ghost use Rattle.diagram.specs.Verdict.{said, Checked};
 ghost use Rattle.diagram.specs.Valuations.{countOf};
 ghost use Rattle.counts.specs.Paths.{pathCountOf};
-ghost use Rattle.reduction.specs.Reduce.{reduce as reducedOf};
-ghost use Rattle.houayletan.specs.Flat.{flatOf, FlatCount, FlatFloat, FlatDiagram, FlatWeights};
+ghost use Rattle.counts.specs.Counted.{Counts};
+ghost use Rattle.cardinality.specs.Cardinality.{CountsFloat};
+ghost use Rattle.weights.specs.Weighed.{Weighs};
+ghost use Rattle.reduction.specs.Answer.{Reduces};
+ghost use Rattle.houayletan.specs.Flat.{flatOf, Flat, FlatCount, FlatFloat, FlatDiagram};
 
 // A verdict without an enum: number 0 where it is accepted, and all else zero where it is refused.
 #[repr(C)]
@@ -98,7 +101,7 @@ pub(crate) fn flat(verdict: Verdict) -> HouayletanVerdict
 // The check of any words as a diagram.
 #[no_mangle]
 pub extern "C" fn houayletan_validate(words: &[u32], room: &mut [u32]) -> HouayletanVerdict
-    ensures { λ r. ⌜ (r ≡ flatOf (verdictOf (now (words .entry)) Output.Nothing (length (now (room .entry))))) × (now (room .exit) ≡ roomAfter (now (words .entry)) Output.Nothing (now (room .entry))) ⌝ }
+    ensures { λ r. ⌜ Flat (Checked (now (words .entry)) Output.Nothing (now (room .entry)) (now (room .exit))) r ⌝ }
 {
     flat(validate(words, room))
 }
@@ -117,7 +120,7 @@ fn flat_count(counted: Counted) -> HouayletanCount
 // How many valuations the diagram holds for.
 #[no_mangle]
 pub extern "C" fn houayletan_exact_cardinality(words: &[u32], room: &mut [u32]) -> HouayletanCount
-    ensures { λ r. ⌜ FlatCount (now (words .entry)) (countOf (now (words .entry))) (now (room .entry)) (now (room .exit)) r ⌝ }
+    ensures { λ r. ⌜ FlatCount (Counts (now (words .entry)) (countOf (now (words .entry))) (now (room .entry)) (now (room .exit))) r ⌝ }
 {
     flat_count(exact_cardinality(words, room))
 }
@@ -128,7 +131,7 @@ pub extern "C" fn houayletan_exact_clause_cardinality(
     words: &[u32],
     room: &mut [u32],
 ) -> HouayletanCount
-    ensures { λ r. ⌜ FlatCount (now (words .entry)) (pathCountOf (now (words .entry))) (now (room .entry)) (now (room .exit)) r ⌝ }
+    ensures { λ r. ⌜ FlatCount (Counts (now (words .entry)) (pathCountOf (now (words .entry))) (now (room .entry)) (now (room .exit))) r ⌝ }
 {
     flat_count(exact_clause_cardinality(words, room))
 }
@@ -146,7 +149,7 @@ fn flat_float(counted: CountedFloat) -> HouayletanFloat
 // How many valuations the diagram holds for, as an f64: exact up to 2^53.
 #[no_mangle]
 pub extern "C" fn houayletan_cardinality(words: &[u32], room: &mut [u32]) -> HouayletanFloat
-    ensures { λ r. ⌜ FlatFloat (now (words .entry)) (now (room .entry)) (now (room .exit)) r ⌝ }
+    ensures { λ r. ⌜ FlatFloat (CountsFloat (now (words .entry)) (now (room .entry)) (now (room .exit))) r ⌝ }
 {
     flat_float(cardinality(words, room))
 }
@@ -158,9 +161,9 @@ pub extern "C" fn houayletan_node_valuation_weights(
     room: &mut [u32],
     output: &mut [u32],
 ) -> HouayletanVerdict
-    ensures { λ r. ⌜ FlatWeights (now (words .entry)) (now (room .entry)) (now (room .exit)) (now (output .entry)) (now (output .exit)) r ⌝ }
+    ensures { λ r. ⌜ Flat (Weighs (now (words .entry)) (now (room .entry)) (now (room .exit)) (now (output .entry)) (now (output .exit))) r ⌝ }
 {
-    flat(node_valuation_weights(words, output, room))
+    flat(node_valuation_weights(words, room, output))
 }
 
 fn flat_diagram(reduced: Reduced) -> HouayletanDiagram
@@ -180,7 +183,7 @@ pub extern "C" fn houayletan_reduce(
     room: &mut [u32],
     output: &mut [u32],
 ) -> HouayletanDiagram
-    ensures { λ r. ⌜ FlatDiagram (verdictOf (now (words .entry)) (Output.Diagram (length (now (output .entry)))) (length (now (room .entry)))) (now (words .entry)) (reducedOf (now (words .entry))) (now (room .entry)) (now (room .exit)) (now (output .entry)) (now (output .exit)) r ⌝ }
+    ensures { λ r. ⌜ FlatDiagram (Reduces (now (words .entry)) (now (room .entry)) (now (room .exit)) (now (output .entry)) (now (output .exit))) r ⌝ }
 {
     flat_diagram(reduce(words, room, output))
 }

@@ -1,18 +1,17 @@
 -- What the code's steps give, from the check to the answer.
 use Prim.Native.Nat.{ℕ, _*_, _≤_, max}
-use mathlib.Core.Path.{_≡_, sym, _∙_}
-use mathlib.Core.Bool.{false}
+use mathlib.Core.Path.{_≡_, refl, sym}
 use mathlib.Core.List.{List}
 use native.Mathlib.Omega.{arith}
 use lib.ListN.{length}
-use borrow.Author.Tests.{ltb-false, eq-eqb, ne-eqb}
+use borrow.Author.Tests.{eq-eqb, ne-eqb}
 use Rattle.diagram.specs.Diagram.{size}
-use Rattle.diagram.specs.Verdict.{short, most, Checked}
+use Rattle.diagram.specs.Verdict.{verdictFor, Checked}
 use Rattle.diagram.specs.declared.verdict.Verdict.{Verdict}
 use Rattle.diagram.specs.declared.verdict.Verdict.the-variants.{Accepted as Yes, Refused as No}
 use Rattle.diagram.specs.declared.verdict.Output.the-variants.{Diagram}
 use Rattle.diagram.proofs.Tests.{by-eq}
-use Rattle.diagram.proofs.Entering.{when-refused, when-accepted, admitted, still-checked}
+use Rattle.diagram.proofs.Entering.{refusal-is, verdict-is, admitted, lent-enough, builds-refused, builds-accepted}
 use Rattle.negation.specs.Negation.{negated, nodesOf, over, Negates, Ready}
 use Rattle.negation.proofs.Words.{negated-length}
 
@@ -32,13 +31,9 @@ nodes-most n = by-eq n 1
     (λ e. simp (ne-eqb n 1 ne, eq-eqb n 2 e) (omega arith))
     (λ me. simp (ne-eqb n 1 ne, ne-eqb n 2 me) (omega arith)))
 
-lent-enough : (w : List ℕ) (lent : ℕ) → short w (Diagram lent) ≡ false → 3 * most w ≤ lent
-unfolding short
-lent-enough w lent e = ltb-false lent (3 * most w) e
-
-module _ (out : List ℕ) {w before after : List ℕ} {v : Verdict} (c : Checked w (Diagram (length out)) before after v) where
-  pub negate-refused : {k p : ℕ} → v ≡ No k p → Negates w before after out out v 0
-  negate-refused e = record { checked = c; nodes = sym (when-refused c e _ 0); result = sym (when-refused c e _ out) }
+module _ (out : List ℕ) {w room room′ : List ℕ} {v : Verdict} (c : Checked w (Diagram (length out)) room room′ v) where
+  pub negate-refused : {k p : ℕ} → v ≡ No k p → Negates w room room′ out out v 0
+  negate-refused e = builds-refused (verdictFor Diagram w) (negated w) out (c .left) e (refusal-is c e)
 
   module _ {n u : ℕ} (e : v ≡ Yes n u) where
     pub negate-asks : (n ≡ size w) × Ready w u × (length (negated w) ≤ length out)
@@ -46,9 +41,5 @@ module _ (out : List ℕ) {w before after : List ℕ} {v : Verdict} (c : Checked
         let a = admitted c e in
         (a .nodes, record { formed = a .accepted .formed; count = a .variables }, omega (arith, negated-length w (a .accepted .formed), nodes-most (size w), lent-enough w (length out) (a .lent)))
 
-    pub negate-accepted : (made : ℕ) (out′ : List ℕ) → (made ≡ size (negated w)) × (out′ ≡ over (negated w) out) → Negates w before after out out′ (Yes n u) made
-    negate-accepted made out′ r = record {
-      checked = still-checked c e;
-      nodes = r .0 ∙ sym (when-accepted c e (size (negated w)) 0);
-      result = r .1 ∙ sym (when-accepted c e (over (negated w) out) out);
-    }
+    pub negate-accepted : (made : ℕ) (out′ : List ℕ) → (made ≡ size (negated w)) × (out′ ≡ over (negated w) out) → Negates w room room′ out out′ (Yes n u) made
+    negate-accepted made out′ r = builds-accepted (verdictFor Diagram w) (negated w) out (c .left) refl (verdict-is c e) (r .0) (r .1)

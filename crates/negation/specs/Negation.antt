@@ -6,7 +6,7 @@ use mathlib.Core.List.{List, [], _∷_, _++_}
 use lib.ListN.{length, take, drop}
 use lib.Dec.{ltb, eqb}
 use Rattle.diagram.specs.Diagram.{size, vars, holds, Formed, Accepted}
-use Rattle.diagram.specs.Verdict.{verdictOf, ifAccepted, Checked}
+use Rattle.diagram.specs.Verdict.{verdictFor, Builds}
 use Rattle.diagram.specs.declared.verdict.Verdict.{Verdict}
 use Rattle.diagram.specs.declared.verdict.Output.the-variants.{Diagram}
 
@@ -28,15 +28,9 @@ negated w =
     (cond (eqb (size w) 2) (vars w ∷ 0 ∷ 0 ∷ [])
     (take 6 w ++ exchangedLinks (drop 6 w)))
 
--- What negation answers: the check's verdict, the number of nodes of the result, and in the output the result with the
--- rest as it was. Zero nodes, and the output as it was, where the words are refused.
-abbrev pub over : List ℕ → List ℕ → List ℕ
-over result output = result ++ drop (length result) output
-
-pub record Negates (w before after out out′ : List ℕ) (verdict : Verdict) (count : ℕ) : Type 0 where
-  pub checked : Checked w (Diagram (length out)) before after verdict
-  pub nodes : count ≡ ifAccepted (verdictOf w (Diagram (length out)) (length before)) (size (negated w)) 0
-  pub result : out′ ≡ ifAccepted (verdictOf w (Diagram (length out)) (length before)) (over (negated w) out) out
+-- What negation answers: the check's verdict, and the negation in the output.
+abbrev pub Negates : (w room room′ out out′ : List ℕ) → Verdict → ℕ → Type 0
+Negates w = Builds (verdictFor Diagram w) (negated w) w
 
 -- What is promised of the result (`opposites` of proofs/Meaning.antt): over the same variables it holds exactly where the
 -- diagram doesn't, it is accepted again, and it negates to the diagram's own words.
@@ -53,3 +47,7 @@ nodesOf n = cond (eqb n 1) 2 (cond (eqb n 2) 1 n)
 pub record Ready (w : List ℕ) (v : ℕ) : Type 0 where
   pub formed : Formed w
   pub count : v ≡ vars w
+
+-- A result in front of what was in the output.
+abbrev pub over : List ℕ → List ℕ → List ℕ
+over result output = result ++ drop (length result) output

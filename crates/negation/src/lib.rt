@@ -75,7 +75,7 @@ pub fn negate(words: &[u32], output: &mut [u32], nodes: usize, vars: u32) -> usi
     made
 }
 
-pub fn not(words: &[u32], output: &mut [u32], room: &mut [u32]) -> Negated
+pub fn not(words: &[u32], room: &mut [u32], output: &mut [u32]) -> Negated
     ensures { λ r. ⌜ Negates (now (words .entry)) (now (room .entry)) (now (room .exit)) (now (output .entry)) (now (output .exit)) (r .verdict) (r .nodes) ⌝ }
 {
     let verdict = admit(words, room, Output::Diagram(output.len()));

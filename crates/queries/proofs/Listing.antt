@@ -17,7 +17,7 @@ use Rattle.queries.specs.Queries.{testing, nodesAt, table}
 
 -- ---- tables
 
-table-length : (k : ℕ) (f : ℕ → ℕ) → length (table k f) ≡ k
+pub table-length : (k : ℕ) (f : ℕ → ℕ) → length (table k f) ≡ k
 unfolding table
 table-length zero f = refl
 table-length (suc k) f = length-append (table k f) (f k ∷ []) ∙ omega (arith, table-length k f)

@@ -3,10 +3,10 @@ use Prim.Native.Nat.{ℕ, zero, suc}
 use mathlib.Core.Path.{_≡_}
 use mathlib.Core.Bool.{Bool, true, cond, _&&_}
 use mathlib.Core.List.{List, [], _∷_, _++_}
-use lib.ListN.{length, drop}
+use lib.ListN.{length}
 use lib.Dec.{leb, ltb, eqb}
 use Rattle.diagram.specs.Diagram.{varOf, lowOf, highOf, size, vars, root}
-use Rattle.diagram.specs.Verdict.{verdictOf, ifAccepted, Checked}
+use Rattle.diagram.specs.Verdict.{verdictOf, verdictFor, ifAccepted, Checked, Answers}
 use Rattle.diagram.specs.declared.verdict.Verdict.{Verdict}
 use Rattle.diagram.specs.declared.verdict.Output.the-variants.{Nothing, PerVariable}
 
@@ -47,11 +47,10 @@ table zero f = []
 table (suc k) f = table k f ++ (f k ∷ [])
 
 -- What a query answers: the check's verdict, and a value, which is `none` where the words are refused.
-pub record Tells {A : Type 0} (w before after : List ℕ) (verdict : Verdict) (right none told : A) : Type 0 where
-  pub checked : Checked w Nothing before after verdict
-  pub told-is : told ≡ ifAccepted (verdictOf w Nothing (length before)) right none
+pub record Tells {A : Type 0} (w : List ℕ) (right none : A) (room room′ : List ℕ) (r : Verdict) (told : A) : Type 0 where
+  pub checked : Checked w Nothing room room′ r
+  pub told-is : told ≡ ifAccepted (verdictOf w Nothing (length room)) right none
 
--- What `size_per_variable` leaves in its output: a word for each variable, and the rest as it was.
-pub record Lists (w before after out out′ : List ℕ) (verdict : Verdict) : Type 0 where
-  pub checked : Checked w (PerVariable (length out)) before after verdict
-  pub result : out′ ≡ ifAccepted (verdictOf w (PerVariable (length out)) (length before)) (table (vars w) (nodesAt w) ++ drop (vars w) out) out
+-- What `size_per_variable` answers: the check's verdict, and in the output a word for each variable.
+abbrev pub Lists : (w room room′ out out′ : List ℕ) → Verdict → Type 0
+Lists w = Answers (verdictFor PerVariable w) PerVariable (table (vars w) (nodesAt w)) w

@@ -27,7 +27,7 @@ pub struct Answer {
 
 // How many nodes the array has.
 pub fn size(words: &[u32], room: &mut [u32]) -> Amount
-    ensures { λ r. ⌜ Tells (now (words .entry)) (now (room .entry)) (now (room .exit)) (r .verdict) (sizeOf (now (words .entry))) 0 (r .amount) ⌝ }
+    ensures { λ r. ⌜ Tells (now (words .entry)) (sizeOf (now (words .entry))) 0 (now (room .entry)) (now (room .exit)) (r .verdict) (r .amount) ⌝ }
 {
     let verdict = admit(words, room, Output::Nothing);
     let Verdict::Accepted { nodes, vars: _ } = verdict else {
@@ -41,7 +41,7 @@ pub fn size(words: &[u32], room: &mut [u32]) -> Amount
 
 // How many variables there are.
 pub fn num_vars(words: &[u32], room: &mut [u32]) -> Amount
-    ensures { λ r. ⌜ Tells (now (words .entry)) (now (room .entry)) (now (room .exit)) (r .verdict) (varsOf (now (words .entry))) 0 (r .amount) ⌝ }
+    ensures { λ r. ⌜ Tells (now (words .entry)) (varsOf (now (words .entry))) 0 (now (room .entry)) (now (room .exit)) (r .verdict) (r .amount) ⌝ }
 {
     let verdict = admit(words, room, Output::Nothing);
     let Verdict::Accepted { nodes: _, vars } = verdict else {
@@ -55,7 +55,7 @@ pub fn num_vars(words: &[u32], room: &mut [u32]) -> Amount
 
 // Whether it is the constant true, by the array's length alone.
 pub fn is_true(words: &[u32], room: &mut [u32]) -> Answer
-    ensures { λ r. ⌜ Tells (now (words .entry)) (now (room .entry)) (now (room .exit)) (r .verdict) (eqb (sizeOf (now (words .entry))) 2) false (r .yes) ⌝ }
+    ensures { λ r. ⌜ Tells (now (words .entry)) (eqb (sizeOf (now (words .entry))) 2) false (now (room .entry)) (now (room .exit)) (r .verdict) (r .yes) ⌝ }
 {
     let verdict = admit(words, room, Output::Nothing);
     let Verdict::Accepted { nodes, vars: _ } = verdict else {
@@ -72,7 +72,7 @@ pub fn is_true(words: &[u32], room: &mut [u32]) -> Answer
 
 // Whether it is the constant false, by the array's length alone.
 pub fn is_false(words: &[u32], room: &mut [u32]) -> Answer
-    ensures { λ r. ⌜ Tells (now (words .entry)) (now (room .entry)) (now (room .exit)) (r .verdict) (eqb (sizeOf (now (words .entry))) 1) false (r .yes) ⌝ }
+    ensures { λ r. ⌜ Tells (now (words .entry)) (eqb (sizeOf (now (words .entry))) 1) false (now (room .entry)) (now (room .exit)) (r .verdict) (r .yes) ⌝ }
 {
     let verdict = admit(words, room, Output::Nothing);
     let Verdict::Accepted { nodes, vars: _ } = verdict else {
@@ -90,7 +90,7 @@ pub fn is_false(words: &[u32], room: &mut [u32]) -> Answer
 // Whether the array is one conjunction of literals, as far as the walk sees: a yes is right, and on a reduced array so is a
 // no.
 pub fn is_clause(words: &[u32], room: &mut [u32]) -> Answer
-    ensures { λ r. ⌜ Tells (now (words .entry)) (now (room .entry)) (now (room .exit)) (r .verdict) (isClause (now (words .entry))) false (r .yes) ⌝ }
+    ensures { λ r. ⌜ Tells (now (words .entry)) (isClause (now (words .entry))) false (now (room .entry)) (now (room .exit)) (r .verdict) (r .yes) ⌝ }
 {
     let verdict = admit(words, room, Output::Nothing);
     let Verdict::Accepted { nodes, vars: _ } = verdict else {
@@ -106,7 +106,7 @@ pub fn is_clause(words: &[u32], room: &mut [u32]) -> Answer
 // Whether the array holds for one valuation alone, as far as the walk sees: a yes is right, and on a reduced array so is
 // a no.
 pub fn is_valuation(words: &[u32], room: &mut [u32]) -> Answer
-    ensures { λ r. ⌜ Tells (now (words .entry)) (now (room .entry)) (now (room .exit)) (r .verdict) (isValuation (now (words .entry))) false (r .yes) ⌝ }
+    ensures { λ r. ⌜ Tells (now (words .entry)) (isValuation (now (words .entry))) false (now (room .entry)) (now (room .exit)) (r .verdict) (r .yes) ⌝ }
 {
     let verdict = admit(words, room, Output::Nothing);
     let Verdict::Accepted { nodes, vars } = verdict else {

@@ -31,7 +31,7 @@ fn list(words: &[u32], output: &mut [u32], nodes: usize, vars: BddVariable)
 }
 
 // How many nodes test each variable: a word of the output for each, and the rest of the output as it was.
-pub fn size_per_variable(words: &[u32], output: &mut [u32], room: &mut [u32]) -> Verdict
+pub fn size_per_variable(words: &[u32], room: &mut [u32], output: &mut [u32]) -> Verdict
     ensures { λ r. ⌜ Lists (now (words .entry)) (now (room .entry)) (now (room .exit)) (now (output .entry)) (now (output .exit)) r ⌝ }
 {
     let verdict = admit(words, room, Output::PerVariable(output.len()));

@@ -1,32 +1,24 @@
 -- The reduced diagram from a room that is zero: how the walk starts, and what is left in output and room.
 use Prim.Native.Nat.{ℕ, zero, suc, _+_, _-_, _*_, _≤_, _<_, min, max}
 use mathlib.Core.Path.{_≡_, refl, sym, ap, _∙_, subst}
-use mathlib.Core.Bool.{false}
 use mathlib.Core.List.{List, _++_}
 use native.Mathlib.Omega.{arith}
 use native.Mathlib.Decide.{ℕ-discrete, decLt}
-use borrow.Author.Tests.{ltb-false}
 use lib.ListN.{length, getD, set, take, drop, replicate, length-append, length-drop, length-replicate, take-append-drop, List·getD-append}
 use lib.Seq.{getD-set-same, getD-set-other, getD-take, getD-drop, getD-append-add, ext-getD, length-take-le}
 use Rattle.diagram.specs.Limits.{maxNodes}
 use Rattle.diagram.specs.Diagram.{size, vars, root, holds}
-use Rattle.diagram.specs.Verdict.{Outcome, accepted, refused, said, andThen, ifAccepted, most as most-of, roomOf, short, lengthsOf, contentsOf, verdictOf, cleared, roomAfter, Checked}
-use Rattle.diagram.specs.declared.verdict.Output.{Output}
-use Rattle.diagram.specs.declared.verdict.Output.the-variants.{Diagram}
-use Rattle.diagram.specs.declared.verdict.Verdict.{Verdict}
-use Rattle.diagram.specs.declared.verdict.Verdict.the-variants.{Accepted, Refused}
-use Rattle.diagram.proofs.Reading.{layered, root-in, accepted-ordered}
-use Rattle.diagram.proofs.Meaning.{Admitted, verdict-accepted}
+use Rattle.diagram.specs.Verdict.{most as most-of}
+use Rattle.diagram.proofs.Reading.{layered, root-in}
 use Rattle.store.specs.Store.{Node, words, Built, terminals}
 use Rattle.store.specs.Build.{Held, own}
-use Rattle.store.specs.Room.{farthest, headsFrom, storeTo, wordIn, memoIn, storeIn, Stored, Empty, Started, On, Walking, Arrived, Walked}
+use Rattle.store.specs.Room.{farthest, storeTo, wordIn, memoIn, storeIn, Stored, Empty, Started, On, Walking, Arrived, Walked}
 use Rattle.store.proofs.Store.{length-words, size-words}
 use Rattle.store.proofs.Sound.{sound-terminals}
 use Rattle.store.proofs.Graph.{own-means}
 use Rattle.store.proofs.Tables.{take-words, memo-start}
 use Rattle.store.proofs.Joining.{stands}
 use Rattle.reduction.specs.Reduce.{reduce}
-use Rattle.reduction.specs.Answer.{Answer}
 use Rattle.reduction.specs.Room.{memoFrom, Copied, Asked, Placed, Shelved, Lent, Answered}
 use Rattle.reduction.proofs.Reached.{canon-last}
 use Rattle.reduction.proofs.Rooted.{reduce-own, reduce-is}
@@ -262,61 +254,3 @@ module _ {w r out : List ℕ} {n v : ℕ} (lent : Lent w r out n v) {m : ℕ} (i
             room = e ∙ zeros-again (storeTo m m) r t (made .kept) (omega arith) (λ j h. lent .zero j (omega arith)) (λ j far. made .beyond j (omega arith));
             output = sym (take-append-drop (3 * c) out′) ∙ (rw (front, copied .rest, placed .words) refl);
           }
-
--- ---- after the check
-
--- An acceptance has left the room cleared.
-lengths-too : {A : Type 0} (x y : Outcome) (n v : ℕ) (yes-case no-case : A) → andThen x y ≡ accepted n v → ifAccepted x yes-case no-case ≡ yes-case
-lengths-too (accepted n′ v′) y n v a b e = refl
-lengths-too (refused k p) y n v a b e = let z : _≡_ {A = ℕ} 0 1 = cc in absurd (omega arith)
-
-room-cleared : (w : List ℕ) (o : Output) (before : List ℕ) (n v : ℕ) → verdictOf w o (length before) ≡ accepted n v → roomAfter w o before ≡ cleared w before
-unfolding verdictOf
-room-cleared w o before n v e = lengths-too (lengthsOf w o (length before)) (contentsOf w) n v (cleared w before) before e
-
-lent-enough : (w : List ℕ) (lent : ℕ) → short w (Diagram lent) ≡ false → 3 * most-of w ≤ lent
-unfolding short
-lent-enough w lent e = ltb-false lent (3 * most-of w) e
-
-module _ {w before after : List ℕ} (out : List ℕ) {r : Verdict} (checked : Checked w (Diagram (length out)) before after r) where
-  pub answer-refused : {k p : ℕ} → r ≡ Refused k p → Answer w before after out out (record { verdict = r; nodes = 0 })
-  answer-refused {k} {p} e =
-      let told : verdictOf w (Diagram (length out)) (length before) ≡ refused k p = sym (checked .verdict) ∙ ap said e in
-      record { checked = checked; nodes = rw told refl; output = rw told refl }
-
-  module _ {n v : ℕ} (e : r ≡ Accepted n v) where
-    told-accepted : verdictOf w (Diagram (length out)) (length before) ≡ accepted n v
-    told-accepted = sym (checked .verdict) ∙ ap said e
-
-    told : Admitted w (Diagram (length out)) (length before) n v
-    told = verdict-accepted w (Diagram (length out)) (length before) n v told-accepted
-
-    zero-before : (j : ℕ) → j < roomOf w → getD (cleared w before) j 0 ≡ 0
-    zero-before j h = List·getD-append (replicate (roomOf w) 0) (drop (roomOf w) before) 0 j (simp length-replicate (omega arith)) ∙ zero-at (roomOf w) j
-
-    pub lent-of : Lent w after out n v
-    lent-of =
-        let left : after ≡ cleared w before = checked .left ∙ room-cleared w (Diagram (length out)) before n v told-accepted in
-        let fits = told .fits in
-        rw left (record {
-          asked = record {
-            ordered = accepted-ordered w (told .accepted);
-            is-size = told .nodes;
-            is-vars = told .variables;
-            two = omega arith;
-            few = let few = told .accepted .formed .few in omega arith;
-            long = simp (length-append, length-drop, length-replicate) (omega arith);
-            memo = λ p h. zero-before (memoFrom + p) (omega arith);
-            heads = λ h in-h. zero-before (headsFrom (most-of w) (most-of w) + h) (omega arith);
-          };
-          zero = λ j h. zero-before j (omega arith);
-          output = lent-enough w (length out) (told .lent);
-        })
-
-    pub answer-accepted : {after′ out′ : List ℕ} {k : ℕ} → Answered w after out after′ out′ k
-        → Answer w before after′ out out′ (record { verdict = Accepted n v; nodes = k })
-    answer-accepted a = record {
-      checked = record { verdict = sym told-accepted; left = a .room ∙ checked .left };
-      nodes = rw told-accepted (a .count);
-      output = rw told-accepted (a .output);
-    }

@@ -7,6 +7,7 @@
 --     Only          no other array is reduced
 --     Canonical     what is promised of reduction
 --     Answering     how the walk starts, and what is left in output and room
+--     Reducing      from the check to the answer
 pub mod Reached
 pub mod Numbering
 pub mod Rooted
@@ -15,3 +16,4 @@ pub mod Fewest
 pub mod Only
 pub mod Canonical
 pub mod Answering
+pub mod Reducing

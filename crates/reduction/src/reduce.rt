@@ -3,7 +3,7 @@ use crate::answer::answer;
 use diagram::validate::admit;
 use diagram::verdict::Output;
 use diagram::verdict::Verdict;
-ghost use Rattle.reduction.specs.Answer.{Answer};
+ghost use Rattle.reduction.specs.Answer.{Reduces};
 
 // The check's verdict, and the number of nodes of the answer: 0 where the words were refused.
 pub struct Reduced {
@@ -12,7 +12,7 @@ pub struct Reduced {
 }
 
 pub fn reduce(words: &[u32], room: &mut [u32], output: &mut [u32]) -> Reduced
-    ensures { λ r. ⌜ Answer (now (words .entry)) (now (room .entry)) (now (room .exit)) (now (output .entry)) (now (output .exit)) r ⌝ }
+    ensures { λ r. ⌜ Reduces (now (words .entry)) (now (room .entry)) (now (room .exit)) (now (output .entry)) (now (output .exit)) (r .verdict) (r .nodes) ⌝ }
 {
     let verdict = admit(words, room, Output::Diagram(output.len()));
     let Verdict::Accepted { nodes, vars } = verdict else {

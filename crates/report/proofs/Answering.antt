@@ -35,8 +35,8 @@ unfolding row
 row-passed k true p o e = let z : _≡_ {A = ℕ} 0 1 = cc in absurd (omega arith)
 row-passed k false p o e = refl
 
-module _ (w table left room room-left : List ℕ) {r : Verdict} (a : Weighs w table left room room-left r) (lent : length table ≡ 960) (roomy : length room ≡ 7680) where
-  verdict-is : said r ≡ weightsVerdict w 960 7680
+module _ (w room room-left table left : List ℕ) {r : Verdict} (a : Weighs w room room-left table left r) (lent : length table ≡ 960) (roomy : length room ≡ 7680) where
+  verdict-is : said r ≡ weightsVerdict w 7680 960
   verdict-is = rw (lent, roomy) at (a .verdict)
 
   pub diagram-refused : {k p : ℕ} {before after : List ℕ} {end : ℕ} → r ≡ Refused k p → Wrote (refusal k p) before 0 after end → Wrote (diagramReport w) before 0 after end
@@ -44,7 +44,7 @@ module _ (w table left room room-left : List ℕ) {r : Verdict} (a : Weighs w ta
   diagram-refused e t = rw (sym verdict-is, e) t
 
   module _ {n v : ℕ} (e : r ≡ Accepted n v) where
-    accepted-is : weightsVerdict w (length table) (length room) ≡ accepted n v
+    accepted-is : weightsVerdict w (length room) (length table) ≡ accepted n v
     accepted-is = sym (a .verdict) ∙ ap said e
 
     pub two-nodes : (2 ≤ size w) × (8 * size w ≤ 960)

@@ -28,7 +28,7 @@ checked : (w : List ℕ) (a b : Outcome) {n v : ℕ} → verdictOf w (Weights 96
 checked w (accepted m u) b e f = verdict-accepted w (Weights 960) 7680 m u e .accepted
 checked w (refused number place) b e f = let z : _≡_ {A = ℕ} 0 1 = cc in absurd (omega arith)
 
-weighed-accepted : (w : List ℕ) {n v : ℕ} → weightsVerdict w 960 7680 ≡ accepted n v → Accepted w
+weighed-accepted : (w : List ℕ) {n v : ℕ} → weightsVerdict w 7680 960 ≡ accepted n v → Accepted w
 unfolding weightsVerdict
 weighed-accepted w e = checked w (verdictOf w (Weights 960) 7680) _ refl e
 
@@ -60,7 +60,7 @@ module _ (w : List ℕ) (a : Accepted w) where
   lines-length weight p (suc c) h =
       simp length-append (omega (arith, line-length (weight p) p (omega arith), lines-length weight (suc p) c (omega arith)))
 
-weighed-length : (w : List ℕ) (o : Outcome) → weightsVerdict w 960 7680 ≡ o → length (weighedReport w o) ≤ 173 + 90 * size w
+weighed-length : (w : List ℕ) (o : Outcome) → weightsVerdict w 7680 960 ≡ o → length (weighedReport w o) ≤ 173 + 90 * size w
 weighed-length w (accepted n v) e =
     let a = weighed-accepted w e in
     simp length-append (omega (arith, head-length w a (countOf w), lines-length w a (weightOf w) 0 (size w) (omega arith)))
@@ -68,7 +68,7 @@ weighed-length w (refused number place) e = omega (arith, refusal-length number 
 
 pub diagram-length : (w : List ℕ) → length (diagramReport w) ≤ 173 + 90 * size w
 unfolding diagramReport
-diagram-length w = weighed-length w (weightsVerdict w 960 7680) refl
+diagram-length w = weighed-length w (weightsVerdict w 7680 960) refl
 
 stored-length : (s out : List ℕ) (r : Reading) → readFile s out ≡ r → length (storedReport r) ≤ 10973
 unfolding readFile

@@ -53,7 +53,7 @@ weighedReport w (accepted n v) = head w (countOf w) ++ lines w (weightOf w) 0 (s
 weighedReport w (refused number place) = refusal number place
 
 unfoldable pub diagramReport : List ℕ → List ℕ
-diagramReport w = weighedReport w (weightsVerdict w (wordCount * maxStored) (roomPerNode * maxStored))
+diagramReport w = weighedReport w (weightsVerdict w (roomPerNode * maxStored) (wordCount * maxStored))
 
 -- The refusal of the file, or the report of the diagram that stands in the output.
 abbrev pub storedReport : Reading → List ℕ

@@ -25,7 +25,7 @@ pub fn report_diagram(out: &mut [u8], words: &[u32]) -> usize
 {
     let mut weights = [0u32; WEIGHTS];
     let mut room = [0u32; ROOM];
-    let verdict = node_valuation_weights(words, &mut weights, &mut room);
+    let verdict = node_valuation_weights(words, &mut room, &mut weights);
     match verdict {
         Verdict::Accepted { nodes: _, vars: _ } => write_lines(out, words, &weights),
         Verdict::Refused { number, place } => write_refusal(out, number, place),

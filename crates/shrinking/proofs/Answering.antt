@@ -10,7 +10,6 @@ use Rattle.diagram.specs.Diagram.{size, Accepted}
 use Rattle.diagram.specs.Verdict.{Outcome, accepted, refused as rejected, said, verdictOf}
 use Rattle.diagram.specs.declared.verdict.Verdict.{Verdict}
 use Rattle.diagram.specs.declared.verdict.Verdict.the-variants.{Accepted as Yes, Refused as No}
-use Rattle.targets.specs.Targets.{Meets}
 use Rattle.blocks.specs.Block.{nodes, refused as unread, said as told}
 use Rattle.blocks.specs.declared.stored.Stored.{Stored}
 use Rattle.blocks.specs.declared.stored.Stored.the-variants.{Nodes, Refused as Unread}
@@ -20,7 +19,7 @@ use Rattle.block_file.proofs.Storing.{file-length, is-written}
 use Rattle.writing.specs.Writing.{Wrote}
 use Rattle.messages.specs.Texts.{helpText, unknownText, whichText, refusalText}
 use Rattle.request.specs.Request.{Aim, Meaning, help, unknown, which, cut}
-use Rattle.shrinking.specs.Shrinking.{Done, shrunk, refused, ifStored, storing, wanted, wantedVerdict, diagramDone, done, summary, Shrinks}
+use Rattle.shrinking.specs.Shrinking.{Done, shrunk, refused, ifStored, storing, wanted, wantedVerdict, Wants, diagramDone, done, summary, Shrinks}
 use Rattle.shrinking.proofs.Wanting.{admitted, answer-accepted}
 
 -- ---- the answer
@@ -51,11 +50,10 @@ module _ (keep : Bool) (aim : Aim) (w a : List ℕ) (trials : ℕ) (file left : 
 
 -- ---- the diagram
 
-module _ (keep : Bool) (aim : Aim) (w out out′ room room′ : List ℕ) {r : Verdict} {k trials : ℕ}
-    (m : Meets (wantedVerdict keep aim w (length out) (length room)) (wanted keep aim w) w room room′ out out′ r k trials)
+module _ (keep : Bool) (aim : Aim) (w room room′ out out′ : List ℕ) {r : Verdict} {k trials : ℕ} (m : Wants w keep aim room room′ out out′ r k trials)
     (lent : length out ≡ 360) (roomy : length room ≡ 7680) where
-  verdict-is : said r ≡ wantedVerdict keep aim w 360 7680
-  verdict-is = rw (lent, roomy) at (m .verdict)
+  verdict-is : said r ≡ wantedVerdict keep aim w 7680 360
+  verdict-is = rw (lent, roomy) at (m .builds .answers .verdict)
 
   pub diagram-refused : {n p : ℕ} {file text text′ : List ℕ} {end text-end : ℕ} → r ≡ No n p → (end ≡ 0) × Wrote (refusalText n p) text 0 text′ text-end
       → Shrinks (diagramDone keep aim w (length file)) file file text text′ end text-end
@@ -63,17 +61,17 @@ module _ (keep : Bool) (aim : Aim) (w out out′ room room′ : List ℕ) {r : V
   diagram-refused e t = rw (sym verdict-is, e) (record { stored = refl; stored-end = t .0; told = t .1 })
 
   module _ {n v : ℕ} (e : r ≡ Yes n v) (same : length out′ ≡ 360) where
-    accepted-is : wantedVerdict keep aim w (length out) (length room) ≡ accepted n v
-    accepted-is = sym (m .verdict) ∙ ap said e
+    accepted-is : wantedVerdict keep aim w (length room) (length out) ≡ accepted n v
+    accepted-is = sym (m .builds .answers .verdict) ∙ ap said e
 
     out-is : out′ ≡ wanted keep aim w .words ++ drop (length (wanted keep aim w .words)) out
-    out-is = rw accepted-is at (m .output)
+    out-is = rw accepted-is at (m .builds .answers .output)
 
     answer : Accepted (wanted keep aim w .words)
-    answer = answer-accepted w (length out) (length room) keep aim accepted-is
+    answer = answer-accepted w (length room) (length out) keep aim accepted-is
 
     count-is : k ≡ size (wanted keep aim w .words)
-    count-is = rw accepted-is at (m .nodes)
+    count-is = rw accepted-is at (m .builds .nodes)
 
     trials-is : trials ≡ wanted keep aim w .trials
     trials-is = rw accepted-is at (m .trials)
@@ -94,7 +92,7 @@ module _ (keep : Bool) (aim : Aim) (w out out′ room room′ : List ℕ) {r : V
 
     pub answer-ready : Accepted w × (size w ≤ 120) × Accepted (take (3 * k) out′) × (size (take (3 * k) out′) ≤ 120)
     answer-ready =
-        let d = admitted keep aim w (length out) (length room) accepted-is .2 in
+        let d = admitted keep aim w (length room) (length out) accepted-is .2 in
         rw words-are (d .accepted, omega (arith, d .fits), answer, omega (arith, answer .formed .whole, answer-few))
 
     pub diagram-done : {file left text text′ : List ℕ} {end text-end : ℕ} → Shrinks (storing keep aim w (take (3 * k) out′) trials (length file)) file left text text′ end text-end

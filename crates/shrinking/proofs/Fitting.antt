@@ -53,7 +53,7 @@ module _ (P : Done → Type 0) (lent : ℕ) (no : (number place : ℕ) → P (re
 
   diagram-all : (keep : Bool) (aim : Aim) (w : List ℕ) → P (diagramDone keep aim w lent)
   unfolding diagramDone
-  diagram-all keep aim w = if-cut keep aim w (wantedVerdict keep aim w 360 7680)
+  diagram-all keep aim w = if-cut keep aim w (wantedVerdict keep aim w 7680 360)
 
   read-all : (keep : Bool) (aim : Aim) (r : Reading) → P (ifRead keep aim lent r)
   read-all keep aim (reading (stored n) left) = diagram-all keep aim (take (3 * n) left)

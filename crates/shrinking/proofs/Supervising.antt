@@ -76,7 +76,7 @@ module _ (w : List ℕ) (f : Formed w) where
 -- ---- a cut of the file of w
 
 module _ (w : List ℕ) (lent n : ℕ) (small : (k : ℕ) → getD w k 0 < 2 ^ 32) (e : writeOutcome w lent ≡ stored n) (P : List ℕ → Type 0) (keep : Bool) (aim : Aim)
-    (right : (m v : ℕ) → wantedVerdict keep aim w 360 7680 ≡ accepted m v → P (wanted keep aim w .words) × Accepted (wanted keep aim w .words)) where
+    (right : (m v : ℕ) → wantedVerdict keep aim w 7680 360 ≡ accepted m v → P (wanted keep aim w .words) × Accepted (wanted keep aim w .words)) where
   abbrev answer : List ℕ
   answer = wanted keep aim w .words
 
@@ -91,7 +91,7 @@ module _ (w : List ℕ) (lent n : ℕ) (small : (k : ℕ) → getD w k 0 < 2 ^ 3
         true-of = h;
       })
 
-  cut-reads : (o : Outcome) → wantedVerdict keep aim w 360 7680 ≡ o → (fileBytes (ifCut keep aim w fileBuffer o) ≡ []) ⊎ ReadsAs P (fileBytes (ifCut keep aim w fileBuffer o))
+  cut-reads : (o : Outcome) → wantedVerdict keep aim w 7680 360 ≡ o → (fileBytes (ifCut keep aim w fileBuffer o) ≡ []) ⊎ ReadsAs P (fileBytes (ifCut keep aim w fileBuffer o))
   unfolding storing
   cut-reads (rejected k p) g = inl refl
   cut-reads (accepted m v) g = let r = right m v g in stored-reads (writeOutcome answer fileBuffer) (r .1) (r .0) refl
@@ -104,7 +104,7 @@ module _ (w : List ℕ) (lent n : ℕ) (small : (k : ℕ) → getD w k 0 < 2 ^ 3
   file-reads =
       let i = is-written w lent n e in
       let r : readFile (fileOf w) blank ≡ reading (stored n) (w ++ drop (length w) blank) = written-reads w blank lent small e (omega (arith, i .lengths .whole, i .lengths .few)) in
-      rw (r, words-back) (cut-reads (wantedVerdict keep aim w 360 7680) refl)
+      rw (r, words-back) (cut-reads (wantedVerdict keep aim w 7680 360) refl)
 
 -- ---- words that begin with keep ask for no cut or for one that keeps; likewise suppress
 
@@ -145,26 +145,26 @@ module _ (w : List ℕ) (lent n : ℕ) (small : (k : ℕ) → getD w k 0 < 2 ^ 3
   keeps-by to-help = inl refl
   keeps-by to-unknown = inl refl
   keeps-by to-which = inl refl
-  keeps-by (to-cut aim) = file-reads w lent n small e (Over w) true aim (λ m v g. (let o = keep-over w 360 7680 aim g in (o, o .accepted)))
+  keeps-by (to-cut aim) = file-reads w lent n small e (Over w) true aim (λ m v g. (let o = keep-over w 7680 360 aim g in (o, o .accepted)))
 
   suppresses-by : {m : Meaning} → Turns false m → (fileBytes (done m (fileOf w) fileBuffer) ≡ []) ⊎ ReadsAs (Under w) (fileBytes (done m (fileOf w) fileBuffer))
   unfolding done
   suppresses-by to-help = inl refl
   suppresses-by to-unknown = inl refl
   suppresses-by to-which = inl refl
-  suppresses-by (to-cut aim) = file-reads w lent n small e (Under w) false aim (λ m v g. (let o = suppress-under w 360 7680 aim g in (o, o .accepted)))
+  suppresses-by (to-cut aim) = file-reads w lent n small e (Under w) false aim (λ m v g. (let o = suppress-under w 7680 360 aim g in (o, o .accepted)))
 
-cases-kept : (w : List ℕ) (k lent room n v : ℕ) → wantedVerdict true (cases k) w lent room ≡ accepted n v → k ≤ countOf (wanted true (cases k) w .words)
+cases-kept : (w : List ℕ) (k room lent n v : ℕ) → wantedVerdict true (cases k) w room lent ≡ accepted n v → k ≤ countOf (wanted true (cases k) w .words)
 unfolding wanted wantedVerdict
-cases-kept w k lent room n v e =
+cases-kept w k room lent n v e =
     let h = over-is w k (then-first (verdictOf w (Diagram lent) room) _ e .3) in
-    demand2 .count-over w k (admitted true (cases k) w lent room e .2 .accepted) h .1
+    demand2 .count-over w k (admitted true (cases k) w room lent e .2 .accepted) h .1
 
-cases-left : (w : List ℕ) (k lent room n v : ℕ) → wantedVerdict false (cases k) w lent room ≡ accepted n v → countOf (wanted false (cases k) w .words) ≤ k
+cases-left : (w : List ℕ) (k room lent n v : ℕ) → wantedVerdict false (cases k) w room lent ≡ accepted n v → countOf (wanted false (cases k) w .words) ≤ k
 unfolding wanted wantedVerdict
-cases-left w k lent room n v e =
+cases-left w k room lent n v e =
     let h = under-is w k (then-first (verdictOf w (Diagram lent) room) _ e .3) in
-    demand2 .count-under w k (admitted false (cases k) w lent room e .2 .accepted) h .1
+    demand2 .count-under w k (admitted false (cases k) w room lent e .2 .accepted) h .1
 
 pub supervised : Supervised
 supervised =

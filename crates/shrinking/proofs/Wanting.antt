@@ -12,7 +12,6 @@ use Rattle.diagram.proofs.Meaning.{verdict-accepted, Admitted}
 use Rattle.approximation.specs.Cut.{Under, Over, underCountOf, overCountOf}
 use Rattle.approximation.proofs.Listing.{under-accepted-open, over-accepted-most, over-accepted-open}
 use Rattle.approximation.proofs.Targets.{to-size-under, over-to-size-over, to-count-under, over-to-count-over}
-use Rattle.targets.specs.Targets.{sizeVerdict, underCountVerdict, overCountVerdict}
 use Rattle.request.specs.Request.{Aim, nodes, cases}
 use Rattle.shrinking.specs.Shrinking.{wanted, wantedVerdict}
 
@@ -35,36 +34,36 @@ over-is w k e = let f = row-left _ _ _ _ e in f ∙ row-left _ _ _ _ (sym f ∙ 
 
 -- ---- the check is passed
 
-first-of : (keep : Bool) (aim : Aim) (w : List ℕ) (lent room : ℕ) {n v : ℕ} → wantedVerdict keep aim w lent room ≡ accepted n v
+first-of : (keep : Bool) (aim : Aim) (w : List ℕ) (room lent : ℕ) {n v : ℕ} → wantedVerdict keep aim w room lent ≡ accepted n v
     → (m : ℕ) × (u : ℕ) × (verdictOf w (Diagram lent) room ≡ accepted m u)
 unfolding wantedVerdict
-first-of keep (nodes t) w lent room e = (_, _, e)
-first-of true (cases k) w lent room e = let a = then-first (verdictOf w (Diagram lent) room) _ e in (a .0, a .1, a .2)
-first-of false (cases k) w lent room e = let a = then-first (verdictOf w (Diagram lent) room) _ e in (a .0, a .1, a .2)
+first-of keep (nodes t) w room lent e = (_, _, e)
+first-of true (cases k) w room lent e = let a = then-first (verdictOf w (Diagram lent) room) _ e in (a .0, a .1, a .2)
+first-of false (cases k) w room lent e = let a = then-first (verdictOf w (Diagram lent) room) _ e in (a .0, a .1, a .2)
 
-pub admitted : (keep : Bool) (aim : Aim) (w : List ℕ) (lent room : ℕ) {n v : ℕ} → wantedVerdict keep aim w lent room ≡ accepted n v
+pub admitted : (keep : Bool) (aim : Aim) (w : List ℕ) (room lent : ℕ) {n v : ℕ} → wantedVerdict keep aim w room lent ≡ accepted n v
     → (m : ℕ) × (u : ℕ) × Admitted w (Diagram lent) room m u
-admitted keep aim w lent room e =
-    let a = first-of keep aim w lent room e in
+admitted keep aim w room lent e =
+    let a = first-of keep aim w room lent e in
     (a .0, a .1, verdict-accepted w (Diagram lent) room (a .0) (a .1) (a .2))
 
-module _ (w : List ℕ) (lent room : ℕ) {n v : ℕ} where
+module _ (w : List ℕ) (room lent : ℕ) {n v : ℕ} where
   -- A keep condition holds wherever it held.
-  pub keep-over : (aim : Aim) → wantedVerdict true aim w lent room ≡ accepted n v → Over w (wanted true aim w .words)
+  pub keep-over : (aim : Aim) → wantedVerdict true aim w room lent ≡ accepted n v → Over w (wanted true aim w .words)
   unfolding wanted wantedVerdict
-  keep-over (nodes t) e = over-to-size-over w t (admitted true (nodes t) w lent room e .2 .accepted)
+  keep-over (nodes t) e = over-to-size-over w t (admitted true (nodes t) w room lent e .2 .accepted)
   keep-over (cases k) e =
       let h = over-is w k (then-first (verdictOf w (Diagram lent) room) _ e .3) in
-      over-to-count-over w k (admitted true (cases k) w lent room e .2 .accepted) (over-accepted-most w k h) (over-accepted-open w k h)
+      over-to-count-over w k (admitted true (cases k) w room lent e .2 .accepted) (over-accepted-most w k h) (over-accepted-open w k h)
 
   -- A suppress condition holds only where it held.
-  pub suppress-under : (aim : Aim) → wantedVerdict false aim w lent room ≡ accepted n v → Under w (wanted false aim w .words)
+  pub suppress-under : (aim : Aim) → wantedVerdict false aim w room lent ≡ accepted n v → Under w (wanted false aim w .words)
   unfolding wanted wantedVerdict
-  suppress-under (nodes t) e = to-size-under w t (admitted false (nodes t) w lent room e .2 .accepted)
+  suppress-under (nodes t) e = to-size-under w t (admitted false (nodes t) w room lent e .2 .accepted)
   suppress-under (cases k) e =
       let h = under-is w k (then-first (verdictOf w (Diagram lent) room) _ e .3) in
-      to-count-under w k (admitted false (cases k) w lent room e .2 .accepted) (under-accepted-open w k h)
+      to-count-under w k (admitted false (cases k) w room lent e .2 .accepted) (under-accepted-open w k h)
 
-  pub answer-accepted : (keep : Bool) (aim : Aim) → wantedVerdict keep aim w lent room ≡ accepted n v → Accepted (wanted keep aim w .words)
+  pub answer-accepted : (keep : Bool) (aim : Aim) → wantedVerdict keep aim w room lent ≡ accepted n v → Accepted (wanted keep aim w .words)
   answer-accepted true aim e = keep-over aim e .accepted
   answer-accepted false aim e = suppress-under aim e .accepted

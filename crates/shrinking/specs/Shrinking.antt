@@ -9,9 +9,11 @@ use Rattle.naturals.specs.Natural.{wordCount}
 use Rattle.diagram.specs.Limits.{roomPerNode}
 use Rattle.diagram.specs.Diagram.{size}
 use Rattle.diagram.specs.Valuations.{countOf}
-use Rattle.diagram.specs.Verdict.{Outcome, accepted, refused as rejected}
+use Rattle.diagram.specs.Verdict.{Outcome, accepted, refused as rejected, verdictFor}
+use Rattle.diagram.specs.declared.verdict.Verdict.{Verdict}
+use Rattle.diagram.specs.declared.verdict.Output.the-variants.{Diagram}
 use Rattle.approximation.specs.Search.{Answer, underToSize, overToSize, underToCount, overToCount}
-use Rattle.targets.specs.Targets.{sizeVerdict, underCountVerdict, overCountVerdict}
+use Rattle.targets.specs.Targets.{underCountVerdict, overCountVerdict, Meets}
 use Rattle.blocks.specs.Block.{blockBytes, maxStored, Outcome as Stored, nodes as stored, refused as unread}
 use Rattle.block_file.specs.File.{blockCount, Reading, reading, readFile, writeOutcome, fileOf}
 use Rattle.writing.specs.Writing.{Wrote}
@@ -27,9 +29,13 @@ wanted true (cases k) w = overToCount w k
 wanted false (cases k) w = underToCount w k
 
 unfoldable pub wantedVerdict : Bool → Aim → List ℕ → ℕ → ℕ → Outcome
-wantedVerdict keep (nodes t) w lent room = sizeVerdict w lent room
-wantedVerdict true (cases k) w lent room = overCountVerdict w k lent room
-wantedVerdict false (cases k) w lent room = underCountVerdict w k lent room
+wantedVerdict keep (nodes t) w = verdictFor Diagram w
+wantedVerdict true (cases k) w = overCountVerdict w k
+wantedVerdict false (cases k) w = underCountVerdict w k
+
+-- For the code inside: what is answered of it.
+abbrev pub Wants : (w : List ℕ) (keep : Bool) (aim : Aim) (room room′ out out′ : List ℕ) → Verdict → ℕ → ℕ → Type 0
+Wants w keep aim = Meets (wantedVerdict keep aim w) (wanted keep aim w) w
 
 -- ---- what is done
 
@@ -53,7 +59,7 @@ ifCut keep aim w lent (accepted n v) = storing keep aim w (wanted keep aim w .wo
 ifCut keep aim w lent (rejected number place) = refused number place
 
 unfoldable pub diagramDone : Bool → Aim → List ℕ → ℕ → Done
-diagramDone keep aim w lent = ifCut keep aim w lent (wantedVerdict keep aim w (3 * maxStored) (roomPerNode * maxStored))
+diagramDone keep aim w lent = ifCut keep aim w lent (wantedVerdict keep aim w (roomPerNode * maxStored) (3 * maxStored))
 
 -- What the input is read into.
 abbrev pub blank : List ℕ

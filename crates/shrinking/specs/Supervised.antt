@@ -36,8 +36,8 @@ pub record Supervised : Type 0 where
   pub no-file : (m : Meaning) (s : List ℕ) (lent : ℕ) → looks m ≡ false → fileBytes (done m s lent) ≡ []
   pub no-input : (m : Meaning) (s t : List ℕ) (lent : ℕ) → looks m ≡ false → done m s lent ≡ done m t lent
   -- a number of cases is met by every cut (and a number of nodes from 2 on: `size-fits` of Demand2)
-  pub cases-kept : (w : List ℕ) (k lent room n v : ℕ) → wantedVerdict true (cases k) w lent room ≡ accepted n v → k ≤ countOf (wanted true (cases k) w .words)
-  pub cases-left : (w : List ℕ) (k lent room n v : ℕ) → wantedVerdict false (cases k) w lent room ≡ accepted n v → countOf (wanted false (cases k) w .words) ≤ k
+  pub cases-kept : (w : List ℕ) (k room lent n v : ℕ) → wantedVerdict true (cases k) w room lent ≡ accepted n v → k ≤ countOf (wanted true (cases k) w .words)
+  pub cases-left : (w : List ℕ) (k room lent n v : ℕ) → wantedVerdict false (cases k) w room lent ≡ accepted n v → countOf (wanted false (cases k) w .words) ≤ k
   -- both answers fit the buffers of the program, and the writer's 4 does not come up there
   pub file-fits : (m : Meaning) (s : List ℕ) (lent : ℕ) → length (fileBytes (done m s lent)) ≤ fileBuffer
   pub text-fits : (m : Meaning) (s : List ℕ) (lent : ℕ) → length (textBytes (done m s lent)) ≤ textBuffer

@@ -6,11 +6,9 @@ use targets::count::overapproximate_to_cardinality;
 use targets::count::underapproximate_to_cardinality;
 use targets::size::overapproximate_to_size;
 use targets::size::underapproximate_to_size;
-ghost use lib.ListN.{length};
 ghost use Rattle.naturals.specs.Natural.{value};
-ghost use Rattle.targets.specs.Targets.{Meets};
 ghost use Rattle.request.specs.Request.{nodes, cases, aimOf};
-ghost use Rattle.shrinking.specs.Shrinking.{wanted, wantedVerdict};
+ghost use Rattle.shrinking.specs.Shrinking.{Wants};
 
 fn to_size(
     words: &[u32],
@@ -19,7 +17,7 @@ fn to_size(
     room: &mut [u32],
     output: &mut [u32],
 ) -> Approximated
-    ensures { λ r. ⌜ Meets (wantedVerdict keep (nodes target) (now (words .entry)) (length (now (output .entry))) (length (now (room .entry)))) (wanted keep (nodes target) (now (words .entry))) (now (words .entry)) (now (room .entry)) (now (room .exit)) (now (output .entry)) (now (output .exit)) (r .verdict) (r .nodes) (r .trials) ⌝ }
+    ensures { λ r. ⌜ Wants (now (words .entry)) keep (nodes target) (now (room .entry)) (now (room .exit)) (now (output .entry)) (now (output .exit)) (r .verdict) (r .nodes) (r .trials) ⌝ }
 {
     if keep {
         return overapproximate_to_size(words, target, room, output);
@@ -34,7 +32,7 @@ fn to_count(
     room: &mut [u32],
     output: &mut [u32],
 ) -> Approximated
-    ensures { λ r. ⌜ Meets (wantedVerdict keep (cases (value (target .words))) (now (words .entry)) (length (now (output .entry))) (length (now (room .entry)))) (wanted keep (cases (value (target .words))) (now (words .entry))) (now (words .entry)) (now (room .entry)) (now (room .exit)) (now (output .entry)) (now (output .exit)) (r .verdict) (r .nodes) (r .trials) ⌝ }
+    ensures { λ r. ⌜ Wants (now (words .entry)) keep (cases (value (target .words))) (now (room .entry)) (now (room .exit)) (now (output .entry)) (now (output .exit)) (r .verdict) (r .nodes) (r .trials) ⌝ }
 {
     if keep {
         return overapproximate_to_cardinality(words, target, room, output);
@@ -48,7 +46,7 @@ pub(crate) fn shrink_words(
     room: &mut [u32],
     output: &mut [u32],
 ) -> Approximated
-    ensures { λ r. ⌜ Meets (wantedVerdict (target .keep) (aimOf target) (now (words .entry)) (length (now (output .entry))) (length (now (room .entry)))) (wanted (target .keep) (aimOf target) (now (words .entry))) (now (words .entry)) (now (room .entry)) (now (room .exit)) (now (output .entry)) (now (output .exit)) (r .verdict) (r .nodes) (r .trials) ⌝ }
+    ensures { λ r. ⌜ Wants (now (words .entry)) (target .keep) (aimOf target) (now (room .entry)) (now (room .exit)) (now (output .entry)) (now (output .exit)) (r .verdict) (r .nodes) (r .trials) ⌝ }
 {
     let count = target.count;
     if target.counted {

@@ -11,11 +11,11 @@ use Rattle.naturals.specs.Natural.{value, Holds}
 use Rattle.diagram.specs.Limits.{maxVariables}
 use Rattle.diagram.specs.Diagram.{size, vars}
 use Rattle.diagram.specs.Valuations.{countOf}
-use Rattle.diagram.specs.Verdict.{Outcome, accepted, refused, said, row, andThen, verdictOf, most, Checked}
+use Rattle.diagram.specs.Verdict.{accepted, said, row, most, Checked}
 use Rattle.diagram.specs.declared.verdict.Verdict.{Verdict}
 use Rattle.diagram.specs.declared.verdict.Verdict.the-variants.{Accepted as Yes, Refused as No}
 use Rattle.diagram.specs.declared.verdict.Output.the-variants.{Diagram}
-use Rattle.diagram.proofs.Entering.{admitted}
+use Rattle.diagram.proofs.Entering.{refusal-is, verdict-is, admitted}
 use Rattle.room_map.specs.Map.{tablesFrom}
 use Rattle.negation.specs.Negation.{negated}
 use Rattle.negation.proofs.Meaning.{negated-accepted, negated-count}
@@ -28,9 +28,8 @@ use Rattle.trials.specs.Answers.{Keeping, Kept, Returned}
 use Rattle.trials.proofs.Early.{searching-keeps, searching-kept}
 use Rattle.count_search.specs.Rounds.{Aiming, Countable}
 use Rattle.count_search.proofs.Aims.{aiming-countable}
-use Rattle.targets.specs.Targets.{Meets}
-use Rattle.targets.specs.Hits.{toldOf, Targeting, Counting, Fewer, Hit}
-use Rattle.targets.proofs.Hitting.{Flipped, targeting-searches, flipped-searches, back-hits}
+use Rattle.targets.specs.Hits.{toCount, toldOf, countVerdict, ToCount, Targeting, Counting, Fewer, Hit}
+use Rattle.targets.proofs.Hitting.{Flipped, targeting-searches, flipped-searches, back-hits, meets-refused, meets-hit, check-targets}
 
 pub under-aims : {w r out : List ℕ} {k n v : ℕ} → Counting false w r out k n v → Aiming w r k n v
 under-aims a = record { searching = targeting-searches (a .targeting); target = a .target }
@@ -105,37 +104,6 @@ module _ {w r out : List ℕ} {k n v : ℕ} (a : Fewer w r out k n v) {made : �
 
 -- ---- the verdicts
 
-module _ {w before after : List ℕ} (out : List ℕ) {verdict : Verdict} (checked : Checked w (Diagram (length out)) before after verdict) {n v : ℕ} (e : verdict ≡ Yes n v) where
-  told : verdictOf w (Diagram (length out)) (length before) ≡ accepted n v
-  told = sym (checked .verdict) ∙ ap said e
-
-  pub open-few : v ≤ maxVariables
-  open-few = let is = admitted checked e .variables in let few = admitted checked e .accepted .formed .variables in omega arith
-
-  module _ (next : List ℕ → Outcome) (l : Verdict) (says : (w : List ℕ) → n ≡ size w → v ≡ vars w → said l ≡ next w) where
-    next-is : said l ≡ next w
-    next-is = says w (admitted checked e .nodes) (admitted checked e .variables)
-
-    pub open-refuses : {i p : ℕ} → l ≡ No i p → (b : Answer)
-        → Meets (andThen (verdictOf w (Diagram (length out)) (length before)) (next w)) b w before after out out l 0 0
-    open-refuses {i} {p} f b =
-        let no-next : next w ≡ refused i p = sym next-is ∙ ap said f in
-        record { verdict = rw (told, no-next) (ap said f); nodes = rw (told, no-next) refl; trials = rw (told, no-next) refl; output = rw (told, no-next) refl; left = checked .left }
-
-    module _ {n′ v′ : ℕ} (f : l ≡ Yes n′ v′) where
-      pub open-fine : next w ≡ accepted n′ v′
-      open-fine = sym next-is ∙ ap said f
-
-      pub open-meets : {b : Answer} {after′ out′ : List ℕ} {k trials : ℕ} → Hit b after after′ out out′ k trials
-          → Meets (andThen (verdictOf w (Diagram (length out)) (length before)) (next w)) b w before after′ out out′ l k trials
-      open-meets h = record {
-        verdict = rw (told, open-fine) (ap said f);
-        nodes = rw (told, open-fine) (h .count);
-        trials = rw (told, open-fine) (h .trials);
-        output = rw (told, open-fine) (h .written);
-        left = h .room ∙ checked .left;
-      }
-
 -- An acceptance of a target has the diagram's own counts.
 under-own : (w : List ℕ) (k : ℕ) {n v : ℕ} → underCountOf w k ≡ accepted n v → underCountOf w k ≡ accepted (size w) (vars w)
 unfolding underCountOf row
@@ -155,6 +123,33 @@ over-own w k e = own (ltb (2 ^ vars w) k) (between w k && eqb (size w) 1) e
     own false true e = let z : _≡_ {A = ℕ} 0 1 = cc in absurd (omega arith)
     own false false e = refl
 
-pub told-own : (above : Bool) (w : List ℕ) (k : ℕ) {n v : ℕ} → toldOf above w k ≡ accepted n v → toldOf above w k ≡ accepted (size w) (vars w)
+told-own : (above : Bool) (w : List ℕ) (k : ℕ) {n v : ℕ} → toldOf above w k ≡ accepted n v → toldOf above w k ≡ accepted (size w) (vars w)
 told-own true w k e = over-own w k e
 told-own false w k e = under-own w k e
+
+module _ (above : Bool) {w : List ℕ} (k : ℕ) {room room′ : List ℕ} (out : List ℕ) {verdict : Verdict} (checked : Checked w (Diagram (length out)) room room′ verdict) where
+  pub check-refuses : {i p : ℕ} → verdict ≡ No i p → ToCount above w k room room′ out out verdict 0 0
+  check-refuses e = meets-refused (countVerdict above w k) (toCount above w k) out (checked .left) e (rw (refusal-is checked e) refl)
+
+  module _ {n v : ℕ} (e : verdict ≡ Yes n v) where
+    pub open-few : v ≤ maxVariables
+    open-few = let is = admitted checked e .variables in let few = admitted checked e .accepted .formed .variables in omega arith
+
+    module _ (l : Verdict) (says : (w : List ℕ) → n ≡ size w → v ≡ vars w → said l ≡ toldOf above w k) where
+      -- the check accepts: the verdict is what is told of the target
+      told-is : countVerdict above w k (length room) (length out) ≡ said l
+      told-is = rw (verdict-is checked e) (sym (says w (admitted checked e .nodes) (admitted checked e .variables)))
+
+      pub open-refuses : {i p : ℕ} → l ≡ No i p → ToCount above w k room room′ out out l 0 0
+      open-refuses f = meets-refused (countVerdict above w k) (toCount above w k) out (checked .left) f (told-is ∙ ap said f)
+
+      module _ {n′ v′ : ℕ} (f : l ≡ Yes n′ v′) where
+        pub open-counts : Counting above w room′ out k n v
+        open-counts = record {
+          targeting = check-targets out checked e;
+          target = told-own above w k (sym (says w (admitted checked e .nodes) (admitted checked e .variables)) ∙ ap said f);
+        }
+
+        pub open-meets : {room″ out′ : List ℕ} {j trials : ℕ} → Hit (toCount above w k) room′ room″ out out′ j trials
+            → ToCount above w k room room″ out out′ l j trials
+        open-meets h = meets-hit (countVerdict above w k) (toCount above w k) out (checked .left) f (told-is ∙ ap said f) h

@@ -2,20 +2,18 @@
 use Prim.Native.Nat.{ℕ, _+_, _-_, _*_, _≤_, _<_, max, min}
 use mathlib.Core.Path.{_≡_, refl, sym, ap, _∙_}
 use mathlib.Core.List.{List, _++_}
-use mathlib.Core.Bool.{false}
+use mathlib.Core.Bool.{Bool}
 use native.Mathlib.Omega.{arith}
 use lib.ListN.{length, getD, take, drop, replicate}
 use lib.Seq.{getD-take, take-append-seam, length-take-le}
-use borrow.Author.Tests.{ltb-false}
-use lib.ListN.{getD-replicate}
 use Rattle.diagram.specs.Limits.{maxNodes}
 use Rattle.diagram.specs.Diagram.{size, vars, Accepted, Ordered}
-use Rattle.diagram.specs.Verdict.{Outcome, accepted, refused, said, andThen, ifAccepted, verdictOf, short, most, roomOf, roomAfter, Checked}
+use Rattle.diagram.specs.Verdict.{Outcome, accepted, refused, most, roomOf, roomAfter, verdictFor, Checked}
 use Rattle.diagram.specs.declared.verdict.Verdict.{Verdict}
 use Rattle.diagram.specs.declared.verdict.Verdict.the-variants.{Accepted as Yes, Refused as No}
 use Rattle.diagram.specs.declared.verdict.Output.the-variants.{Diagram}
 use Rattle.diagram.proofs.Reading.{accepted-ordered}
-use Rattle.diagram.proofs.Entering.{admitted, lent-fits, lent-zero}
+use Rattle.diagram.proofs.Entering.{refusal-is, verdict-is, admitted, lent-fits, lent-word, lent-enough, builds-refused, builds-accepted}
 use Rattle.room_map.specs.Map.{answerFrom, searchTo}
 use Rattle.negation.specs.Negation.{negated, over, Ready}
 use Rattle.negation.proofs.Meaning.{negated-vars, negated-accepted, negated-twice, negated-most}
@@ -25,7 +23,7 @@ use Rattle.cuts.proofs.Answering.{zeros-back}
 use Rattle.trials.specs.Trials.{Searching, Found}
 use Rattle.trials.specs.Answers.{answerIn, Giving, Given, Returning, Returned}
 use Rattle.targets.specs.Targets.{Meets}
-use Rattle.targets.specs.Hits.{Targeting, Hit}
+use Rattle.targets.specs.Hits.{toSize, ToSize, Targeting, Hit}
 
 -- The negation stands at the front of a list.
 pub record Flipped (w : List ℕ) (made : ℕ) (flipped : List ℕ) : Type 0 where
@@ -180,32 +178,25 @@ module _ {w r out : List ℕ} {n v : ℕ} (a : Targeting w r out n v) where
 
 -- ---- the verdicts
 
-room-zero : (r : List ℕ) (k : ℕ) → take k r ≡ replicate k 0 → (j : ℕ) → j < k → getD r j 0 ≡ 0
-room-zero r k e j h = sym (getD-take k r j 0 h) ∙ ap (λ (l : List ℕ). getD l j 0) e ∙ getD-replicate k j 0 0 h
+-- A refusal, and an answer, of a request with a verdict of its own.
+module _ (outcome : ℕ → ℕ → Outcome) (b : Answer) {w room room′ : List ℕ} (out : List ℕ)
+    (left : room′ ≡ roomAfter w (Diagram (length out)) room) {r : Verdict} where
+  pub meets-refused : {k p : ℕ} → r ≡ No k p → outcome (length room) (length out) ≡ refused k p → Meets outcome b w room room′ out out r 0 0
+  meets-refused e is = record { builds = builds-refused outcome (b .words) out left e is; trials = rw is refl }
 
-lent-enough : (w : List ℕ) (lent : ℕ) → short w (Diagram lent) ≡ false → 3 * most w ≤ lent
-unfolding short
-lent-enough w lent e = ltb-false lent (3 * most w) e
+  pub meets-hit : {n v : ℕ} → r ≡ Yes n v → outcome (length room) (length out) ≡ accepted n v → {room″ out′ : List ℕ} {k trials : ℕ}
+      → Hit b room′ room″ out out′ k trials → Meets outcome b w room room″ out out′ r k trials
+  meets-hit e is h = record {
+    builds = builds-accepted outcome (b .words) out (h .room ∙ left) e is (h .count) (h .written);
+    trials = rw is (h .trials);
+  }
 
-module _ {w before after : List ℕ} (out : List ℕ) {verdict : Verdict} (checked : Checked w (Diagram (length out)) before after verdict) where
-  -- A refusal of the check, whatever would come after it.
-  pub check-refuses : {k p : ℕ} → verdict ≡ No k p → (next : Outcome) (b : Answer)
-      → Meets (andThen (verdictOf w (Diagram (length out)) (length before)) next) b w before after out out verdict 0 0
-  check-refuses {k} {p} e next b =
-      let told : verdictOf w (Diagram (length out)) (length before) ≡ refused k p = sym (checked .verdict) ∙ ap said e in
-      record { verdict = rw told (ap said e); nodes = rw told refl; trials = rw told refl; output = rw told refl; left = checked .left }
-
-  pub size-refuses : {k p : ℕ} → verdict ≡ No k p → (b : Answer)
-      → Meets (verdictOf w (Diagram (length out)) (length before)) b w before after out out verdict 0 0
-  size-refuses {k} {p} e b =
-      let told : verdictOf w (Diagram (length out)) (length before) ≡ refused k p = sym (checked .verdict) ∙ ap said e in
-      record { verdict = rw told (ap said e); nodes = rw told refl; trials = rw told refl; output = rw told refl; left = checked .left }
+module _ {w room room′ : List ℕ} (out : List ℕ) {verdict : Verdict} (checked : Checked w (Diagram (length out)) room room′ verdict) where
+  pub size-refuses : {k p : ℕ} → verdict ≡ No k p → (above : Bool) (t : ℕ) → ToSize above w t room room′ out out verdict 0 0
+  size-refuses e above t = meets-refused (verdictFor Diagram w) (toSize above w t) out (checked .left) e (refusal-is checked e)
 
   module _ {n v : ℕ} (e : verdict ≡ Yes n v) where
-    told : verdictOf w (Diagram (length out)) (length before) ≡ accepted n v
-    told = sym (checked .verdict) ∙ ap said e
-
-    pub check-targets : Targeting w after out n v
+    pub check-targets : Targeting w room′ out n v
     check-targets =
         let given = admitted checked e in
         record {
@@ -213,16 +204,10 @@ module _ {w before after : List ℕ} (out : List ℕ) {verdict : Verdict} (check
           is-size = given .nodes;
           is-vars = given .variables;
           long = lent-fits checked e (roomOf w) (omega arith);
-          zero = λ j h. room-zero after (roomOf w) (lent-zero checked e (roomOf w) (omega arith)) j h;
+          zero = lent-word checked e (roomOf w) (omega arith);
           output = lent-enough w (length out) (given .lent);
         }
 
-    pub size-meets : {b : Answer} {after′ out′ : List ℕ} {k trials : ℕ} → Hit b after after′ out out′ k trials
-        → Meets (verdictOf w (Diagram (length out)) (length before)) b w before after′ out out′ (Yes n v) k trials
-    size-meets h = record {
-      verdict = sym told;
-      nodes = rw told (h .count);
-      trials = rw told (h .trials);
-      output = rw told (h .written);
-      left = h .room ∙ checked .left;
-    }
+    pub size-meets : (above : Bool) (t : ℕ) {room″ out′ : List ℕ} {k trials : ℕ} → Hit (toSize above w t) room′ room″ out out′ k trials
+        → ToSize above w t room room″ out out′ (Yes n v) k trials
+    size-meets above t h = meets-hit (verdictFor Diagram w) (toSize above w t) out (checked .left) refl (verdict-is checked e) h

@@ -7,9 +7,12 @@ use mathlib.Core.List.{List, _++_}
 use lib.ListN.{length, getD, drop}
 use Rattle.diagram.specs.Diagram.{size, vars, Accepted}
 use Rattle.diagram.specs.Valuations.{countOf}
-use Rattle.diagram.specs.Verdict.{Outcome, accepted, most, roomOf}
+use Rattle.diagram.specs.Verdict.{Outcome, accepted, andThen, most, roomOf, verdictFor}
+use Rattle.diagram.specs.declared.verdict.Verdict.{Verdict}
+use Rattle.diagram.specs.declared.verdict.Output.the-variants.{Diagram}
 use Rattle.approximation.specs.Cut.{underCountOf, overCountOf}
 use Rattle.approximation.specs.Search.{Answer, underToSize, overToSize, underToCount, overToCount}
+use Rattle.targets.specs.Targets.{Meets}
 
 abbrev pub toSize : Bool → List ℕ → ℕ → Answer
 toSize above w t = cond above (overToSize w t) (underToSize w t)
@@ -20,6 +23,16 @@ toCount above w k = cond above (overToCount w k) (underToCount w k)
 -- 16 and 19.
 abbrev pub toldOf : Bool → List ℕ → ℕ → Outcome
 toldOf above w k = cond above (overCountOf w k) (underCountOf w k)
+
+-- What is promised either way.
+abbrev pub countVerdict : Bool → List ℕ → ℕ → ℕ → ℕ → Outcome
+countVerdict above w k room lent = andThen (verdictFor Diagram w room lent) (toldOf above w k)
+
+abbrev pub ToSize : (above : Bool) (w : List ℕ) (t : ℕ) (room room′ out out′ : List ℕ) → Verdict → ℕ → ℕ → Type 0
+ToSize above w t = Meets (verdictFor Diagram w) (toSize above w t) w
+
+abbrev pub ToCount : (above : Bool) (w : List ℕ) (k : ℕ) (room room′ out out′ : List ℕ) → Verdict → ℕ → ℕ → Type 0
+ToCount above w k = Meets (countVerdict above w k) (toCount above w k) w
 
 -- An accepted diagram in a room that is zero, with an output.
 pub record Targeting (w r out : List ℕ) (n v : ℕ) : Type 0 where

@@ -19,13 +19,10 @@ use trials::answers::give;
 use trials::answers::give_back;
 use trials::answers::keep;
 ghost use mathlib.Core.Bool.{true, false};
-ghost use lib.ListN.{length};
-ghost use Rattle.diagram.specs.Verdict.{andThen, verdictOf};
-ghost use Rattle.diagram.specs.declared.verdict.Output.{Output};
 ghost use Rattle.naturals.specs.Natural.{value};
 ghost use Rattle.approximation.specs.Search.{underToCount, overToCount};
-ghost use Rattle.targets.specs.Targets.{underCountVerdict, overCountVerdict, Meets};
-ghost use Rattle.targets.specs.Hits.{toCount, toldOf, Counting, Fewer, Hit};
+ghost use Rattle.targets.specs.Targets.{UnderToCount, OverToCount};
+ghost use Rattle.targets.specs.Hits.{toCount, ToCount, Counting, Fewer, Hit};
 
 fn under(
     words: &[u32],
@@ -114,7 +111,7 @@ fn to_count(
     room: &mut [u32],
     output: &mut [u32],
 ) -> Approximated
-    ensures { λ r. ⌜ Meets (andThen (verdictOf (now (words .entry)) (Output.Diagram (length (now (output .entry)))) (length (now (room .entry)))) (toldOf above (now (words .entry)) (value (target .words)))) (toCount above (now (words .entry)) (value (target .words))) (now (words .entry)) (now (room .entry)) (now (room .exit)) (now (output .entry)) (now (output .exit)) (r .verdict) (r .nodes) (r .trials) ⌝ }
+    ensures { λ r. ⌜ ToCount above (now (words .entry)) (value (target .words)) (now (room .entry)) (now (room .exit)) (now (output .entry)) (now (output .exit)) (r .verdict) (r .nodes) (r .trials) ⌝ }
 {
     let verdict = admit(words, room, Output::Diagram(output.len()));
     let Verdict::Accepted { nodes, vars } = verdict else {
@@ -147,7 +144,7 @@ pub fn underapproximate_to_cardinality(
     room: &mut [u32],
     output: &mut [u32],
 ) -> Approximated
-    ensures { λ r. ⌜ Meets (underCountVerdict (now (words .entry)) (value (target .words)) (length (now (output .entry))) (length (now (room .entry)))) (underToCount (now (words .entry)) (value (target .words))) (now (words .entry)) (now (room .entry)) (now (room .exit)) (now (output .entry)) (now (output .exit)) (r .verdict) (r .nodes) (r .trials) ⌝ }
+    ensures { λ r. ⌜ UnderToCount (now (words .entry)) (value (target .words)) (now (room .entry)) (now (room .exit)) (now (output .entry)) (now (output .exit)) (r .verdict) (r .nodes) (r .trials) ⌝ }
 {
     to_count(words, target, false, room, output)
 }
@@ -159,7 +156,7 @@ pub fn overapproximate_to_cardinality(
     room: &mut [u32],
     output: &mut [u32],
 ) -> Approximated
-    ensures { λ r. ⌜ Meets (overCountVerdict (now (words .entry)) (value (target .words)) (length (now (output .entry))) (length (now (room .entry)))) (overToCount (now (words .entry)) (value (target .words))) (now (words .entry)) (now (room .entry)) (now (room .exit)) (now (output .entry)) (now (output .exit)) (r .verdict) (r .nodes) (r .trials) ⌝ }
+    ensures { λ r. ⌜ OverToCount (now (words .entry)) (value (target .words)) (now (room .entry)) (now (room .exit)) (now (output .entry)) (now (output .exit)) (r .verdict) (r .nodes) (r .trials) ⌝ }
 {
     to_count(words, target, true, room, output)
 }

@@ -10,10 +10,9 @@ use size_search::Sized;
 use size_search::under_size;
 use trials::answers::give;
 use trials::answers::give_back;
-ghost use lib.ListN.{length};
 ghost use Rattle.approximation.specs.Search.{underToSize, overToSize};
-ghost use Rattle.targets.specs.Targets.{sizeVerdict, Meets};
-ghost use Rattle.targets.specs.Hits.{toSize, Targeting, Hit};
+ghost use Rattle.targets.specs.Targets.{UnderToSize, OverToSize};
+ghost use Rattle.targets.specs.Hits.{toSize, ToSize, Targeting, Hit};
 
 fn under(
     words: &[u32],
@@ -79,7 +78,7 @@ fn to_size(
     room: &mut [u32],
     output: &mut [u32],
 ) -> Approximated
-    ensures { λ r. ⌜ Meets (sizeVerdict (now (words .entry)) (length (now (output .entry))) (length (now (room .entry)))) (toSize above (now (words .entry)) target) (now (words .entry)) (now (room .entry)) (now (room .exit)) (now (output .entry)) (now (output .exit)) (r .verdict) (r .nodes) (r .trials) ⌝ }
+    ensures { λ r. ⌜ ToSize above (now (words .entry)) target (now (room .entry)) (now (room .exit)) (now (output .entry)) (now (output .exit)) (r .verdict) (r .nodes) (r .trials) ⌝ }
 {
     let verdict = admit(words, room, Output::Diagram(output.len()));
     let Verdict::Accepted { nodes, vars } = verdict else {
@@ -104,7 +103,7 @@ pub fn underapproximate_to_size(
     room: &mut [u32],
     output: &mut [u32],
 ) -> Approximated
-    ensures { λ r. ⌜ Meets (sizeVerdict (now (words .entry)) (length (now (output .entry))) (length (now (room .entry)))) (underToSize (now (words .entry)) target) (now (words .entry)) (now (room .entry)) (now (room .exit)) (now (output .entry)) (now (output .exit)) (r .verdict) (r .nodes) (r .trials) ⌝ }
+    ensures { λ r. ⌜ UnderToSize (now (words .entry)) target (now (room .entry)) (now (room .exit)) (now (output .entry)) (now (output .exit)) (r .verdict) (r .nodes) (r .trials) ⌝ }
 {
     to_size(words, target, false, room, output)
 }
@@ -116,7 +115,7 @@ pub fn overapproximate_to_size(
     room: &mut [u32],
     output: &mut [u32],
 ) -> Approximated
-    ensures { λ r. ⌜ Meets (sizeVerdict (now (words .entry)) (length (now (output .entry))) (length (now (room .entry)))) (overToSize (now (words .entry)) target) (now (words .entry)) (now (room .entry)) (now (room .exit)) (now (output .entry)) (now (output .exit)) (r .verdict) (r .nodes) (r .trials) ⌝ }
+    ensures { λ r. ⌜ OverToSize (now (words .entry)) target (now (room .entry)) (now (room .exit)) (now (output .entry)) (now (output .exit)) (r .verdict) (r .nodes) (r .trials) ⌝ }
 {
     to_size(words, target, true, room, output)
 }

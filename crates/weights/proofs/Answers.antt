@@ -17,14 +17,14 @@ use Rattle.naturals.proofs.Spelling.{words-length, words-of, words-value}
 use Rattle.diagram.specs.Limits.{maxNodes}
 use Rattle.diagram.specs.Diagram.{size, vars, holds}
 use Rattle.diagram.specs.Valuations.{meets, weightOf}
-use Rattle.diagram.specs.Verdict.{Outcome, accepted, refused, said, row, andThen, roomOf, short, verdictOf, Checked}
+use Rattle.diagram.specs.Verdict.{Outcome, accepted, refused, row, andThen, roomOf, short, verdictOf, Checked}
 use Rattle.diagram.specs.declared.verdict.Verdict.{Verdict}
 use Rattle.diagram.specs.declared.verdict.Verdict.the-variants.{Accepted as Yes, Refused as No}
 use Rattle.diagram.specs.declared.verdict.Output.the-variants.{Weights}
 use Rattle.diagram.proofs.Tests.{by-eq}
 use Rattle.diagram.proofs.Tally.{tally-most}
 use Rattle.diagram.proofs.Meaning.{verdict-accepted}
-use Rattle.diagram.proofs.Entering.{admitted, ordered, lent-fits, lent-back}
+use Rattle.diagram.proofs.Entering.{refusal-is, verdict-is, admitted, ordered, lent-fits, lent-back, answers-refused, answers-accepted}
 use Rattle.weights.specs.Weighed.{weightsVerdict, weightWords, Weighs}
 use Rattle.levels.specs.Chains.{Given}
 use Rattle.counts.specs.Table.{entry}
@@ -33,16 +33,16 @@ use Rattle.weights.proofs.Entries.{entry-front}
 
 -- ---- the verdict, row by row
 
-module _ (w : List ℕ) (lent room : ℕ) where
-  as-checked : {k p : ℕ} → verdictOf w (Weights lent) room ≡ refused k p → weightsVerdict w lent room ≡ refused k p
+module _ (w : List ℕ) (room lent : ℕ) where
+  as-checked : {k p : ℕ} → verdictOf w (Weights lent) room ≡ refused k p → weightsVerdict w room lent ≡ refused k p
   unfolding weightsVerdict
   as-checked e = rw e
 
-  of-false : {n v : ℕ} → verdictOf w (Weights lent) room ≡ accepted n v → size w ≡ 1 → weightsVerdict w lent room ≡ refused 15 0
+  of-false : {n v : ℕ} → verdictOf w (Weights lent) room ≡ accepted n v → size w ≡ 1 → weightsVerdict w room lent ≡ refused 15 0
   unfolding weightsVerdict row
   of-false e one = rw (e, eq-eqb (size w) 1 one)
 
-  of-others : {n v : ℕ} → verdictOf w (Weights lent) room ≡ accepted n v → size w ≢ 1 → weightsVerdict w lent room ≡ accepted (size w) (vars w)
+  of-others : {n v : ℕ} → verdictOf w (Weights lent) room ≡ accepted n v → size w ≢ 1 → weightsVerdict w room lent ≡ accepted (size w) (vars w)
   unfolding weightsVerdict row
   of-others e more = rw (e, ne-eqb (size w) 1 more)
 
@@ -99,19 +99,17 @@ stands {w} {n} room part fits same h =
     }
 
 module _ {w : List ℕ} (out : List ℕ) {room after : List ℕ} {r : Verdict} (c : Checked w (Weights (length out)) room after r) where
-  pub weights-refused : {k p : ℕ} → r ≡ No k p → Weighs w out out room after r
-  weights-refused {k} {p} e =
-      let v = as-checked w (length out) (length room) (sym (c .verdict) ∙ ap said e) in
-      record { verdict = ap said e ∙ sym v; output = rw v refl; left = c .left }
+  abbrev all : List ℕ
+  all = weightWords w (size w)
+
+  pub weights-refused : {k p : ℕ} → r ≡ No k p → Weighs w room after out out r
+  weights-refused e = answers-refused (weightsVerdict w) Weights all out (c .left) e (as-checked w (length room) (length out) (refusal-is c e))
 
   module _ {n u : ℕ} (e : r ≡ Yes n u) where
-    is-accepted : verdictOf w (Weights (length out)) (length room) ≡ accepted n u
-    is-accepted = sym (c .verdict) ∙ ap said e
-
-    pub weights-of-false : n ≡ 1 → Weighs w out out room after (No 15 0)
+    pub weights-of-false : n ≡ 1 → Weighs w room after out out (No 15 0)
     weights-of-false one =
-        let v = of-false w (length out) (length room) is-accepted (omega (arith, admitted c e .nodes)) in
-        record { verdict = sym v; output = rw v refl; left = c .left }
+        answers-refused (weightsVerdict w) Weights all out (c .left) refl
+        (of-false w (length room) (length out) (verdict-is c e) (omega (arith, admitted c e .nodes)))
 
     pub weights-few : n ≤ maxNodes
     weights-few = omega (arith, admitted c e .nodes, admitted c e .accepted .formed .few)
@@ -152,16 +150,13 @@ module _ {w : List ℕ} (out : List ℕ) {room after : List ℕ} {r : Verdict} (
             ∙ rw (long, s .rest) (lent-back c e (weightsTo n) used-fits (replicate (length (take (weightsTo n) after)) 0) refl)
 
         pub weights-accepted : {out′ room′ : List ℕ} → Handed (weightsFrom n) stand out n out′
-            → room′ ≡ replicate (min (weightsTo n) (length stand)) 0 ++ drop (weightsTo n) stand → Weighs w out out′ room room′ (Yes n u)
-        weights-accepted {out′} {room′} h z =
+            → room′ ≡ replicate (min (weightsTo n) (length stand)) 0 ++ drop (weightsTo n) stand → Weighs w room room′ out out′ (Yes n u)
+        weights-accepted h z =
             let a = admitted c e in
-            let v = of-others w (length out) (length room) is-accepted (λ one. more (omega (arith, a .nodes))) in
+            let v = of-others w (length room) (length out) (verdict-is c e) (λ one. more (omega (arith, a .nodes))) in
             let same : accepted n u ≡ accepted (size w) (vars w) = rw (a .nodes, a .variables) in
-            record {
-              verdict = same ∙ sym v;
-              output = rw v (weights-out h);
-              left = room-back z ∙ c .left;
-            }
+            answers-accepted (weightsVerdict w) Weights all out (room-back z ∙ c .left) refl (v ∙ sym same)
+            (rw (words-long w (size w)) (weights-out h))
 
 -- ---- what a caller reads: where the words are accepted, each node's weight stands in its place
 
@@ -169,30 +164,30 @@ checked-first : (x y : Outcome) {n v : ℕ} → andThen x y ≡ accepted n v →
 checked-first (accepted m u) y e = (m, u, refl)
 checked-first (refused k p) y e = let z : _≡_ {A = ℕ} 0 1 = cc in absurd (omega arith)
 
-module _ {w before after room room′ : List ℕ} {r : Verdict} (a : Weighs w before after room room′ r) {n v : ℕ}
-    (yes-case : weightsVerdict w (length before) (length room) ≡ accepted n v) where
-  words-are : after ≡ weightWords w (size w) ++ drop (wordCount * size w) before
-  words-are = rw yes-case at (a .output)
+module _ {w room room′ out out′ : List ℕ} {r : Verdict} (a : Weighs w room room′ out out′ r) {n v : ℕ}
+    (yes-case : weightsVerdict w (length room) (length out) ≡ accepted n v) where
+  words-are : out′ ≡ weightWords w (size w) ++ drop (wordCount * size w) out
+  words-are = rw (words-long w (size w)) at (rw yes-case at (a .output))
 
-  checked-as : (m : ℕ) × (u : ℕ) × (verdictOf w (Weights (length before)) (length room) ≡ accepted m u)
+  checked-as : (m : ℕ) × (u : ℕ) × (verdictOf w (Weights (length out)) (length room) ≡ accepted m u)
   unfolding weightsVerdict
-  checked-as = checked-first (verdictOf w (Weights (length before)) (length room)) _ yes-case
+  checked-as = checked-first (verdictOf w (Weights (length out)) (length room)) _ yes-case
 
-  pub weighed-long : length after ≡ length before
+  pub weighed-long : length out′ ≡ length out
   unfolding short
   weighed-long =
       let f = checked-as in
-      let d = verdict-accepted w (Weights (length before)) (length room) (f .0) (f .1) (f .2) in
-      let fits : wordCount * size w ≤ length before = ltb-false (length before) (wordCount * size w) (d .lent) in
-      ap length words-are ∙ length-append (weightWords w (size w)) (drop (wordCount * size w) before)
-      ∙ omega (arith, words-long w (size w), length-drop (wordCount * size w) before)
+      let d = verdict-accepted w (Weights (length out)) (length room) (f .0) (f .1) (f .2) in
+      let fits : wordCount * size w ≤ length out = ltb-false (length out) (wordCount * size w) (d .lent) in
+      ap length words-are ∙ length-append (weightWords w (size w)) (drop (wordCount * size w) out)
+      ∙ omega (arith, words-long w (size w), length-drop (wordCount * size w) out)
 
-  pub weighed-at : (q : ℕ) → q < size w → value (take wordCount (drop (wordCount * q) after)) ≡ weightOf w q
+  pub weighed-at : (q : ℕ) → q < size w → value (take wordCount (drop (wordCount * q) out′)) ≡ weightOf w q
   weighed-at q h =
       let f = checked-as in
-      let d = verdict-accepted w (Weights (length before)) (length room) (f .0) (f .1) (f .2) in
+      let d = verdict-accepted w (Weights (length out)) (length room) (f .0) (f .1) (f .2) in
       let few : vars w < 32 * wordCount = omega (arith, d .accepted .formed .variables) in
       let small = below (weightOf w q) (2 ^ vars w) (2 ^ (32 * wordCount)) (tally-most (vars w) (λ bs. holds w bs && meets w bs (eqb q))) (pow-lt few) in
       ap (λ (l : List ℕ). value (take wordCount (drop (wordCount * q) l))) words-are
-      ∙ ap value (words-at w (size w) q (drop (wordCount * size w) before) h)
+      ∙ ap value (words-at w (size w) q (drop (wordCount * size w) out) h)
       ∙ words-value wordCount (weightOf w q) small

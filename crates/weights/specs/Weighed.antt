@@ -1,23 +1,23 @@
 -- What the weights of a diagram's nodes are answered with (document 01, port order 6), and what they are numbers of.
-use Prim.Native.Nat.{ℕ, zero, suc, _*_}
+use Prim.Native.Nat.{ℕ, zero, suc}
 use mathlib.Core.Path.{_≡_}
 use mathlib.Core.Bool.{true, _&&_}
 use mathlib.Core.List.{List, [], _++_}
-use lib.ListN.{length, drop}
+use lib.ListN.{length}
 use lib.Dec.{eqb}
 use Rattle.naturals.specs.Natural.{wordCount}
 use Rattle.naturals.specs.Spelling.{wordsOf}
 use Rattle.diagram.specs.Diagram.{size, vars, root, holds}
 use Rattle.diagram.specs.Valuations.{countOf, meets, weightOf}
-use Rattle.diagram.specs.Verdict.{Outcome, accepted, said, row, andThen, verdictOf, ifAccepted, roomAfter}
+use Rattle.diagram.specs.Verdict.{Outcome, accepted, row, andThen, verdictFor, Answers}
 use Rattle.diagram.specs.declared.verdict.Verdict.{Verdict}
 use Rattle.diagram.specs.declared.verdict.Output.the-variants.{Weights}
 use Rattle.counts.specs.Counting.{Number}
 
 -- The check for an output of weights, then 15 for the diagram of one node.
 unfoldable pub weightsVerdict : List ℕ → ℕ → ℕ → Outcome
-weightsVerdict w lent room =
-    andThen (verdictOf w (Weights lent) room)
+weightsVerdict w room lent =
+    andThen (verdictFor Weights w room lent)
     (row 15 (eqb (size w) 1) 0
     (accepted (size w) (vars w)))
 
@@ -26,12 +26,9 @@ unfoldable pub weightWords : List ℕ → ℕ → List ℕ
 weightWords w zero = []
 weightWords w (suc n) = weightWords w n ++ wordsOf wordCount (weightOf w n)
 
--- The verdict; where it accepts, the weights of all nodes and behind them the output as it was, and where it refuses, the
--- output as it was; the room as the check leaves it.
-pub record Weighs (w before after room room-after : List ℕ) (r : Verdict) : Type 0 where
-  pub verdict : said r ≡ weightsVerdict w (length before) (length room)
-  pub output : after ≡ ifAccepted (weightsVerdict w (length before) (length room)) (weightWords w (size w) ++ drop (wordCount * size w) before) before
-  pub left : room-after ≡ roomAfter w (Weights (length before)) room
+-- What the operation answers: that verdict, and the weights of all nodes in the output.
+abbrev pub Weighs : (w room room′ out out′ : List ℕ) → Verdict → Type 0
+Weighs w = Answers (weightsVerdict w) Weights (weightWords w (size w)) w
 
 -- A node's weight is the number of the valuations for which the diagram holds and whose path visits the node. Node 0 has 0;
 -- node 1 and the root have the full count (`weighing` of proofs/Visits.antt).

@@ -13,8 +13,8 @@ use weigh::weigh;
 ghost use Rattle.weights.specs.Weighed.{Weighs};
 
 // Eight words of the output for each node, in the order of the nodes.
-pub fn node_valuation_weights(words: &[u32], output: &mut [u32], room: &mut [u32]) -> Verdict
-    ensures { λ r. ⌜ Weighs (now (words .entry)) (now (output .entry)) (now (output .exit)) (now (room .entry)) (now (room .exit)) r ⌝ }
+pub fn node_valuation_weights(words: &[u32], room: &mut [u32], output: &mut [u32]) -> Verdict
+    ensures { λ r. ⌜ Weighs (now (words .entry)) (now (room .entry)) (now (room .exit)) (now (output .entry)) (now (output .exit)) r ⌝ }
 {
     let verdict = admit(words, room, Output::Weights(output.len()));
     let Verdict::Accepted { nodes, vars } = verdict else {

@@ -117,7 +117,7 @@ fn weighed(verdict: Verdict) -> usize
 fn run_case(words: &[u32], output: &mut [u32], room: &mut [u32], filled: u32, marked: u32) {
     fill(output, filled);
     fill(room, marked);
-    let verdict = node_valuation_weights(words, output, room);
+    let verdict = node_valuation_weights(words, room, output);
     say_verdict(verdict);
     say_room(room, marked);
     say_output(output, filled, weighed(verdict));

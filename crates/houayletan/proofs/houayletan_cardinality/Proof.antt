@@ -1,7 +1,7 @@
 -- `houayletan::houayletan_cardinality` meets its contract.
-use mathlib.Core.Path.{ap, _∙_}
+use Rattle.cardinality.specs.Cardinality.{CountsFloat}
+use Rattle.houayletan.proofs.Flattening.{flat-float}
 use borrow.Author.Needs.{needs}
-use Rattle.houayletan.specs.Flat.{flatOf}
 use Rattle.houayletan.proofs.houayletan_cardinality.Statement.{statement}
 use Rattle.houayletan.proofs.houayletan_cardinality.Tie as tie
 
@@ -15,13 +15,7 @@ same-length : tie.Need-same-length
 same-length c = search needs
 
 returns : tie.Need-returns
-returns c =
-    let answer = c .before .before .before .cardinality .ensures in
-    record {
-      verdict = c .flat-float .ensures .0 ∙ ap flatOf (answer .checked .verdict);
-      count = c .flat-float .ensures .1 ∙ answer .counted;
-      left = answer .checked .left;
-    }
+returns c = flat-float (CountsFloat _ _ _) (c .before .before .before .cardinality .ensures) _ (c .flat-float .ensures)
 
 pub houayletan-cardinality-spec : {M : Type 1} → statement M
 houayletan-cardinality-spec = tie.close (tie.spec cardinality-requires flat-float-requires same-length returns)

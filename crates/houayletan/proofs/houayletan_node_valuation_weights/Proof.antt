@@ -1,7 +1,7 @@
 -- `houayletan::houayletan_node_valuation_weights` meets its contract.
-use mathlib.Core.Path.{ap, _∙_}
+use Rattle.weights.specs.Weighed.{Weighs}
+use Rattle.houayletan.proofs.Flattening.{flat-verdict}
 use borrow.Author.Needs.{needs}
-use Rattle.houayletan.specs.Flat.{flatOf}
 use Rattle.houayletan.proofs.houayletan_node_valuation_weights.Statement.{statement}
 use Rattle.houayletan.proofs.houayletan_node_valuation_weights.Tie as tie
 
@@ -18,13 +18,7 @@ same-length-2 : tie.Need-same-length-2
 same-length-2 c = search needs
 
 returns : tie.Need-returns
-returns c =
-    let answer = c .before .before .before .before .before .node-valuation-weights .ensures in
-    record {
-      verdict = c .flat .ensures ∙ ap flatOf (answer .verdict);
-      output = answer .output;
-      left = answer .left;
-    }
+returns c = flat-verdict (Weighs _ _ _ _ _) (c .before .before .before .before .before .node-valuation-weights .ensures) _ (c .flat .ensures)
 
 pub houayletan-node-valuation-weights-spec : {M : Type 1} → statement M
 houayletan-node-valuation-weights-spec =

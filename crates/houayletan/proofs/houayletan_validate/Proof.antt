@@ -1,7 +1,7 @@
 -- `houayletan::houayletan_validate` meets its contract.
-use mathlib.Core.Path.{ap, _∙_}
+use Rattle.diagram.specs.Verdict.{Checked}
+use Rattle.houayletan.proofs.Flattening.{flat-verdict}
 use borrow.Author.Needs.{needs}
-use Rattle.houayletan.specs.Flat.{flatOf}
 use Rattle.houayletan.proofs.houayletan_validate.Statement.{statement}
 use Rattle.houayletan.proofs.houayletan_validate.Tie as tie
 
@@ -15,9 +15,7 @@ same-length : tie.Need-same-length
 same-length c = search needs
 
 returns : tie.Need-returns
-returns c =
-    let checked = c .before .before .before .validate .ensures in
-    (c .flat .ensures ∙ ap flatOf (checked .verdict), checked .left)
+returns c = flat-verdict (Checked _ _ _ _) (c .before .before .before .validate .ensures) _ (c .flat .ensures)
 
 pub houayletan-validate-spec : {M : Type 1} → statement M
 houayletan-validate-spec = tie.close (tie.spec validate-requires flat-requires same-length returns)

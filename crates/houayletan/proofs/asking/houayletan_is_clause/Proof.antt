@@ -1,4 +1,4 @@
-use Rattle.houayletan.proofs.Flattening.{yes-told}
+use Rattle.houayletan.proofs.Flattening.{flat-answer}
 use borrow.Author.Needs.{needs}
 use Rattle.houayletan.proofs.asking.houayletan_is_clause.Statement.{statement}
 use Rattle.houayletan.proofs.asking.houayletan_is_clause.Tie as tie
@@ -13,7 +13,7 @@ same-length : tie.Need-same-length
 same-length c = search needs
 
 returns : tie.Need-returns
-returns c = yes-told (c .before .before .before .is-clause .ensures) _ (c .flat-answer .ensures)
+returns c = flat-answer (c .before .before .before .is-clause .ensures) _ (c .flat-answer .ensures)
 
 pub houayletan-is-clause-spec : {M : Type 1} → statement M
 houayletan-is-clause-spec =

@@ -1,4 +1,4 @@
-use Rattle.houayletan.proofs.Flattening.{yes-told}
+use Rattle.houayletan.proofs.Flattening.{flat-answer}
 use borrow.Author.Needs.{needs}
 use Rattle.houayletan.proofs.asking.houayletan_is_true.Statement.{statement}
 use Rattle.houayletan.proofs.asking.houayletan_is_true.Tie as tie
@@ -13,7 +13,7 @@ same-length : tie.Need-same-length
 same-length c = search needs
 
 returns : tie.Need-returns
-returns c = yes-told (c .before .before .before .is-true .ensures) _ (c .flat-answer .ensures)
+returns c = flat-answer (c .before .before .before .is-true .ensures) _ (c .flat-answer .ensures)
 
 pub houayletan-is-true-spec : {M : Type 1} → statement M
 houayletan-is-true-spec =

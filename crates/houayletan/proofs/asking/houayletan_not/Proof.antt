@@ -1,5 +1,6 @@
 use mathlib.Core.Path.{refl}
-use Rattle.houayletan.proofs.Flattening.{not-told}
+use Rattle.negation.specs.Negation.{Negates}
+use Rattle.houayletan.proofs.Flattening.{flat-diagram}
 use borrow.Author.Needs.{needs}
 use Rattle.houayletan.proofs.asking.houayletan_not.Statement.{statement}
 use Rattle.houayletan.proofs.asking.houayletan_not.Tie as tie
@@ -17,7 +18,7 @@ same-length-2 : tie.Need-same-length-2
 same-length-2 c = search needs
 
 returns : tie.Need-returns
-returns c = not-told (c .before .before .before .before .before .not .ensures) _ (c .flat .ensures) refl
+returns c = flat-diagram (Negates _ _ _ _ _) (c .before .before .before .before .before .not .ensures) _ (c .flat .ensures, refl)
 
 pub houayletan-not-spec : {M : Type 1} → statement M
 houayletan-not-spec =

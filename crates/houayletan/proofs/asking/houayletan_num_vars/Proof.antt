@@ -1,4 +1,5 @@
-use Rattle.houayletan.proofs.Flattening.{amount-told}
+use Rattle.queries.specs.Queries.{Tells}
+use Rattle.houayletan.proofs.Flattening.{flat-amount}
 use borrow.Author.Needs.{needs}
 use Rattle.houayletan.proofs.asking.houayletan_num_vars.Statement.{statement}
 use Rattle.houayletan.proofs.asking.houayletan_num_vars.Tie as tie
@@ -13,7 +14,7 @@ same-length : tie.Need-same-length
 same-length c = search needs
 
 returns : tie.Need-returns
-returns c = amount-told (c .before .before .before .num-vars .ensures) _ (c .flat-amount .ensures)
+returns c = flat-amount (Tells _ _ _ _ _) (c .before .before .before .num-vars .ensures) _ (c .flat-amount .ensures)
 
 pub houayletan-num-vars-spec : {M : Type 1} → statement M
 houayletan-num-vars-spec =

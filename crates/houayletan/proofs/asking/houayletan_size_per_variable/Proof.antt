@@ -1,4 +1,5 @@
-use Rattle.houayletan.proofs.Flattening.{lists-told}
+use Rattle.queries.specs.Queries.{Lists}
+use Rattle.houayletan.proofs.Flattening.{flat-verdict}
 use borrow.Author.Needs.{needs}
 use Rattle.houayletan.proofs.asking.houayletan_size_per_variable.Statement.{statement}
 use Rattle.houayletan.proofs.asking.houayletan_size_per_variable.Tie as tie
@@ -16,7 +17,7 @@ same-length-2 : tie.Need-same-length-2
 same-length-2 c = search needs
 
 returns : tie.Need-returns
-returns c = lists-told (c .before .before .before .before .before .size-per-variable .ensures) _ (c .flat .ensures)
+returns c = flat-verdict (Lists _ _ _ _ _) (c .before .before .before .before .before .size-per-variable .ensures) _ (c .flat .ensures)
 
 pub houayletan-size-per-variable-spec : {M : Type 1} → statement M
 houayletan-size-per-variable-spec =

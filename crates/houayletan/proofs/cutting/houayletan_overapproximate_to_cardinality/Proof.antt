@@ -1,4 +1,5 @@
-use Rattle.houayletan.proofs.Flattening.{target-told}
+use Rattle.targets.specs.Targets.{OverToCount}
+use Rattle.houayletan.proofs.Flattening.{flat-target}
 use borrow.Author.Needs.{needs}
 use Rattle.houayletan.proofs.cutting.houayletan_overapproximate_to_cardinality.Statement.{
   statement,
@@ -18,7 +19,7 @@ same-length-2 : tie.Need-same-length-2
 same-length-2 c = search needs
 
 returns : tie.Need-returns
-returns c = target-told (c .before .before .before .before .before .overapproximate-to-cardinality .ensures) _ (c .flat-target .ensures)
+returns c = flat-target (OverToCount _ _ _ _ _ _) (c .before .before .before .before .before .overapproximate-to-cardinality .ensures) _ (c .flat-target .ensures)
 
 pub houayletan-overapproximate-to-cardinality-spec : {M : Type 1} → statement M
 houayletan-overapproximate-to-cardinality-spec =

@@ -1,4 +1,5 @@
-use Rattle.houayletan.proofs.Flattening.{cut-told}
+use Rattle.cuts.specs.Approximates.{Approximates}
+use Rattle.houayletan.proofs.Flattening.{flat-diagram}
 use borrow.Author.Needs.{needs}
 use Rattle.houayletan.proofs.cutting.houayletan_underapproximate.Statement.{statement}
 use Rattle.houayletan.proofs.cutting.houayletan_underapproximate.Tie as tie
@@ -16,7 +17,7 @@ same-length-2 : tie.Need-same-length-2
 same-length-2 c = search needs
 
 returns : tie.Need-returns
-returns c = cut-told (c .before .before .before .before .before .underapproximate .ensures) _ (c .flat-cut .ensures)
+returns c = flat-diagram (Approximates _ _ _ _ _ _ _) (c .before .before .before .before .before .underapproximate .ensures) _ (c .flat-cut .ensures)
 
 pub houayletan-underapproximate-spec : {M : Type 1} → statement M
 houayletan-underapproximate-spec =

@@ -1,4 +1,5 @@
-use Rattle.houayletan.proofs.Flattening.{target-told}
+use Rattle.targets.specs.Targets.{UnderToSize}
+use Rattle.houayletan.proofs.Flattening.{flat-target}
 use borrow.Author.Needs.{needs}
 use Rattle.houayletan.proofs.cutting.houayletan_underapproximate_to_size.Statement.{
   statement,
@@ -18,7 +19,7 @@ same-length-2 : tie.Need-same-length-2
 same-length-2 c = search needs
 
 returns : tie.Need-returns
-returns c = target-told (c .before .before .before .before .before .underapproximate-to-size .ensures) _ (c .flat-target .ensures)
+returns c = flat-target (UnderToSize _ _ _ _ _ _) (c .before .before .before .before .before .underapproximate-to-size .ensures) _ (c .flat-target .ensures)
 
 pub houayletan-underapproximate-to-size-spec : {M : Type 1} → statement M
 houayletan-underapproximate-to-size-spec =
