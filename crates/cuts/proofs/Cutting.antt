@@ -15,7 +15,7 @@ use Rattle.diagram.specs.Verdict.{most}
 use Rattle.diagram.proofs.Tests.{by-eq}
 use Rattle.room_map.specs.Map.{tablesFrom, answerFrom, tablesTo}
 use Rattle.reduction.specs.Reduce.{reduce}
-use Rattle.store.specs.Room.{storeTo, Placed as PlacedAt, Forgotten}
+use Rattle.store.specs.Room.{storeTo, Space, Forgotten}
 use Rattle.reduction.specs.Room.{memoFrom, Asked, Placed, Shelved}
 use Rattle.approximation.specs.Constants.{falseOf, trueOf}
 use Rattle.approximation.specs.Cut.{cut, send}
@@ -34,8 +34,8 @@ module _ {w shelf : List ℕ} {c n v : ℕ} (b : Building w shelf c n v) {m : �
   shelf-most : m ≡ most w
   shelf-most = is-m ∙ ap (λ (k : ℕ). max k 2) (b .is-size)
 
-  pub shelf-placed : {cleared : List ℕ} → length cleared ≡ length shelf → PlacedAt m c cleared
-  shelf-placed same =
+  pub shelf-space : {cleared : List ℕ} → length cleared ≡ length shelf → Space m c cleared
+  shelf-space same =
       let is-most = shelf-most in
       let few = b .ordered .formed .few in
       let within = b .within in

@@ -1,12 +1,9 @@
 -- The reduced diagram from a room that is zero: how the walk starts, and what is left in output and room.
 use Prim.Native.Nat.{ℕ, zero, suc, _+_, _-_, _*_, _≤_, _<_, min, max}
 use mathlib.Core.Path.{_≡_, refl, sym, ap, _∙_, subst}
-use mathlib.Core.Bool.{Bool, true, false}
 use mathlib.Core.List.{List, _++_}
 use native.Mathlib.Omega.{arith}
 use native.Mathlib.Decide.{ℕ-discrete, decLt}
-use borrow.Author.Tests.{ltb-true, ltb-false}
-use lib.Dec.{ltb}
 use lib.ListN.{length, getD, set, take, drop, replicate, length-append, length-drop, length-replicate, take-append-drop, List·getD-append}
 use lib.Seq.{getD-set-same, getD-set-other, getD-take, getD-drop, getD-append-add, ext-getD, length-take-le}
 use Rattle.diagram.specs.Limits.{maxNodes}
@@ -15,7 +12,7 @@ use Rattle.diagram.specs.Verdict.{most as most-of}
 use Rattle.diagram.proofs.Reading.{layered, root-in}
 use Rattle.store.specs.Store.{Node, words, Built, terminals}
 use Rattle.store.specs.Build.{Held, own}
-use Rattle.store.specs.Room.{farthest, headsFrom, storeTo, wordIn, memoIn, storeIn, Stored, Empty, Started, On, Walking, Arrived, Walked}
+use Rattle.store.specs.Room.{farthest, storeTo, wordIn, memoIn, storeIn, Stored, Empty, Started, On, Walking, Arrived, Walked}
 use Rattle.store.proofs.Store.{length-words, size-words}
 use Rattle.store.proofs.Sound.{sound-terminals}
 use Rattle.store.proofs.Graph.{own-means}
@@ -72,7 +69,7 @@ module _ {w r : List ℕ} {c n v : ℕ} (a : Asked w r c n v) {m : ℕ} (is-m : 
   pub make-empty : Empty m c r
   make-empty =
       let few = lent-few in
-      rw most-is (record { placed = record { near = rw most-is at (lent-near few); few = a .few; long = a .long }; two = a .two; heads = a .heads })
+      rw most-is (record { space = record { near = rw most-is at (lent-near few); few = a .few; long = a .long }; two = a .two; heads = a .heads })
     where
       lent-near : m ≤ maxNodes → m ≤ farthest
       lent-near few = omega arith
@@ -131,15 +128,15 @@ module _ {w r : List ℕ} {c n v : ℕ} (a : Asked w r c n v) {m : ℕ} (is-m : 
     unfolding whole
     whole-fits = store-fits w (a .ordered)
 
-    module _ {p : ℕ} (is-p : p ≡ n - 1) {t : List ℕ} {x k : ℕ} {full : Bool} (walked : Walked w memoFrom m c s 2 p t x k full) where
+    module _ {p : ℕ} (is-p : p ≡ n - 1) {t : List ℕ} {x k : ℕ} (walked : Walked w memoFrom m c s 2 p t x k) where
       made : own w (vars w) p (storeIn m s 2) ≡ whole
       unfolding whole
       made =
           let at-root : p ≡ root w = is-p ∙ ap (λ (k : ℕ). k - 1) (a .is-size) in
           rw (at-root, first-store) refl
 
-      told-full : full ≡ ltb c (length (whole .store))
-      told-full = walked .is-full ∙ ap (λ (b : Built). ltb c (length (b .store))) made
+      told-count : k ≡ min (length (whole .store)) (suc c)
+      told-count = walked .is-count ∙ ap (λ (b : Built). min (length (b .store)) (suc c)) made
 
       module _ (same : length t ≡ length r) where
         kept-beyond : (j : ℕ) → storeTo (most-of w) c ≤ j → getD t j 0 ≡ getD r j 0
@@ -147,17 +144,20 @@ module _ {w r : List ℕ} {c n v : ℕ} (a : Asked w r c n v) {m : ℕ} (is-m : 
             let is-most = most-is in
             walked .beyond j (λ i h e. omega arith) (λ i h e. omega arith) ∙ started .beyond j (λ i h e. omega arith)
 
-        pub make-full : full ≡ true → Shelved w r t c (c + 1)
-        make-full e =
-            let over = ltb-true c (length (whole .store)) (sym told-full ∙ e) in
+        pub make-full : c < k → Shelved w r t c (c + 1)
+        make-full over =
+            let is = told-count in
             let two = a .two in
             let last = pointer-last (omega arith) in
             let nodes = result-nodes in
             record { count = omega arith; placed = λ h. absurd (omega arith); kept = same; beyond = kept-beyond }
 
-        module _ (no-full : full ≡ false) where
-          arrived : Arrived w memoFrom m c s 2 p t x k
-          arrived = walked .arrived no-full
+        module _ (few : k ≤ c) where
+          arrived : Arrived w memoFrom m c s 2 p t x
+          arrived = walked .arrived few
+
+          store-few : length (whole .store) ≤ c
+          store-few = let is = told-count in omega arith
 
           is-pointer : x ≡ whole .pointer
           is-pointer = arrived .is-pointer ∙ ap (λ (b : Built). b .pointer) made
@@ -166,15 +166,15 @@ module _ {w r : List ℕ} {c n v : ℕ} (a : Asked w r c n v) {m : ℕ} (is-m : 
           answer-small =
               let e = is-pointer in
               let inside = pointer-in in
-              let fits = ltb-false c (length (whole .store)) (sym told-full ∙ no-full) in
-              let few = a .few in
+              let fits = store-few in
+              let most = a .few in
               omega arith
 
           stored : take (3 * suc (whole .pointer)) (drop (most-of w) t) ≡ reduce w
           stored =
               let held = arrived .on .stored .held in
               let inside = pointer-in in
-              let fits = ltb-false c (length (whole .store)) (sym told-full ∙ no-full) in
+              let fits = store-few in
               let long = a .long in
               let rest = length-drop (most-of w) t in
               take-words (whole .store) (wordIn m t) (subst (λ (b : Built). Held (b .store) (wordIn m t)) made held) (drop (most-of w) t) (suc (whole .pointer)) inside (omega arith)
@@ -187,7 +187,7 @@ module _ {w r : List ℕ} {c n v : ℕ} (a : Asked w r c n v) {m : ℕ} (is-m : 
               let is-y : y ≡ suc (whole .pointer) = omega arith in
               let nodes = result-nodes in
               let inside = pointer-in in
-              let fits = ltb-false c (length (whole .store)) (sym told-full ∙ no-full) in
+              let fits = store-few in
               let least = whole-fits in
               rw is-y (record {
                 count = omega arith;

@@ -1,17 +1,17 @@
 -- From the check to the answer.
-use Prim.Native.Nat.{ℕ, _+_}
+use Prim.Native.Nat.{ℕ, _+_, _<_}
 use mathlib.Core.Path.{_≡_, refl, _∙_}
 use mathlib.Core.List.{List}
 use native.Mathlib.Omega.{arith}
-use lib.ListN.{length}
+use lib.ListN.{length, getD}
 use Rattle.diagram.specs.Verdict.{most, verdictFor, Checked}
 use Rattle.diagram.specs.declared.verdict.Output.the-variants.{Diagram}
 use Rattle.diagram.specs.declared.verdict.Verdict.{Verdict}
 use Rattle.diagram.specs.declared.verdict.Verdict.the-variants.{Accepted, Refused}
 use Rattle.diagram.proofs.Entering.{refusal-is, verdict-is, admitted, ordered, lent-fits, lent-word, lent-enough, builds-refused, builds-accepted}
+use Rattle.store.specs.Room.{headsFrom, storeTo}
 use Rattle.reduction.specs.Reduce.{reduce}
 use Rattle.reduction.specs.Answer.{Reduces}
-use Rattle.store.specs.Room.{headsFrom, storeTo}
 use Rattle.reduction.specs.Room.{memoFrom, Lent, Answered}
 
 module _ {w room room′ : List ℕ} (out : List ℕ) {r : Verdict} (c : Checked w (Diagram (length out)) room room′ r) where
@@ -22,18 +22,19 @@ module _ {w room room′ : List ℕ} (out : List ℕ) {r : Verdict} (c : Checked
     pub reduce-asks : Lent w room′ out n v
     reduce-asks =
         let given = admitted c e in
+        let zero : (j : ℕ) → j < storeTo (most w) (most w) → getD room′ j 0 ≡ 0 = lent-word c e (storeTo (most w) (most w)) (omega arith) in
         record {
           asked = record {
             ordered = ordered c e;
             is-size = given .nodes;
             is-vars = given .variables;
             two = omega arith;
-            few = let few = given .accepted .formed .few in omega arith;
+            few = let few = ordered c e .formed .few in omega arith;
             long = lent-fits c e (storeTo (most w) (most w)) (omega arith);
-            memo = λ p h. lent-word c e (storeTo (most w) (most w)) (omega arith) (memoFrom + p) (omega arith);
-            heads = λ h in-h. lent-word c e (storeTo (most w) (most w)) (omega arith) (headsFrom (most w) (most w) + h) (omega arith);
+            memo = λ p h. zero (memoFrom + p) (omega arith);
+            heads = λ h in-h. zero (headsFrom (most w) (most w) + h) (omega arith);
           };
-          zero = lent-word c e (storeTo (most w) (most w)) (omega arith);
+          zero = zero;
           output = lent-enough w (length out) (given .lent);
         }
 

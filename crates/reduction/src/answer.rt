@@ -38,7 +38,7 @@ pub fn make(words: &[u32], room: &mut [u32], limit: usize, nodes: usize, vars: u
     start(room, base, limit, vars);
     let root = BddPointer((nodes - 1) as u32);
     let made = build(words, room, MEMO, base, limit, 2, root);
-    if made.full {
+    if limit < made.count {
         return limit + 1;
     }
     made.pointer.to_index() + 1

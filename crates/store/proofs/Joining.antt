@@ -7,12 +7,12 @@ use mathlib.Core.List.{List, [], _∷_, _++_}
 use native.Mathlib.Omega.{arith}
 use lib.ListN.{length, getD, drop, replicate}
 use borrow.Rule.Slice.PartMut.{putMid, midOf}
-use lib.Dec.{ltb, eqb}
-use borrow.Author.Tests.{eq-eqb, lt-ltb, le-ltb}
+use lib.Dec.{eqb}
+use borrow.Author.Tests.{eq-eqb}
 use Rattle.diagram.specs.Limits.{maxNodes}
 use Rattle.store.specs.Store.{Node, node, same, Built, built, join, terminals}
 use Rattle.store.specs.Build.{at, Seek}
-use Rattle.store.specs.Room.{nextFrom, headsFrom, storeTo, storeWords, wordIn, nextIn, headIn, storeIn, keyOf, Outside, started, entered, Stored, Placed, Forgotten, Empty, Started, Shelf, Sought, Standing, Done}
+use Rattle.store.specs.Room.{nextFrom, headsFrom, storeTo, storeWords, wordIn, nextIn, headIn, storeIn, keyOf, Outside, started, entered, Stored, Space, Forgotten, Empty, Started, Shelf, Sought, Standing, Done}
 use Rattle.store.proofs.Store.{same-yes, same-no, node-discrete, length-add}
 use Rattle.store.proofs.Canon.{join-equal, join-there, join-new}
 use Rattle.store.proofs.Chains.{chains-start, chains-add, seek-start, seek-next, seek-falls, seek-found, seek-missing}
@@ -22,7 +22,7 @@ use Rattle.store.proofs.Zones.{key-below, started-other, started-length
 -- ---- the start
 
 -- The keys' words are cleared.
-pub forgotten : {b c : ℕ} {r : List ℕ} → Placed b c r → {part : List ℕ}
+pub forgotten : {b c : ℕ} {r : List ℕ} → Space b c r → {part : List ℕ}
     → part ≡ replicate (min c (length (midOf (headsFrom b c) (storeTo b c - headsFrom b c) r))) 0 ++ drop c (midOf (headsFrom b c) (storeTo b c - headsFrom b c) r)
     → Forgotten b c r (putMid (headsFrom b c) (storeTo b c - headsFrom b c) r part)
 forgotten {b} {c} {r} a e = record {
@@ -32,17 +32,17 @@ forgotten {b} {c} {r} a e = record {
 
 module _ {b c : ℕ} {r : List ℕ} (a : Empty b c r) where
   pub empty-near : b + 5 < length r
-  empty-near = let long = a .placed .long in let two = a .two in omega arith
+  empty-near = let long = a .space .long in let two = a .two in omega arith
 
   pub starts : {v : ℕ} {after : List ℕ} → after ≡ started b r v → Started b c v r after
   starts {v} {after} e =
       let two = a .two in
-      let long = a .placed .long in
+      let long = a .space .long in
       let near = empty-near in
       let first : b + 0 ≡ b = omega arith in
       rw e (record {
         stored = record {
-          placed = record { near = a .placed .near; few = a .placed .few; long = let l = started-length b r v in omega arith };
+          space = record { near = a .space .near; few = a .space .few; long = let l = started-length b r v in omega arith };
           fits = two;
           chains = chains-start (keyOf c) v c (headIn b c (started b r v)) (nextIn b c (started b r v))
               (λ h in-h. started-other b r v (headsFrom b c + h) (λ e. omega arith) (λ e. omega arith) (λ e. omega arith) (λ e. omega arith) (λ e. omega arith) (λ e. omega arith)
@@ -142,22 +142,22 @@ module _ {b c : ℕ} {r : List ℕ} {k : ℕ} {n : Node} (s : Shelf b c r k n) w
   joined = join (n .var) (n .low) (n .high) (storeIn b r k)
 
   -- Nothing is added.
-  stays : {p : ℕ} → joined ≡ built (storeIn b r k) p → Done b c joined r r p k false
+  stays : {p : ℕ} → joined ≡ built (storeIn b r k) p → Done b c joined r r p k
   stays {p} e =
-      let all = count-is in
+      let all : length (joined .store) ≡ k = ap (λ (x : Built). length (x .store)) e ∙ count-is in
       let fits = shelf-fits in
       record {
-        is-full = rw (ap (λ (x : Built). length (x .store)) e) (sym (le-ltb c (length (storeIn b r k)) (omega arith)));
-        stands = λ no. record { is-pointer = rw e refl; is-count = rw e (sym all); stored = rw e (s .stored) };
-        nowhere = λ y. absurd (true≢false (sym y));
+        is-count = omega arith;
+        stands = λ few. record { is-pointer = rw e refl; stored = rw e (s .stored) };
+        nowhere = λ over. absurd (omega arith);
         beyond = λ j out. refl;
       }
 
-  pub joins-equal : n .low ≡ n .high → Done b c joined r r (n .low) k false
+  pub joins-equal : n .low ≡ n .high → Done b c joined r r (n .low) k
   joins-equal e = stays (join-equal (n .var) (n .low) (n .high) (storeIn b r k) e)
 
   module _ (ne : n .low ≢ n .high) {q : ℕ} (f : Sought b c r k n q) where
-    pub joins-found : q < k → Done b c joined r r q k false
+    pub joins-found : q < k → Done b c joined r r q k
     joins-found l =
         let here = f .here l in
         let all = count-is in
@@ -177,14 +177,14 @@ module _ {b c : ℕ} {r : List ℕ} {k : ℕ} {n : Node} (s : Shelf b c r k n) w
           let all = count-is in
           ap (λ (x : Built). length (x .store)) made ∙ omega arith
 
-      pub joins-full : c < k + 1 → Done b c joined r r 0 k true
+      pub joins-full : c < k + 1 → Done b c joined r r 0 (c + 1)
       joins-full over =
           let longer = one-more in
           let fits = shelf-fits in
           record {
-            is-full = sym (lt-ltb c (length (joined .store)) (omega arith));
-            stands = λ no. absurd (true≢false no);
-            nowhere = λ y. (refl, omega arith);
+            is-count = omega arith;
+            stands = λ few. absurd (omega arith);
+            nowhere = λ over. refl;
             beyond = λ j out. refl;
           }
 
@@ -205,12 +205,12 @@ module _ {b c : ℕ} {r : List ℕ} {k : ℕ} {n : Node} (s : Shelf b c r k n) w
         entered-stored =
             let all = count-is in
             let two = s .sound .enough in
-            let long = s .stored .placed .long in
+            let long = s .stored .space .long in
             let in-k = free in
             let in-x = key-small in
             let more = length-add (storeIn b r k) n in
             record {
-              placed = record { near = s .stored .placed .near; few = s .stored .placed .few; long = let e = entered-length b c r k x n in omega arith };
+              space = record { near = s .stored .space .near; few = s .stored .space .few; long = let e = entered-length b c r k x n in omega arith };
               fits = omega arith;
               chains = chains-add (keyOf c) c (storeIn b r k) (headIn b c r) (nextIn b c r) (headIn b c after) (nextIn b c after) n (s .stored .chains) two in-x
                   (entered-head b c r k x n long in-k in-x ∙ sym all)
@@ -224,20 +224,19 @@ module _ {b c : ℕ} {r : List ℕ} {k : ℕ} {n : Node} (s : Shelf b c r k n) w
                   (ap (λ (i : ℕ). wordIn b after (3 * i + 2)) all ∙ entered-high b c r k x n long in-k in-x);
             }
 
-        pub joins-new : {h : ℕ} → h ≡ x → {later : List ℕ} → later ≡ entered b c r k h n → Done b c joined r later k (k + 1) false
+        pub joins-new : {h : ℕ} → h ≡ x → {later : List ℕ} → later ≡ entered b c r k h n → Done b c joined r later k (k + 1)
         joins-new {h} e {later} g =
             let is : later ≡ after = g ∙ ap (λ (i : ℕ). entered b c r k i n) e in
             let longer = one-more in
             let in-k = free in
             let in-x = key-small in
             rw is (record {
-              is-full = sym (le-ltb c (length (joined .store)) (omega arith));
-              stands = λ no. record {
+              is-count = omega arith;
+              stands = λ few. record {
                 is-pointer = sym (ap (λ (i : Built). i .pointer) made ∙ count-is);
-                is-count = sym longer;
                 stored = rw made entered-stored;
               };
-              nowhere = λ y. absurd (true≢false (sym y));
+              nowhere = λ over. absurd (omega arith);
               beyond = λ j out. other j (out (3 * k) (omega arith)) (λ z. out (3 * k + 1) (omega arith) (omega arith)) (λ z. out (3 * k + 2) (omega arith) (omega arith))
                   (λ z. out (3 * c + k) (omega arith) (omega arith)) (λ z. out (4 * c + x) (omega arith) (omega arith));
             })

@@ -1,15 +1,12 @@
 -- The walk that builds the nodes of a diagram in a store: what each call may rest on, and each of its returns.
-use Prim.Native.Nat.{ℕ, suc, _+_, _-_, _*_, _≤_, _<_}
+use Prim.Native.Nat.{ℕ, suc, _+_, _-_, _*_, _≤_, _<_, min}
 use mathlib.Core.Path.{_≡_, refl, sym, ap, _∙_}
 use mathlib.Core.Logic.{_≢_}
-use mathlib.Core.Bool.{Bool, true, false, true≢false}
 use mathlib.Core.List.{List}
 use native.Mathlib.Omega.{arith}
-use native.Mathlib.Decide.{ℕ-discrete}
+use native.Mathlib.Decide.{decLt}
 use lib.ListN.{length, getD, set, length-set}
 use lib.Seq.{getD-set-same, getD-set-other}
-use lib.Dec.{ltb}
-use borrow.Author.Tests.{lt-ltb, le-ltb, ltb-true, ltb-false}
 use Rattle.diagram.specs.Limits.{maxNodes}
 use Rattle.diagram.specs.Diagram.{varOf, lowOf, highOf, size, vars}
 use Rattle.diagram.proofs.Reading.{Layered, layered}
@@ -28,7 +25,7 @@ stored-put : (b c : ℕ) (o : List Node) (r : List ℕ) (j x : ℕ) → Outside 
 stored-put b c o r j x out s =
     let fits = s .fits in
     record {
-      placed = record { near = s .placed .near; few = s .placed .few; long = simp length-set (s .placed .long) };
+      space = record { near = s .space .near; few = s .space .few; long = simp length-set (s .space .long) };
       fits = fits;
       chains = chains-same (keyOf c) c o (headIn b c r) (nextIn b c r) (headIn b c (set r j x)) (nextIn b c (set r j x)) (s .chains)
           (λ h in-h. getD-set-other r j (headsFrom b c + h) x 0 (λ e. out (4 * c + h) (omega arith) (omega arith)))
@@ -55,20 +52,22 @@ module _ {w : List ℕ} {q b c : ℕ} {r : List ℕ} {k p : ℕ} (a : Walking w 
 
   -- ---- nothing is added
 
-  walk-stays : (x : ℕ) → own w (vars w) p (storeIn b r k) ≡ built (storeIn b r k) x → Walked w q b c r k p r x k false
+  walk-stays : (x : ℕ) → own w (vars w) p (storeIn b r k) ≡ built (storeIn b r k) x → Walked w q b c r k p r x k
   walk-stays x e =
-      let all = nodes-length (wordIn b r) k in
+      let fits = a .on .stored .fits in
+      let all : length (own w (vars w) p (storeIn b r k) .store) ≡ k = ap (λ (y : Built). length (y .store)) e ∙ nodes-length (wordIn b r) k in
+      let now = nodes-length (wordIn b r) k in
       record {
-        is-full = rw (ap (λ (y : Built). length (y .store)) e) (sym (le-ltb c (length (storeIn b r k)) (a .on .stored .fits)));
-        arrived = λ no. record { is-pointer = rw e refl; is-count = rw e (sym all); on = rw e (a .on) };
-        nowhere = λ y. absurd (true≢false (sym y));
+        is-count = omega arith;
+        arrived = λ few. record { is-pointer = rw e refl; on = rw e (a .on) };
+        nowhere = λ over. absurd (omega arith);
         beyond = λ j far out. refl;
       }
 
-  pub walk-terminal : p < 2 → Walked w q b c r k p r p k false
+  pub walk-terminal : p < 2 → Walked w q b c r k p r p k
   walk-terminal t = walk-stays p (own-terminal w (vars w) (size w) in-layers p t (a .node) (storeIn b r k))
 
-  pub walk-known : {x : ℕ} → x ≡ getD r (q + p) 0 → x ≢ 0 → Walked w q b c r k p r (x - 1) k false
+  pub walk-known : {x : ℕ} → x ≡ getD r (q + p) 0 → x ≢ 0 → Walked w q b c r k p r (x - 1) k
   walk-known {x} e some = walk-stays (x - 1) (a .on .noted .entry p (x - 1) (a .node) (omega arith))
 
   -- ---- the children
@@ -93,27 +92,27 @@ module _ {w : List ℕ} {q b c : ℕ} {r : List ℕ} {k p : ℕ} (a : Walking w 
     pub walk-low : {d : ℕ} → d ≡ lowOf w p → Walking w q b c r k d
     walk-low e = rw e (record { on = a .on; node = in-layers .node p two (a .node) .low })
 
-    module _ {d : ℕ} (is-low : d ≡ lowOf w p) {r₁ : List ℕ} {l k₁ : ℕ} {full : Bool} (low : Walked w q b c r k d r₁ l k₁ full) where
+    module _ {d : ℕ} (is-low : d ≡ lowOf w p) {r₁ : List ℕ} {l k₁ : ℕ} (low : Walked w q b c r k d r₁ l k₁) where
       -- The low child needs more places than there are: so does the node.
-      pub walk-low-full : full ≡ true → Walked w q b c r k p r₁ l k₁ full
-      walk-low-full e =
+      pub walk-low-full : c < k₁ → Walked w q b c r k p r₁ l k₁
+      walk-low-full over =
           let more = own-low-fits w (vars w) (size w) in-layers p two (a .node) (storeIn b r k) in
           let here : length (own w (vars w) d (storeIn b r k) .store) ≡ length (lowBuilt w (vars w) p (storeIn b r k) .store) = ap (λ (i : ℕ). length (own w (vars w) i (storeIn b r k) .store)) is-low in
-          let over = ltb-true c (length (own w (vars w) d (storeIn b r k) .store)) (sym (low .is-full) ∙ e) in
+          let is = low .is-count in
           record {
-            is-full = e ∙ sym (lt-ltb c (length (own w (vars w) p (storeIn b r k) .store)) (omega arith));
-            arrived = λ no. absurd (true≢false (sym e ∙ no));
+            is-count = omega arith;
+            arrived = λ few. absurd (omega arith);
             nowhere = low .nowhere;
             beyond = low .beyond;
           }
 
-      module _ (no-low : full ≡ false) where
-        there : Arrived w q b c r k d r₁ l k₁
-        there = low .arrived no-low
+      module _ (few-low : k₁ ≤ c) where
+        there : Arrived w q b c r k d r₁ l
+        there = low .arrived few-low
 
         -- what stands in the room after the low child is what was built for it
         low-stands : storeIn b r₁ k₁ ≡ own w (vars w) d (storeIn b r k) .store
-        low-stands = stands b c (own w (vars w) d (storeIn b r k) .store) r₁ (there .on .stored) k₁ (there .is-count)
+        low-stands = stands b c (own w (vars w) d (storeIn b r k) .store) r₁ (there .on .stored) k₁ (let is = low .is-count in omega arith)
 
         low-store : storeIn b r₁ k₁ ≡ lowBuilt w (vars w) p (storeIn b r k) .store
         low-store = low-stands ∙ ap (λ (i : ℕ). own w (vars w) i (storeIn b r k) .store) is-low
@@ -121,7 +120,7 @@ module _ {w : List ℕ} {q b c : ℕ} {r : List ℕ} {k p : ℕ} (a : Walking w 
         pub walk-high : {e : ℕ} → e ≡ highOf w p → Walking w q b c r₁ k₁ e
         walk-high is = rw is (record { on = rw low-stands (there .on); node = in-layers .node p two (a .node) .high })
 
-        module _ {e : ℕ} (is-high : e ≡ highOf w p) {r₂ : List ℕ} {h k₂ : ℕ} {full₂ : Bool} (high : Walked w q b c r₁ k₁ e r₂ h k₂ full₂) where
+        module _ {e : ℕ} (is-high : e ≡ highOf w p) {r₂ : List ℕ} {h k₂ : ℕ} (high : Walked w q b c r₁ k₁ e r₂ h k₂) where
           high-built : own w (vars w) e (storeIn b r₁ k₁) ≡ highBuilt w (vars w) p (storeIn b r k)
           high-built = rw (is-high, low-store) refl
 
@@ -131,24 +130,24 @@ module _ {w : List ℕ} {q b c : ℕ} {r : List ℕ} {k p : ℕ} (a : Walking w 
           kept-so-far : (j : ℕ) → Outside q (size w) j → Outside b (storeWords c) j → getD r₂ j 0 ≡ getD r j 0
           kept-so-far j far out = high .beyond j far out ∙ low .beyond j far out
 
-          pub walk-high-full : full₂ ≡ true → Walked w q b c r k p r₂ h k₂ full₂
-          walk-high-full yes-case =
+          pub walk-high-full : c < k₂ → Walked w q b c r k p r₂ h k₂
+          walk-high-full over =
               let more = own-high-fits w (vars w) (size w) in-layers p two (a .node) (storeIn b r k) in
               let here = high-length in
-              let over = ltb-true c (length (own w (vars w) e (storeIn b r₁ k₁) .store)) (sym (high .is-full) ∙ yes-case) in
+              let is = high .is-count in
               record {
-                is-full = yes-case ∙ sym (lt-ltb c (length (own w (vars w) p (storeIn b r k) .store)) (omega arith));
-                arrived = λ no. absurd (true≢false (sym yes-case ∙ no));
+                is-count = omega arith;
+                arrived = λ few. absurd (omega arith);
                 nowhere = high .nowhere;
                 beyond = kept-so-far;
               }
 
-          module _ (no-high : full₂ ≡ false) where
-            here : Arrived w q b c r₁ k₁ e r₂ h k₂
-            here = high .arrived no-high
+          module _ (few-high : k₂ ≤ c) where
+            here : Arrived w q b c r₁ k₁ e r₂ h
+            here = high .arrived few-high
 
             high-stands : storeIn b r₂ k₂ ≡ own w (vars w) e (storeIn b r₁ k₁) .store
-            high-stands = stands b c (own w (vars w) e (storeIn b r₁ k₁) .store) r₂ (here .on .stored) k₂ (here .is-count)
+            high-stands = stands b c (own w (vars w) e (storeIn b r₁ k₁) .store) r₂ (here .on .stored) k₂ (let is = high .is-count in omega arith)
 
             high-store : storeIn b r₂ k₂ ≡ highBuilt w (vars w) p (storeIn b r k) .store
             high-store = high-stands ∙ ap (λ (y : Built). y .store) high-built
@@ -172,11 +171,11 @@ module _ {w : List ℕ} {q b c : ℕ} {r : List ℕ} {k p : ℕ} (a : Walking w 
               pub walk-shelf : Shelf b c r₂ k₂ (node i l h)
               walk-shelf = record { stored = high-on .stored; vars = vars w; sound = high-on .sound; below = ready .var }
 
-              module _ {r₃ : List ℕ} {x k₃ : ℕ} {full₃ : Bool} (joined : Done b c (join i l h (storeIn b r₂ k₂)) r₂ r₃ x k₃ full₃) where
-                -- where nothing is full
-                module _ (no-made : full₃ ≡ false) where
-                  standing : Standing b c (own w (vars w) p (storeIn b r k)) r₃ x k₃
-                  standing = rw own-is (joined .stands no-made)
+              module _ {r₃ : List ℕ} {x k₃ : ℕ} (joined : Done b c (join i l h (storeIn b r₂ k₂)) r₂ r₃ x k₃) where
+                -- where it has a place
+                module _ (few-made : k₃ ≤ c) where
+                  standing : Standing b c (own w (vars w) p (storeIn b r k)) r₃ x
+                  standing = rw own-is (joined .stands few-made)
 
                   made-small : x < maxNodes
                   unfolding mine
@@ -184,24 +183,23 @@ module _ {w : List ℕ} {q b c : ℕ} {r : List ℕ} {k p : ℕ} (a : Walking w 
                       let place = mine-place in
                       let e = standing .is-pointer in
                       let fits = standing .stored .fits in
-                      let few = standing .stored .placed .few in
+                      let few = standing .stored .space .few in
                       omega arith
 
                 pub walk-small : x < maxNodes
-                walk-small = by-full full₃ (λ yes-case. let z = joined .nowhere yes-case .0 in omega arith) made-small
-                  where
-                    by-full : (t : Bool) → (t ≡ true → x < maxNodes) → (t ≡ false → x < maxNodes) → x < maxNodes
-                    by-full true f g = f refl
-                    by-full false f g = g refl
+                walk-small = elim (decLt c k₃) [
+                  | yes over ↦ let z = joined .nowhere over in omega arith
+                  | no few ↦ made-small (omega arith)
+                ]
 
                 module _ {r₄ : List ℕ} (same : length r₃ ≡ length r) (is-r₄ : r₄ ≡ set r₃ (q + p) (x + 1)) where
                   -- the memo while nothing is noted yet
-                  memo-before : full₃ ≡ false → Memo w (vars w) (size w) (own w (vars w) p (storeIn b r k) .store) (memoIn q r₃)
+                  memo-before : k₃ ≤ c → Memo w (vars w) (size w) (own w (vars w) p (storeIn b r k) .store) (memoIn q r₃)
                   memo-before none = rw own-is (memo-grown w (vars w) (size w) (memoIn q r₃) (join-extends i l h (storeIn b r₂ k₂))
                       (memo-same w (vars w) (size w) (storeIn b r₂ k₂) (memoIn q r₂) (memoIn q r₃) (high-on .noted)
                       (λ j in-w. joined .beyond (q + j) (a .on .apart j in-w))))
 
-                  noted-on : full₃ ≡ false → On w q b c (own w (vars w) p (storeIn b r k) .store) (set r₃ (q + p) (x + 1))
+                  noted-on : k₃ ≤ c → On w q b c (own w (vars w) p (storeIn b r k) .store) (set r₃ (q + p) (x + 1))
                   noted-on none =
                       let inside = a .on .inside in
                       let in-w = a .node in
@@ -218,10 +216,10 @@ module _ {w : List ℕ} {q b c : ℕ} {r : List ℕ} {k p : ℕ} (a : Walking w 
                             (λ j in-j ne. getD-set-other r₃ (q + p) (q + j) (x + 1) 0 (λ z. ne (omega arith)));
                       }
 
-                  pub walk-node : Walked w q b c r k p r₄ x k₃ full₃
+                  pub walk-node : Walked w q b c r k p r₄ x k₃
                   walk-node = rw is-r₄ (record {
-                    is-full = joined .is-full ∙ ap (λ (y : Built). ltb c (length (y .store))) (sym own-is);
-                    arrived = λ no. record { is-pointer = standing no .is-pointer; is-count = standing no .is-count; on = noted-on no };
+                    is-count = joined .is-count ∙ ap (λ (y : Built). min (length (y .store)) (suc c)) (sym own-is);
+                    arrived = λ few. record { is-pointer = standing few .is-pointer; on = noted-on few };
                     nowhere = joined .nowhere;
                     beyond = λ j far out. getD-set-other r₃ (q + p) j (x + 1) 0 (far p (a .node)) ∙ joined .beyond j out ∙ kept-so-far j far out;
                   })

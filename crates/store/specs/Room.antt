@@ -5,13 +5,11 @@
 --     headsFrom      for each key the last node that has it
 --     storeTo        the end
 -- The memo of a diagram that is walked stands from a place q on, outside the store.
-use Prim.Native.Nat.{ℕ, _+_, _*_, _/_, _%_, _≤_, _<_}
+use Prim.Native.Nat.{ℕ, suc, _+_, _*_, _/_, _%_, _≤_, _<_, min}
 use mathlib.Core.Path.{_≡_}
 use mathlib.Core.Logic.{_≢_}
-use mathlib.Core.Bool.{Bool, true, false}
 use mathlib.Core.List.{List}
 use lib.ListN.{length, getD, set}
-use lib.Dec.{ltb}
 use Rattle.diagram.specs.Limits.{maxNodes, roomPerNode}
 use Rattle.diagram.specs.Diagram.{size, vars, Ordered}
 use Rattle.store.specs.Store.{Node, node, find, Built, join, terminals}
@@ -63,14 +61,14 @@ Outside from n j = (i : ℕ) → i < n → j ≢ from + i
 -- ---- a store
 
 -- There is room for a store.
-pub record Placed (b c : ℕ) (r : List ℕ) : Type 0 where
+pub record Space (b c : ℕ) (r : List ℕ) : Type 0 where
   pub near : b ≤ farthest
   pub few : c ≤ maxNodes
   pub long : storeTo b c ≤ length r
 
 -- The nodes o stand in the room, with their chains.
 pub record Stored (b c : ℕ) (o : List Node) (r : List ℕ) : Type 0 where
-  pub placed : Placed b c r
+  pub space : Space b c r
   pub fits : length o ≤ c
   pub chains : Chains (keyOf c) c o (headIn b c r) (nextIn b c r)
   pub held : Held o (wordIn b r)
@@ -82,7 +80,7 @@ pub record Forgotten (b c : ℕ) (r after : List ℕ) : Type 0 where
 
 -- A store may begin: there is room for the terminals, and no key has a node.
 pub record Empty (b c : ℕ) (r : List ℕ) : Type 0 where
-  pub placed : Placed b c r
+  pub space : Space b c r
   pub two : 2 ≤ c
   pub heads : (h : ℕ) → h < c → headIn b c r h ≡ 0
 
@@ -121,17 +119,16 @@ abbrev pub entered : ℕ → ℕ → List ℕ → ℕ → ℕ → Node → List 
 entered b c r k h n = chained b c (written b r k n) k h
 
 -- What was built stands in the room.
-pub record Standing (b c : ℕ) (made : Built) (after : List ℕ) (pointer count : ℕ) : Type 0 where
+pub record Standing (b c : ℕ) (made : Built) (after : List ℕ) (pointer : ℕ) : Type 0 where
   pub is-pointer : pointer ≡ made .pointer
-  pub is-count : count ≡ length (made .store)
   pub stored : Stored b c (made .store) after
 
--- The outcome of building: full exactly where there are more nodes than places, and else all of it stands in the room. Outside
--- the store the room is as it was.
-pub record Done (b c : ℕ) (made : Built) (r after : List ℕ) (pointer count : ℕ) (full : Bool) : Type 0 where
-  pub is-full : full ≡ ltb c (length (made .store))
-  pub stands : full ≡ false → Standing b c made after pointer count
-  pub nowhere : full ≡ true → (pointer ≡ 0) × (count ≡ c)
+-- The outcome of building: the number of nodes, and all of them stand in the room; or, exactly where there are more nodes than
+-- places, one more than there are places. Outside the store the room is as it was.
+pub record Done (b c : ℕ) (made : Built) (r after : List ℕ) (pointer count : ℕ) : Type 0 where
+  pub is-count : count ≡ min (length (made .store)) (suc c)
+  pub stands : count ≤ c → Standing b c made after pointer
+  pub nowhere : c < count → pointer ≡ 0
   pub beyond : (j : ℕ) → Outside b (storeWords c) j → getD after j 0 ≡ getD r j 0
 
 -- ---- the walk
@@ -152,14 +149,13 @@ pub record Walking (w : List ℕ) (q b c : ℕ) (r : List ℕ) (k p : ℕ) : Typ
   pub node : p < size w
 
 -- Node p was built,
-pub record Arrived (w : List ℕ) (q b c : ℕ) (r : List ℕ) (k p : ℕ) (after : List ℕ) (pointer count : ℕ) : Type 0 where
+pub record Arrived (w : List ℕ) (q b c : ℕ) (r : List ℕ) (k p : ℕ) (after : List ℕ) (pointer : ℕ) : Type 0 where
   pub is-pointer : pointer ≡ own w (vars w) p (storeIn b r k) .pointer
-  pub is-count : count ≡ length (own w (vars w) p (storeIn b r k) .store)
   pub on : On w q b c (own w (vars w) p (storeIn b r k) .store) after
 
 -- unless its nodes with the store's are more than there are places. Outside store and memo the room is as it was.
-pub record Walked (w : List ℕ) (q b c : ℕ) (r : List ℕ) (k p : ℕ) (after : List ℕ) (pointer count : ℕ) (full : Bool) : Type 0 where
-  pub is-full : full ≡ ltb c (length (own w (vars w) p (storeIn b r k) .store))
-  pub arrived : full ≡ false → Arrived w q b c r k p after pointer count
-  pub nowhere : full ≡ true → (pointer ≡ 0) × (count ≡ c)
+pub record Walked (w : List ℕ) (q b c : ℕ) (r : List ℕ) (k p : ℕ) (after : List ℕ) (pointer count : ℕ) : Type 0 where
+  pub is-count : count ≡ min (length (own w (vars w) p (storeIn b r k) .store)) (suc c)
+  pub arrived : count ≤ c → Arrived w q b c r k p after pointer
+  pub nowhere : c < count → pointer ≡ 0
   pub beyond : (j : ℕ) → Outside q (size w) j → Outside b (storeWords c) j → getD after j 0 ≡ getD r j 0

@@ -14,7 +14,7 @@ ghost use Prim.Native.Nat.{_+_, _*_, _≤_};
 ghost use lib.ListN.{getD};
 ghost use Rattle.diagram.specs.Limits.{maxNodes};
 ghost use Rattle.store.specs.Store.{node, same, join as joinOf};
-ghost use Rattle.store.specs.Room.{farthest, storeTo, keyOf, storeIn, entered, Placed, Forgotten, Empty, Started, Shelf, Sought, Done};
+ghost use Rattle.store.specs.Room.{farthest, storeTo, keyOf, storeIn, entered, Space, Forgotten, Empty, Started, Shelf, Sought, Done};
 
 pub const NEXT: usize = 3;
 
@@ -22,16 +22,15 @@ pub const HEADS: usize = 4;
 
 pub const END: usize = 5;
 
-// A pointer into the store, and how many nodes the store has; or that there was no place for a node that is needed.
+// A pointer into the store, and how many nodes the store has: one more than its capacity where a node found no place.
 pub struct Made {
     pub pointer: BddPointer,
     pub count: usize,
-    pub full: bool,
 }
 
 // Makes the keys' words zero, whatever stood there: what a store needs before it begins.
 pub fn forget(room: &mut [u32], base: usize, capacity: usize)
-    requires { ⌜ Placed base capacity (now room) ⌝ }
+    requires { ⌜ Space base capacity (now room) ⌝ }
     ensures { λ _. ⌜ Forgotten base capacity (now (room .entry)) (now (room .exit)) ⌝ }
 {
     clear(
@@ -138,13 +137,12 @@ pub fn join(
     high: BddPointer,
 ) -> Made
     requires { ⌜ Shelf base capacity (now room) count (node (var .0) (low .0) (high .0)) ⌝ }
-    ensures { λ r. ⌜ Done base capacity (joinOf (var .0) (low .0) (high .0) (storeIn base (now (room .entry)) count)) (now (room .entry)) (now (room .exit)) (r .pointer .0) (r .count) (r .full) ⌝ }
+    ensures { λ r. ⌜ Done base capacity (joinOf (var .0) (low .0) (high .0) (storeIn base (now (room .entry)) count)) (now (room .entry)) (now (room .exit)) (r .pointer .0) (r .count) ⌝ }
 {
     if low.0 == high.0 {
         return Made {
             pointer: low,
             count,
-            full: false,
         };
     }
     let bucket = key(capacity, var, low, high);
@@ -153,21 +151,18 @@ pub fn join(
         return Made {
             pointer: BddPointer(place as u32),
             count,
-            full: false,
         };
     }
     let more = count + 1;
     if capacity < more {
         return Made {
             pointer: BddPointer(0),
-            count,
-            full: true,
+            count: capacity + 1,
         };
     }
     enter(room, base, capacity, count, bucket, var, low, high);
     Made {
         pointer: BddPointer(count as u32),
         count: more,
-        full: false,
     }
 }

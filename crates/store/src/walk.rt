@@ -22,13 +22,12 @@ pub fn build(
     node: BddPointer,
 ) -> Made
     requires { ⌜ Walking (now words) memo base capacity (now room) count (node .0) ⌝ }
-    ensures { λ r. ⌜ Walked (now (words .entry)) memo base capacity (now (room .entry)) count (node .0) (now (room .exit)) (r .pointer .0) (r .count) (r .full) ⌝ }
+    ensures { λ r. ⌜ Walked (now (words .entry)) memo base capacity (now (room .entry)) count (node .0) (now (room .exit)) (r .pointer .0) (r .count) ⌝ }
 {
     if node.is_terminal() {
         return Made {
             pointer: node,
             count,
-            full: false,
         };
     }
     let at = memo + node.to_index();
@@ -37,17 +36,16 @@ pub fn build(
         return Made {
             pointer: BddPointer(known - 1),
             count,
-            full: false,
         };
     }
     let low_link = low_link_of(words, node);
     let high_link = high_link_of(words, node);
     let low = build(words, room, memo, base, capacity, count, low_link);
-    if low.full {
+    if capacity < low.count {
         return low;
     }
     let high = build(words, room, memo, base, capacity, low.count, high_link);
-    if high.full {
+    if capacity < high.count {
         return high;
     }
     let var = var_of(words, node);

@@ -1,5 +1,5 @@
 use mathlib.Core.Path.{_∙_}
-use Rattle.cuts.proofs.Cutting.{shelf-placed, shelf-asked, shelf-built}
+use Rattle.cuts.proofs.Cutting.{shelf-space, shelf-asked, shelf-built}
 use borrow.Author.Needs.{needs}
 use Rattle.cuts.proofs.cut.build.Statement.{statement}
 use Rattle.cuts.proofs.cut.build.Tie as tie
@@ -11,7 +11,7 @@ clear-requires : tie.Need-clear-requires
 clear-requires c κs = search needs
 
 forget-requires : tie.Need-forget-requires
-forget-requires c κs = shelf-placed (c .before .before .before .before .before .before .before .before .pre) (c .before .before .before .before .before .most .ensures) (c .before .before .before .clear .kept .0)
+forget-requires c κs = shelf-space (c .before .before .before .before .before .before .before .before .pre) (c .before .before .before .before .before .most .ensures) (c .before .before .before .clear .kept .0)
 
 make-requires : tie.Need-make-requires
 make-requires c κs = shelf-asked (c .before .before .before .before .before .before .before .before .before .before .before .before .pre) (c .before .before .before .before .before .before .before .before .before .most .ensures) (c .before .before .before .before .before .before .before .clear .ensures) (c .before .before .before .forget .kept .0 ∙ c .before .before .before .before .before .before .before .clear .kept .0) (c .before .before .before .forget .ensures)

@@ -8,13 +8,13 @@ returns : tie.Need-returns
 returns c = joins-equal (c .before .before .before .before .pre) (c .if1 .taken)
 
 key-requires : tie.Need-key-requires
-key-requires c κs = c .before .before .before .before .pre .stored .placed .few
+key-requires c κs = c .before .before .before .before .pre .stored .space .few
 
 seek-requires : tie.Need-seek-requires
 seek-requires c κs = (c .before .before .before .before .before .before .pre, c .before .key .ensures)
 
 cast-t14 : tie.Need-cast-t14
-cast-t14 c = omega (arith, c .before .before .before .before .before .before .before .before .pre .stored .placed .few, shelf-fits (c .before .before .before .before .before .before .before .before .pre), c .if2 .taken)
+cast-t14 c = omega (arith, c .before .before .before .before .before .before .before .before .pre .stored .space .few, shelf-fits (c .before .before .before .before .before .before .before .before .pre), c .if2 .taken)
 
 same-length : tie.Need-same-length
 same-length c = search needs
@@ -23,7 +23,10 @@ returns-2 : tie.Need-returns-2
 returns-2 c = joins-found (c .before .before .before .before .before .before .before .before .pre) (c .before .before .before .before .if1 .left) (c .before .seek .ensures) (c .if2 .taken)
 
 add-more : tie.Need-add-more
-add-more c = omega (arith, c .before .before .before .before .before .before .before .before .pre .stored .placed .few, shelf-fits (c .before .before .before .before .before .before .before .before .pre))
+add-more c = omega (arith, c .before .before .before .before .before .before .before .before .pre .stored .space .few, shelf-fits (c .before .before .before .before .before .before .before .before .pre))
+
+add-t17 : tie.Need-add-t17
+add-t17 c = omega (arith, c .before .before .before .before .before .before .before .before .before .pre .stored .space .few)
 
 same-length-2 : tie.Need-same-length-2
 same-length-2 c = search needs
@@ -33,12 +36,12 @@ returns-3 c = joins-full (c .before .before .before .before .before .before .bef
 
 enter-requires : tie.Need-enter-requires
 enter-requires c κs =
-    let few = c .before .before .before .before .before .before .before .before .before .before .pre .stored .placed .few in
+    let few = c .before .before .before .before .before .before .before .before .before .before .pre .stored .space .few in
     let fits = shelf-fits (c .before .before .before .before .before .before .before .before .before .before .pre) in
-    (c .before .before .before .before .before .before .before .before .before .before .pre .stored .placed .near, few, omega (arith, few, fits), omega (arith, few, c .before .before .before .before .before .key .ensures, key-small (c .before .before .before .before .before .before .before .before .before .before .pre)))
+    (c .before .before .before .before .before .before .before .before .before .before .pre .stored .space .near, few, omega (arith, few, fits), omega (arith, few, c .before .before .before .before .before .key .ensures, key-small (c .before .before .before .before .before .before .before .before .before .before .pre)))
 
-cast-t20 : tie.Need-cast-t20
-cast-t20 c = omega (arith, c .before .before .before .before .before .before .before .before .before .before .before .before .before .pre .stored .placed .few, shelf-fits (c .before .before .before .before .before .before .before .before .before .before .before .before .before .pre))
+cast-t21 : tie.Need-cast-t21
+cast-t21 c = omega (arith, c .before .before .before .before .before .before .before .before .before .before .before .before .before .pre .stored .space .few, shelf-fits (c .before .before .before .before .before .before .before .before .before .before .before .before .before .pre))
 
 same-length-3 : tie.Need-same-length-3
 same-length-3 c = search needs
@@ -57,9 +60,10 @@ join-spec =
     same-length
     returns-2
     add-more
+    add-t17
     same-length-2
     returns-3
     enter-requires
-    cast-t20
+    cast-t21
     same-length-3
     returns-4)

@@ -15,13 +15,13 @@ abbrev μ-loop : tie.MeasureT-loop
 μ-loop room base capacity count bucket var low high q₀ q = q
 
 mul-word : tie.Need-mul-word Inv-loop μ-loop
-mul-word c = omega (arith, c .before .pre .0 .stored .placed .few)
+mul-word c = omega (arith, c .before .pre .0 .stored .space .few)
 
 add-word : tie.Need-add-word Inv-loop μ-loop
-add-word c = omega (arith, c .before .pre .0 .stored .placed .few, c .before .pre .0 .stored .placed .near)
+add-word c = omega (arith, c .before .pre .0 .stored .space .few, c .before .pre .0 .stored .space .near)
 
 add-word-2 : tie.Need-add-word-2 Inv-loop μ-loop
-add-word-2 c = omega (arith, c .before .pre .0 .stored .placed .few, c .before .pre .0 .stored .placed .near, c .before .pre .1, key-small (c .before .pre .0))
+add-word-2 c = omega (arith, c .before .pre .0 .stored .space .few, c .before .pre .0 .stored .space .near, c .before .pre .1, key-small (c .before .pre .0))
 
 word-requires : tie.Need-word-requires Inv-loop μ-loop
 word-requires c κs = search needs
@@ -33,25 +33,25 @@ loop-holds : tie.Need-loop-holds Inv-loop μ-loop
 loop-holds c = seek-begin (c .before .before .pre .0) (c .before .before .pre .1) (c .word .ensures)
 
 mul-is-node : tie.Need-mul-is-node Inv-loop μ-loop
-mul-is-node c = omega (arith, c .before .before .before .before .pre .0 .stored .placed .few, shelf-fits (c .before .before .before .before .pre .0), seek-inside (c .before .before .before .before .pre .0) (c .before .loop .inv))
+mul-is-node c = omega (arith, c .before .before .before .before .pre .0 .stored .space .few, shelf-fits (c .before .before .before .before .pre .0), seek-inside (c .before .before .before .before .pre .0) (c .before .loop .inv))
 
 add-is-node : tie.Need-add-is-node Inv-loop μ-loop
-add-is-node c = omega (arith, c .before .before .before .before .pre .0 .stored .placed .near, c .before .before .before .before .pre .0 .stored .placed .few, shelf-fits (c .before .before .before .before .pre .0), seek-inside (c .before .before .before .before .pre .0) (c .before .loop .inv))
+add-is-node c = omega (arith, c .before .before .before .before .pre .0 .stored .space .near, c .before .before .before .before .pre .0 .stored .space .few, shelf-fits (c .before .before .before .before .pre .0), seek-inside (c .before .before .before .before .pre .0) (c .before .loop .inv))
 
 is-node-requires : tie.Need-is-node-requires Inv-loop μ-loop
-is-node-requires c κs = omega (arith, c .before .before .before .before .pre .0 .stored .placed .near, c .before .before .before .before .pre .0 .stored .placed .few, shelf-fits (c .before .before .before .before .pre .0), seek-inside (c .before .before .before .before .pre .0) (c .before .loop .inv))
+is-node-requires c κs = omega (arith, c .before .before .before .before .pre .0 .stored .space .near, c .before .before .before .before .pre .0 .stored .space .few, shelf-fits (c .before .before .before .before .pre .0), seek-inside (c .before .before .before .before .pre .0) (c .before .loop .inv))
 
 returns : tie.Need-returns Inv-loop μ-loop
 returns c = seek-hit (c .before .before .before .before .before .before .pre .0) (c .before .before .before .loop .inv) (c .before .before .loop-test .taken) (sym (c .before .is-node .ensures) ∙ c .if1 .taken)
 
 mul-word-2 : tie.Need-mul-word-2 Inv-loop μ-loop
-mul-word-2 c = omega (arith, c .before .before .before .before .before .before .pre .0 .stored .placed .few)
+mul-word-2 c = omega (arith, c .before .before .before .before .before .before .pre .0 .stored .space .few)
 
 add-word-3 : tie.Need-add-word-3 Inv-loop μ-loop
-add-word-3 c = omega (arith, c .before .before .before .before .before .before .pre .0 .stored .placed .few, c .before .before .before .before .before .before .pre .0 .stored .placed .near)
+add-word-3 c = omega (arith, c .before .before .before .before .before .before .pre .0 .stored .space .few, c .before .before .before .before .before .before .pre .0 .stored .space .near)
 
 add-word-4 : tie.Need-add-word-4 Inv-loop μ-loop
-add-word-4 c = omega (arith, c .before .before .before .before .before .before .pre .0 .stored .placed .near, c .before .before .before .before .before .before .pre .0 .stored .placed .few, shelf-fits (c .before .before .before .before .before .before .pre .0), seek-inside (c .before .before .before .before .before .before .pre .0) (c .before .before .before .loop .inv))
+add-word-4 c = omega (arith, c .before .before .before .before .before .before .pre .0 .stored .space .near, c .before .before .before .before .before .before .pre .0 .stored .space .few, shelf-fits (c .before .before .before .before .before .before .pre .0), seek-inside (c .before .before .before .before .before .before .pre .0) (c .before .before .before .loop .inv))
 
 word-requires-2 : tie.Need-word-requires-2 Inv-loop μ-loop
 word-requires-2 c κs = search needs

@@ -10,31 +10,31 @@ put-requires : tie.Need-put-requires
 put-requires c κs = search needs
 
 add-put : tie.Need-add-put
-add-put c = omega (arith, c .before .before .before .before .before .before .pre .placed .near)
+add-put c = omega (arith, c .before .before .before .before .before .before .pre .space .near)
 
 put-requires-2 : tie.Need-put-requires-2
 put-requires-2 c κs = search needs
 
 add-put-2 : tie.Need-add-put-2
-add-put-2 c = omega (arith, c .before .before .before .before .before .before .before .before .before .before .pre .placed .near)
+add-put-2 c = omega (arith, c .before .before .before .before .before .before .before .before .before .before .pre .space .near)
 
 put-requires-3 : tie.Need-put-requires-3
 put-requires-3 c κs = search needs
 
 add-put-3 : tie.Need-add-put-3
-add-put-3 c = omega (arith, c .before .before .before .before .before .before .before .before .before .before .before .before .before .before .pre .placed .near)
+add-put-3 c = omega (arith, c .before .before .before .before .before .before .before .before .before .before .before .before .before .before .pre .space .near)
 
 put-requires-4 : tie.Need-put-requires-4
 put-requires-4 c κs = search needs
 
 add-put-4 : tie.Need-add-put-4
-add-put-4 c = omega (arith, c .before .before .before .before .before .before .before .before .before .before .before .before .before .before .before .before .before .before .pre .placed .near)
+add-put-4 c = omega (arith, c .before .before .before .before .before .before .before .before .before .before .before .before .before .before .before .before .before .before .pre .space .near)
 
 put-requires-5 : tie.Need-put-requires-5
 put-requires-5 c κs = search needs
 
 add-put-5 : tie.Need-add-put-5
-add-put-5 c = omega (arith, c .before .before .before .before .before .before .before .before .before .before .before .before .before .before .before .before .before .before .before .before .before .before .pre .placed .near)
+add-put-5 c = omega (arith, c .before .before .before .before .before .before .before .before .before .before .before .before .before .before .before .before .before .before .before .before .before .before .pre .space .near)
 
 put-requires-6 : tie.Need-put-requires-6
 put-requires-6 c κs = search needs

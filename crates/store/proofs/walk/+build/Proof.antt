@@ -78,34 +78,34 @@ build-same-length-2 t c = search needs
 
 build-returns-3 : (t : ℕ) → build-lts.Need-returns-3 (known t) (build-at t) build.Post
 build-returns-3 t c =
-    let two = ltb-false (c .before .before .before .before .before .before .before .before .before .before .before .before .before .before .before .args .node .0) 2 (sym (c .before .before .before .before .before .before .before .before .before .before .before .before .is-terminal .ensures) ∙ c .before .before .before .before .before .before .before .before .before .before .before .if1 .left) in
-    walk-low-full (c .before .before .before .before .before .before .before .before .before .before .before .before .before .before .before .pre .1) two (c .before .before .before .before .before .before .low-link-of .ensures) (c .before .before .before .build .ensures) (c .if3 .taken)
+    let two = ltb-false (c .before .before .before .before .before .before .before .before .before .before .before .before .before .before .before .before .args .node .0) 2 (sym (c .before .before .before .before .before .before .before .before .before .before .before .before .before .is-terminal .ensures) ∙ c .before .before .before .before .before .before .before .before .before .before .before .before .if1 .left) in
+    walk-low-full (c .before .before .before .before .before .before .before .before .before .before .before .before .before .before .before .before .pre .1) two (c .before .before .before .before .before .before .before .low-link-of .ensures) (c .before .before .before .before .build .ensures) (c .if3 .taken)
 
 build-build-requires-2 : (t : ℕ) → build-lts.Need-build-requires-2 (known t) (build-at t) build.Post
 build-build-requires-2 t c κs =
-    let two = ltb-false (c .before .before .before .before .before .before .before .before .before .before .before .before .before .before .before .before .args .node .0) 2 (sym (c .before .before .before .before .before .before .before .before .before .before .before .before .before .is-terminal .ensures) ∙ c .before .before .before .before .before .before .before .before .before .before .before .before .if1 .left) in
-    (rw (c .before .before .before .before .before .before .before .before .before .before .before .before .before .before .before .before .pre .0) at (walk-falls-high (c .before .before .before .before .before .before .before .before .before .before .before .before .before .before .before .before .pre .1) two (c .before .before .before .before .before .before .high-link-of .ensures)), walk-high (c .before .before .before .before .before .before .before .before .before .before .before .before .before .before .before .before .pre .1) two (c .before .before .before .before .before .before .before .low-link-of .ensures) (c .before .before .before .before .build .ensures) (c .before .if3 .left) (c .before .before .before .before .before .before .high-link-of .ensures))
+    let two = ltb-false (c .before .before .before .before .before .before .before .before .before .before .before .before .before .before .before .before .before .args .node .0) 2 (sym (c .before .before .before .before .before .before .before .before .before .before .before .before .before .before .is-terminal .ensures) ∙ c .before .before .before .before .before .before .before .before .before .before .before .before .before .if1 .left) in
+    (rw (c .before .before .before .before .before .before .before .before .before .before .before .before .before .before .before .before .before .pre .0) at (walk-falls-high (c .before .before .before .before .before .before .before .before .before .before .before .before .before .before .before .before .before .pre .1) two (c .before .before .before .before .before .before .before .high-link-of .ensures)), walk-high (c .before .before .before .before .before .before .before .before .before .before .before .before .before .before .before .before .before .pre .1) two (c .before .before .before .before .before .before .before .before .low-link-of .ensures) (c .before .before .before .before .before .build .ensures) (c .before .if3 .left) (c .before .before .before .before .before .before .before .high-link-of .ensures))
 
 build-same-length-3 : (t : ℕ) → build-lts.Need-same-length-3 (known t) (build-at t) build.Post
 build-same-length-3 t c = search needs
 
 build-returns-4 : (t : ℕ) → build-lts.Need-returns-4 (known t) (build-at t) build.Post
 build-returns-4 t c =
-    let two = ltb-false (c .before .before .before .before .before .before .before .before .before .before .before .before .before .before .before .before .before .before .before .before .args .node .0) 2 (sym (c .before .before .before .before .before .before .before .before .before .before .before .before .before .before .before .before .before .is-terminal .ensures) ∙ c .before .before .before .before .before .before .before .before .before .before .before .before .before .before .before .before .if1 .left) in
-    walk-high-full (c .before .before .before .before .before .before .before .before .before .before .before .before .before .before .before .before .before .before .before .before .pre .1) two (c .before .before .before .before .before .before .before .before .before .before .before .low-link-of .ensures) (c .before .before .before .before .before .before .before .before .build .ensures) (c .before .before .before .before .before .if3 .left) (c .before .before .before .before .before .before .before .before .before .before .high-link-of .ensures) (c .before .before .before .build2 .ensures) (c .if4 .taken)
+    let two = ltb-false (c .before .before .before .before .before .before .before .before .before .before .before .before .before .before .before .before .before .before .before .before .before .before .args .node .0) 2 (sym (c .before .before .before .before .before .before .before .before .before .before .before .before .before .before .before .before .before .before .before .is-terminal .ensures) ∙ c .before .before .before .before .before .before .before .before .before .before .before .before .before .before .before .before .before .before .if1 .left) in
+    walk-high-full (c .before .before .before .before .before .before .before .before .before .before .before .before .before .before .before .before .before .before .before .before .before .before .pre .1) two (c .before .before .before .before .before .before .before .before .before .before .before .before .before .low-link-of .ensures) (c .before .before .before .before .before .before .before .before .before .before .build .ensures) (c .before .before .before .before .before .before .if3 .left) (c .before .before .before .before .before .before .before .before .before .before .before .before .high-link-of .ensures) (c .before .before .before .before .build2 .ensures) (c .if4 .taken)
 
 build-var-of-requires : (t : ℕ) → build-lts.Need-var-of-requires (known t) (build-at t) build.Post
 build-var-of-requires t c κs = search needs
 
 build-join-requires : (t : ℕ) → build-lts.Need-join-requires (known t) (build-at t) build.Post
 build-join-requires t c κs =
-    let two = ltb-false (c .before .before .before .before .before .before .before .before .before .before .before .before .before .before .before .before .before .before .before .before .before .before .args .node .0) 2 (sym (c .before .before .before .before .before .before .before .before .before .before .before .before .before .before .before .before .before .before .before .is-terminal .ensures) ∙ c .before .before .before .before .before .before .before .before .before .before .before .before .before .before .before .before .before .before .if1 .left) in
-    walk-shelf (c .before .before .before .before .before .before .before .before .before .before .before .before .before .before .before .before .before .before .before .before .before .before .pre .1) two (c .before .before .before .before .before .before .before .before .before .before .before .before .before .low-link-of .ensures) (c .before .before .before .before .before .before .before .before .before .before .build .ensures) (c .before .before .before .before .before .before .before .if3 .left) (c .before .before .before .before .before .before .before .before .before .before .before .before .high-link-of .ensures) (c .before .before .before .before .before .build2 .ensures) (c .before .before .if4 .left) (c .before .var-of .ensures)
+    let two = ltb-false (c .before .before .before .before .before .before .before .before .before .before .before .before .before .before .before .before .before .before .before .before .before .before .before .before .args .node .0) 2 (sym (c .before .before .before .before .before .before .before .before .before .before .before .before .before .before .before .before .before .before .before .before .before .is-terminal .ensures) ∙ c .before .before .before .before .before .before .before .before .before .before .before .before .before .before .before .before .before .before .before .before .if1 .left) in
+    walk-shelf (c .before .before .before .before .before .before .before .before .before .before .before .before .before .before .before .before .before .before .before .before .before .before .before .before .pre .1) two (c .before .before .before .before .before .before .before .before .before .before .before .before .before .before .before .low-link-of .ensures) (c .before .before .before .before .before .before .before .before .before .before .before .before .build .ensures) (c .before .before .before .before .before .before .before .before .if3 .left) (c .before .before .before .before .before .before .before .before .before .before .before .before .before .before .high-link-of .ensures) (c .before .before .before .before .before .before .build2 .ensures) (c .before .before .if4 .left) (c .before .var-of .ensures)
 
 build-add-put : (t : ℕ) → build-lts.Need-add-put (known t) (build-at t) build.Post
 build-add-put t c =
-    let two = ltb-false (c .before .before .before .before .before .before .before .before .before .before .before .before .before .before .before .before .before .before .before .before .before .before .before .before .before .before .before .args .node .0) 2 (sym (c .before .before .before .before .before .before .before .before .before .before .before .before .before .before .before .before .before .before .before .before .before .before .before .before .is-terminal .ensures) ∙ c .before .before .before .before .before .before .before .before .before .before .before .before .before .before .before .before .before .before .before .before .before .before .before .if1 .left) in
-    let small = walk-small (c .before .before .before .before .before .before .before .before .before .before .before .before .before .before .before .before .before .before .before .before .before .before .before .before .before .before .before .pre .1) two (c .before .before .before .before .before .before .before .before .before .before .before .before .before .before .before .before .before .before .low-link-of .ensures) (c .before .before .before .before .before .before .before .before .before .before .before .before .before .before .before .build .ensures) (c .before .before .before .before .before .before .before .before .before .before .before .before .if3 .left) (c .before .before .before .before .before .before .before .before .before .before .before .before .before .before .before .before .before .high-link-of .ensures) (c .before .before .before .before .before .before .before .before .before .before .build2 .ensures) (c .before .before .before .before .before .before .before .if4 .left) (c .before .before .before .before .before .before .var-of .ensures) (c .before .before .before .before .join .ensures) in
+    let two = ltb-false (c .before .before .before .before .before .before .before .before .before .before .before .before .before .before .before .before .before .before .before .before .before .before .before .before .before .before .before .before .before .args .node .0) 2 (sym (c .before .before .before .before .before .before .before .before .before .before .before .before .before .before .before .before .before .before .before .before .before .before .before .before .before .before .is-terminal .ensures) ∙ c .before .before .before .before .before .before .before .before .before .before .before .before .before .before .before .before .before .before .before .before .before .before .before .before .before .if1 .left) in
+    let small = walk-small (c .before .before .before .before .before .before .before .before .before .before .before .before .before .before .before .before .before .before .before .before .before .before .before .before .before .before .before .before .before .pre .1) two (c .before .before .before .before .before .before .before .before .before .before .before .before .before .before .before .before .before .before .before .before .low-link-of .ensures) (c .before .before .before .before .before .before .before .before .before .before .before .before .before .before .before .before .before .build .ensures) (c .before .before .before .before .before .before .before .before .before .before .before .before .before .if3 .left) (c .before .before .before .before .before .before .before .before .before .before .before .before .before .before .before .before .before .before .before .high-link-of .ensures) (c .before .before .before .before .before .before .before .before .before .before .before .build2 .ensures) (c .before .before .before .before .before .before .before .if4 .left) (c .before .before .before .before .before .before .var-of .ensures) (c .before .before .before .before .join .ensures) in
     omega (arith, small)
 
 build-put-requires : (t : ℕ) → build-lts.Need-put-requires (known t) (build-at t) build.Post
@@ -116,10 +116,10 @@ build-same-length-4 t c = search needs
 
 build-returns-5 : (t : ℕ) → build-lts.Need-returns-5 (known t) (build-at t) build.Post
 build-returns-5 t c =
-    let two = ltb-false (c .before .before .before .before .before .before .before .before .before .before .before .before .before .before .before .before .before .before .before .before .before .before .before .before .before .before .before .before .before .before .args .node .0) 2 (sym (c .before .before .before .before .before .before .before .before .before .before .before .before .before .before .before .before .before .before .before .before .before .before .before .before .before .before .before .is-terminal .ensures) ∙ c .before .before .before .before .before .before .before .before .before .before .before .before .before .before .before .before .before .before .before .before .before .before .before .before .before .before .if1 .left) in
-    let here = ap (λ (p : ℕ). set (c .before .before .before .before .before .before .before .join .last .0) (c .before .before .before .before .before .before .before .before .before .before .before .before .before .before .before .before .before .before .before .before .before .before .before .before .before .before .before .before .before .before .args .memo + p) (c .before .before .before .before .before .before .before .join .result .pointer .0 + 1)) (c .before .before .before .before .before .before .before .before .before .before .before .before .before .before .before .before .before .before .before .before .before .before .before .before .before .to-index .ensures) in
-    let same = c .before .before .before .before .before .before .before .join .kept .0 ∙ c .before .before .before .before .before .before .before .before .before .before .before .before .before .build2 .kept .1 .0 ∙ c .before .before .before .before .before .before .before .before .before .before .before .before .before .before .before .before .before .before .build .kept .1 .0 in
-    walk-node (c .before .before .before .before .before .before .before .before .before .before .before .before .before .before .before .before .before .before .before .before .before .before .before .before .before .before .before .before .before .before .pre .1) two (c .before .before .before .before .before .before .before .before .before .before .before .before .before .before .before .before .before .before .before .before .before .low-link-of .ensures) (c .before .before .before .before .before .before .before .before .before .before .before .before .before .before .before .before .before .before .build .ensures) (c .before .before .before .before .before .before .before .before .before .before .before .before .before .before .before .if3 .left) (c .before .before .before .before .before .before .before .before .before .before .before .before .before .before .before .before .before .before .before .before .high-link-of .ensures) (c .before .before .before .before .before .before .before .before .before .before .before .before .before .build2 .ensures) (c .before .before .before .before .before .before .before .before .before .before .if4 .left) (c .before .before .before .before .before .before .before .before .before .var-of .ensures) (c .before .before .before .before .before .before .before .join .ensures) same (c .before .before .put .ensures ∙ here)
+    let two = ltb-false (c .before .before .before .before .before .before .before .before .before .before .before .before .before .before .before .before .before .before .before .before .before .before .before .before .before .before .before .before .before .before .before .before .args .node .0) 2 (sym (c .before .before .before .before .before .before .before .before .before .before .before .before .before .before .before .before .before .before .before .before .before .before .before .before .before .before .before .before .before .is-terminal .ensures) ∙ c .before .before .before .before .before .before .before .before .before .before .before .before .before .before .before .before .before .before .before .before .before .before .before .before .before .before .before .before .if1 .left) in
+    let here = ap (λ (p : ℕ). set (c .before .before .before .before .before .before .before .join .last .0) (c .before .before .before .before .before .before .before .before .before .before .before .before .before .before .before .before .before .before .before .before .before .before .before .before .before .before .before .before .before .before .before .before .args .memo + p) (c .before .before .before .before .before .before .before .join .result .pointer .0 + 1)) (c .before .before .before .before .before .before .before .before .before .before .before .before .before .before .before .before .before .before .before .before .before .before .before .before .before .before .before .to-index .ensures) in
+    let same = c .before .before .before .before .before .before .before .join .kept .0 ∙ c .before .before .before .before .before .before .before .before .before .before .before .before .before .before .build2 .kept .1 .0 ∙ c .before .before .before .before .before .before .before .before .before .before .before .before .before .before .before .before .before .before .before .before .build .kept .1 .0 in
+    walk-node (c .before .before .before .before .before .before .before .before .before .before .before .before .before .before .before .before .before .before .before .before .before .before .before .before .before .before .before .before .before .before .before .before .pre .1) two (c .before .before .before .before .before .before .before .before .before .before .before .before .before .before .before .before .before .before .before .before .before .before .before .low-link-of .ensures) (c .before .before .before .before .before .before .before .before .before .before .before .before .before .before .before .before .before .before .before .before .build .ensures) (c .before .before .before .before .before .before .before .before .before .before .before .before .before .before .before .before .if3 .left) (c .before .before .before .before .before .before .before .before .before .before .before .before .before .before .before .before .before .before .before .before .before .before .high-link-of .ensures) (c .before .before .before .before .before .before .before .before .before .before .before .before .before .before .build2 .ensures) (c .before .before .before .before .before .before .before .before .before .before .if4 .left) (c .before .before .before .before .before .before .before .before .before .var-of .ensures) (c .before .before .before .before .before .before .before .join .ensures) same (c .before .before .put .ensures ∙ here)
 
 pub +build-spec : {M : Type 1} → statement M
 +build-spec = close μ-build λ t. build-lts.spec (known t)
