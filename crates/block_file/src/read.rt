@@ -1,8 +1,8 @@
 // Reading a file block by block.
+use block_reading::read_block;
 use blocks::layout::BLOCK;
 use blocks::layout::MOST;
 use blocks::layout::NODES;
-use blocks::read::read_block;
 use blocks::stored::SHORT_BLOCK;
 use blocks::stored::Stored;
 ghost use mathlib.Core.Path.{_≡_};

@@ -1,10 +1,10 @@
 // Writing the file of some nodes.
+use block_reading::nodes_here;
 use blocks::layout::BLOCK;
 use blocks::layout::MOST;
 use blocks::layout::NODES;
 use blocks::layout::PAIR_SPAN;
 use blocks::layout::WORDS;
-use blocks::read::nodes_here;
 use blocks::stored::Stored;
 use blocks::stored::TOO_MANY_STORED;
 use blocks::stored::WIDE_VARIABLE;

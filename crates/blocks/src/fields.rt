@@ -20,7 +20,7 @@ fn byte(bytes: &[u8], at: usize) -> u32
 }
 
 // The number in two bytes.
-pub(crate) fn get_two(bytes: &[u8], at: usize) -> u32
+pub fn get_two(bytes: &[u8], at: usize) -> u32
     requires { ⌜ at < pairSpan * pairSpan ⌝ }
     ensures { λ r. ⌜ (r ≡ two (now (bytes .entry)) at) × (r < pairSpan) ⌝ }
 {
@@ -28,7 +28,7 @@ pub(crate) fn get_two(bytes: &[u8], at: usize) -> u32
 }
 
 // The number in four bytes.
-pub(crate) fn get_four(bytes: &[u8], at: usize) -> u32
+pub fn get_four(bytes: &[u8], at: usize) -> u32
     requires { ⌜ at < pairSpan ⌝ }
     ensures { λ r. ⌜ r ≡ four (now (bytes .entry)) at ⌝ }
 {

@@ -2,7 +2,6 @@
 pub mod fields;
 pub mod layout;
 pub mod nodes;
-pub mod read;
 pub mod stored;
 pub mod sums;
 pub mod write;

@@ -23,7 +23,7 @@ fn get_node(block: &[u8], from: usize, output: &mut [u32], at: usize) -> usize
 }
 
 // The nodes in a block's first places.
-pub(crate) fn get_nodes(block: &[u8], count: usize, output: &mut [u32], at: usize) -> usize
+pub fn get_nodes(block: &[u8], count: usize, output: &mut [u32], at: usize) -> usize
     requires { ⌜ count ≤ blockNodes ⌝ }
     ensures { λ r. ⌜ Wrote (nodesAt (now (block .entry)) places count) (now (output .entry)) at (now (output .exit)) r ⌝ }
 {

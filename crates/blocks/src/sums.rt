@@ -7,7 +7,7 @@ ghost use Prim.Native.Nat.{_≤_};
 ghost use lib.ListN.{length};
 ghost use Rattle.blocks.specs.Block.{blockBytes, total, weighted, sumsRight};
 
-pub(crate) fn sum(bytes: &[u8]) -> u32
+pub fn sum(bytes: &[u8]) -> u32
     requires { ⌜ length (now bytes) ≤ blockBytes ⌝ }
     ensures { λ r. ⌜ r ≡ total (now (bytes .entry)) ⌝ }
 {
@@ -35,7 +35,7 @@ pub(crate) fn weighted_sum(bytes: &[u8]) -> u32
 }
 
 // Whether both sums of a block are what the block says.
-pub(crate) fn sums_right(block: &[u8]) -> bool
+pub fn sums_right(block: &[u8]) -> bool
     requires { ⌜ blockBytes ≤ length (now block) ⌝ }
     ensures { λ r. ⌜ r ≡ sumsRight (now (block .entry)) ⌝ }
 {

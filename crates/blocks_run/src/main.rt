@@ -11,10 +11,10 @@
 // Both files are made by tests/blocks_cases.py, from a reading of document 01 that shares nothing with this code.
 use block_file::read::read_file;
 use block_file::write::write_file;
+use block_reading::read_block;
 use blocks::layout::BLOCK;
 use blocks::layout::FILE;
 use blocks::layout::FILE_WORDS;
-use blocks::read::read_block;
 use blocks::stored::Stored;
 use cases::fill;
 use cases::least;

@@ -24,7 +24,7 @@ use Rattle.approximation.proofs.Listing.{under-accepted-open}
 use Rattle.approximation.proofs.Targets.{one-count, to-count-none, to-count-same, search-many}
 use Rattle.priorities.specs.Prioritised.{Fits, Prioritised}
 use Rattle.cuts.specs.Marks.{markedIn}
-use Rattle.cuts.proofs.Answering.{drop-more}
+use Rattle.cuts.proofs.Rooms.{drop-more}
 use Rattle.room_map.specs.Map.{marksTo, linksFrom, countsTo, weightsFrom, weightsTo, searchTo}
 use Rattle.recounts.specs.Kept.{Beginning, Whole, Begun}
 use Rattle.recounts.proofs.Counting.{whole-lent, whole-put, whole-behind, whole-stale}

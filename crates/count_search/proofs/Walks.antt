@@ -28,7 +28,7 @@ use Rattle.cuts.specs.Marks.{markedIn, Cutting, CutIn, CutWithin}
 use Rattle.cuts.proofs.Cutting.{within-most}
 use Rattle.cuts.proofs.Steps.{present}
 use Rattle.cuts.proofs.Marking.{set-marks, listed-take}
-use Rattle.cuts.proofs.Answering.{drop-more}
+use Rattle.cuts.proofs.Rooms.{drop-more}
 use Rattle.recounts.specs.Kept.{Untouched, Recounting, Recounted}
 use Rattle.recounts.proofs.Passes.{same-words, untouched-marks, untouched-noted}
 use Rattle.recounts.proofs.Counting.{stale-taken}

@@ -13,28 +13,6 @@ use Rattle.cuts.specs.Marks.{markedIn, linkFrom, nodeAt, constantAt}
 use Rattle.cuts.proofs.Marking.{listed-take}
 use Rattle.cuts.proofs.Sending.{link-stays, link-sent}
 
--- ---- a list is searched
-
--- None of the first i is the pointer.
-pub absent-on : (s : List ℕ) (i q : ℕ) → i < length s → listed (take i s) q ≡ false → (getD s i 0 ≡ q → ⊥) → listed (take (suc i) s) q ≡ false
-absent-on s i q h none ne = listed-take s i q h ∙ rw (none, ne-eqb q (getD s i 0) (λ e. ne (sym e))) refl
-
--- One that is there.
-pub present : (s : List ℕ) (i q : ℕ) → i < length s → getD s i 0 ≡ q → listed s q ≡ true
-unfolding listed
-present [] i q h e = absurd (omega arith)
-present (p ∷ s) zero q h e = rw (eq-eqb q p (sym e)) refl
-present (p ∷ s) (suc i) q h e = or-true (eqb q p) (listed s q) (present s i q (omega arith) e)
-  where
-    or-true : (a b : Bool) → b ≡ true → (a || b) ≡ true
-    or-true true b e = refl
-    or-true false b e = e
-
-pub absent-all : (s : List ℕ) (i q : ℕ) → length s ≤ i → i ≤ length s → listed (take i s) q ≡ false → listed s q ≡ false
-absent-all s i q h l none =
-    let e : i ≡ length s = omega arith in
-    ap (λ (x : List ℕ). listed x q) (sym (take-length s)) ∙ ap (λ (k : ℕ). listed (take k s) q) (sym e) ∙ none
-
 -- ---- marks and links
 
 pub marked-read : (m : ℕ) (r : List ℕ) (p i x : ℕ) → i ≡ p → x ≡ getD r (m + i) 0 → not (eqb x 0) ≡ markedIn m r p

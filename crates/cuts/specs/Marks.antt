@@ -7,8 +7,8 @@ use mathlib.Core.List.{List, _++_}
 use lib.ListN.{length, getD, set, take, drop}
 use lib.Dec.{ltb, eqb}
 use Rattle.diagram.specs.Limits.{maxNodes}
-use Rattle.diagram.specs.Diagram.{size, vars, Formed, Ordered, Accepted}
-use Rattle.diagram.specs.Verdict.{most, roomOf}
+use Rattle.diagram.specs.Diagram.{size, vars, Formed, Ordered}
+use Rattle.diagram.specs.Verdict.{most}
 use Rattle.room_map.specs.Map.{marksTo, tablesFrom, answerFrom, tablesTo}
 use Rattle.store.specs.Room.{storeTo}
 use Rattle.reduction.specs.Reduce.{reduce}
@@ -101,21 +101,3 @@ pub record CutWithin (w : List ℕ) (c t : ℕ) (r after : List ℕ) (k : ℕ) :
   pub kept : length after ≡ length r
   pub before : take (tablesFrom (most w)) after ≡ take (tablesFrom (most w)) r
   pub beyond : drop (tablesTo (most w)) after ≡ drop (tablesTo (most w)) r
-
--- ---- by a list
-
--- An accepted diagram with a list whose pointers name nodes, in a room that is zero; and what is answered.
-pub record Listing (w list : List ℕ) (t : ℕ) (r out : List ℕ) (n v : ℕ) : Type 0 where
-  pub accepted : Accepted w
-  pub is-size : n ≡ size w
-  pub is-vars : v ≡ vars w
-  pub terminal : t < 2
-  pub inside : (j : ℕ) → j < length list → getD list j 0 < size w
-  pub long : roomOf w ≤ length r
-  pub zero : (j : ℕ) → j < roomOf w → getD r j 0 ≡ 0
-  pub output : 3 * most w ≤ length out
-
-pub record Listed (w list : List ℕ) (t : ℕ) (r after out out′ : List ℕ) (k : ℕ) : Type 0 where
-  pub count : k ≡ size (cut w (listed list) t)
-  pub room : after ≡ r
-  pub written : out′ ≡ cut w (listed list) t ++ drop (length (cut w (listed list) t)) out

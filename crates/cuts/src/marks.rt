@@ -24,7 +24,7 @@ pub fn mark(room: &mut [u32], most: usize, node: BddPointer)
 }
 
 // Marks every node in a list.
-pub(crate) fn mark_all(list: &[u32], room: &mut [u32], most: usize)
+pub fn mark_all(list: &[u32], room: &mut [u32], most: usize)
     requires { ⌜ Markable (now list) (now room) most ⌝ }
     ensures { λ _. ⌜ Marked (now (list .entry)) most (now (room .entry)) (now (room .exit)) ⌝ }
 {

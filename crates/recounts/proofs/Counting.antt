@@ -27,7 +27,7 @@ use Rattle.approximation.specs.Cut.{cut}
 use Rattle.approximation.proofs.Cut.{cut-same}
 use Rattle.cuts.specs.Marks.{markedIn}
 use Rattle.cuts.proofs.Marking.{set-marks}
-use Rattle.cuts.proofs.Answering.{drop-more}
+use Rattle.cuts.proofs.Rooms.{drop-more}
 use Rattle.room_map.specs.Map.{linksFrom, countsFrom, countsTo}
 use Rattle.recounts.specs.Kept.{leftOf, rootOf, Stale, Rooted, Renewed, Passing, Recounting, Recounted, Beginning, Whole, Begun}
 use Rattle.recounts.proofs.Left.{left-cond, left-end, left-none, left-total, left-total-fits}

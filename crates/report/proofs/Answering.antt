@@ -16,7 +16,7 @@ use Rattle.diagram.specs.Verdict.{Outcome, accepted, refused, said, row, andThe
 use Rattle.diagram.specs.declared.verdict.Verdict.{Verdict}
 use Rattle.diagram.specs.declared.verdict.Verdict.the-variants.{Accepted, Refused}
 use Rattle.weights.specs.Weighed.{weightsVerdict, Weighs}
-use Rattle.weights.proofs.Answers.{weighed-long, weighed-at}
+use Rattle.node_weights.proofs.Answers.{weighed-long, weighed-at}
 use Rattle.weights.proofs.Visits.{weight-of-one}
 use Rattle.blocks.specs.Block.{maxStored, maxStoredWords, nodes, refused as unread, said as told}
 use Rattle.blocks.specs.declared.stored.Stored.{Stored}

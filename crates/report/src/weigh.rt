@@ -7,7 +7,7 @@ use blocks::layout::MOST;
 use blocks::stored::Stored;
 use diagram::limits::ROOM_PER_NODE;
 use diagram::verdict::Verdict;
-use weights::node_valuation_weights;
+use node_weights::node_valuation_weights;
 ghost use Prim.Native.Nat.{_*_, _≤_};
 ghost use lib.ListN.{length};
 ghost use Rattle.writing.specs.Writing.{Wrote};

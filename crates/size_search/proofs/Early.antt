@@ -11,7 +11,7 @@ use Rattle.room_map.specs.Map.{weightsTo, searchTo}
 use Rattle.approximation.specs.Constants.{falseOf, trueOf}
 use Rattle.approximation.specs.Search.{answer, sizeSearch, underToSize}
 use Rattle.approximation.proofs.Targets.{to-size-none, to-size-true, to-size-false, to-size-same, to-size-search}
-use Rattle.cuts.proofs.Answering.{drop-more}
+use Rattle.cuts.proofs.Rooms.{drop-more}
 use Rattle.trials.specs.Trials.{Searching, Preparing, Prepared, Found}
 use Rattle.trials.specs.Answers.{Kept}
 use Rattle.trials.proofs.Early.{searching-ordered, searching-kept}

@@ -10,7 +10,7 @@ use Rattle.diagram.specs.Verdict.{most}
 use Rattle.room_map.specs.Map.{answerFrom, tablesTo, searchTo}
 use Rattle.approximation.specs.Search.{Answer, answer, cutFirst, middle, sizeSearch}
 use Rattle.approximation.proofs.Search.{search-last, search-exact, search-fewer, search-more}
-use Rattle.cuts.proofs.Answering.{drop-more}
+use Rattle.cuts.proofs.Rooms.{drop-more}
 use Rattle.trials.specs.Trials.{Ready, Trying, Tried, Found}
 use Rattle.trials.specs.First.{Limited, TriedWithin}
 use Rattle.size_search.specs.Search.{Halving, At}

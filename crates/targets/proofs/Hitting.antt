@@ -19,7 +19,7 @@ use Rattle.negation.specs.Negation.{negated, over, Ready}
 use Rattle.negation.proofs.Meaning.{negated-vars, negated-accepted, negated-twice, negated-most}
 use Rattle.approximation.specs.Cut.{Under}
 use Rattle.approximation.specs.Search.{Answer, back}
-use Rattle.cuts.proofs.Answering.{zeros-back}
+use Rattle.cuts.proofs.Rooms.{zeros-back}
 use Rattle.trials.specs.Trials.{Searching, Found}
 use Rattle.trials.specs.Answers.{answerIn, Giving, Given, Returning, Returned}
 use Rattle.targets.specs.Targets.{Meets}

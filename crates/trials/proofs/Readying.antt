@@ -18,7 +18,7 @@ use Rattle.weights.specs.Passes.{weightsFrom as weightsInFrom, weightsTo as wei
 use Rattle.priorities.specs.Prioritised.{Fits, Prioritised}
 use Rattle.priorities.proofs.Ordering.{prioritised-order, prioritised-entry}
 use Rattle.approximation.specs.Search.{order}
-use Rattle.cuts.proofs.Answering.{drop-more}
+use Rattle.cuts.proofs.Rooms.{drop-more}
 use Rattle.trials.specs.Trials.{Ready, Preparing, Prepared}
 
 -- ---- they are made

@@ -3,11 +3,9 @@
 --     Levels     counting from a node's own variable on
 --     Entries    tables of numbers in lent words: kept, emptied and copied
 --     Ascent     the second pass
---     Answers    what the public function answers
 --     Visits     what weights say: of the terminals and the root, and of several nodes together
 pub mod Dots
 pub mod Levels
 pub mod Entries
 pub mod Ascent
-pub mod Answers
 pub mod Visits

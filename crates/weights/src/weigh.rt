@@ -60,7 +60,7 @@ fn weight_at(room: &[u32], nodes: usize, node: BddPointer) -> Natural
 }
 
 // Copies the weights from the room to the output.
-pub(crate) fn hand_over(room: &[u32], output: &mut [u32], nodes: usize)
+pub fn hand_over(room: &[u32], output: &mut [u32], nodes: usize)
     requires { ⌜ (nodes ≤ maxNodes) × (weightsTo nodes ≤ length (now room)) × (wordCount * nodes ≤ length (now output)) ⌝ }
     ensures { λ _. ⌜ Handed (weightsFrom nodes) (now (room .entry)) (now (output .entry)) nodes (now (output .exit)) ⌝ }
 {

@@ -16,7 +16,7 @@ use diagram::verdict::Verdict;
 use libc::STDOUT_FILENO;
 use naturals::Natural;
 use naturals::load;
-use weights::node_valuation_weights;
+use node_weights::node_valuation_weights;
 ghost use Prim.Native.Nat.{_≤_, _<_};
 ghost use lib.ListN.{length};
 ghost use Rattle.diagram.specs.Limits.{maxNodes};

@@ -1,4 +1,4 @@
-use Rattle.cuts.specs.Approximates.{Approximates}
+use Rattle.list_cuts.specs.Approximates.{Approximates}
 use Rattle.houayletan.proofs.Flattening.{flat-diagram}
 use borrow.Author.Needs.{needs}
 use Rattle.houayletan.proofs.cutting.houayletan_underapproximate.Statement.{statement}

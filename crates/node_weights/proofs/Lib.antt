@@ -1,0 +1,3 @@
+-- Laws of the entry point.
+--     Answers    what it answers
+pub mod Answers
