@@ -20,7 +20,7 @@ PROMISES = "docs/PROMISES.md"
 # Where promises begin: every exported function, and these of the programs' crates.
 EXPORTS = "crates/houayletan/src/*.rt"
 FUNCTIONS = [
-    ("block_file", "read_file"), ("block_file", "write_file"), ("blocks", "read_block"), ("report", "report"),
+    ("block_file", "read_file"), ("block_file", "write_file"), ("block_reading", "read_block"), ("report", "report"),
     ("shrinking", "answer"), ("shrink_program", "run_program"),
 ]
 NAME = re.compile(r"[^\s(){}\[\],;:⌜⌝λ.]+")
