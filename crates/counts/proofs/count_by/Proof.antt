@@ -4,6 +4,7 @@ use lib.Seq.{length-take-le}
 use Prim.Native.Nat.{_*_}
 use Rattle.counts.proofs.Answers.{count-refused, count-nodes, count-fits, count-asks, count-accepted}
 use native.Mathlib.Omega.{arith}
+use Rattle.counts.specs.Worth.{entry}
 use borrow.Author.Needs.{needs}
 use Rattle.counts.proofs.count_by.Statement.{statement}
 use Rattle.counts.proofs.count_by.Tie as tie
@@ -34,7 +35,7 @@ slice-relend-prefix-total c = count-fits (c .before .before .before .before .bef
 
 slice-aggregate-total : tie.Need-slice-aggregate-total
 slice-aggregate-total c =
-    sym (length-take-le (9 * c .before .before .verdict .given .0 .0) (c .before .before .before .before .before .before .admit .last .1 .0) (count-fits (c .before .before .before .before .before .before .admit .ensures) (c .before .before .verdict .given .1)))
+    sym (length-take-le (entry * c .before .before .verdict .given .0 .0) (c .before .before .before .before .before .before .admit .last .1 .0) (count-fits (c .before .before .before .before .before .before .admit .ensures) (c .before .before .verdict .given .1)))
 
 total-requires : tie.Need-total-requires
 total-requires c κs = count-asks (c .before .before .before .before .before .before .admit .ensures) (c .before .before .verdict .given .1)

@@ -4,6 +4,7 @@ use mathlib.Core.Path.{_∙_}
 use Prim.Native.Nat.{_*_}
 use Rattle.diagram.proofs.Words.{zeros-whole}
 use Rattle.counts.proofs.Answers.{zeros-own, zeros-long, alone, given, root-place, total-done}
+use Rattle.counts.specs.Worth.{entry}
 use borrow.Author.Needs.{needs}
 use Rattle.counts.proofs.total.total.Statement.{statement}
 use Rattle.counts.proofs.total.total.Tie as tie
@@ -12,7 +13,7 @@ zero-requires : tie.Need-zero-requires
 zero-requires c κs = search needs
 
 returns : tie.Need-returns
-returns c = (alone (c .before .before .before .before .args .valuations) (now (c .before .before .before .before .args .words)) (c .before .before .before .before .args .nodes) (c .before .before .before .before .pre .0) (c .before .before .before .before .pre .1) (c .before .if1 .taken) (c .zero .ensures), zeros-own (now (c .before .before .before .before .args .room)) (9 * c .before .before .before .before .args .nodes) (c .before .before .before .before .pre .2))
+returns c = (alone (c .before .before .before .before .args .valuations) (now (c .before .before .before .before .args .words)) (c .before .before .before .before .args .nodes) (c .before .before .before .before .pre .0) (c .before .before .before .before .pre .1) (c .before .if1 .taken) (c .zero .ensures), zeros-own (now (c .before .before .before .before .args .room)) (entry * c .before .before .before .before .args .nodes) (c .before .before .before .before .pre .2))
 
 var-of-requires : tie.Need-var-of-requires
 var-of-requires c κs = search needs
