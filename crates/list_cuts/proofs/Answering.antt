@@ -83,6 +83,15 @@ module _ {w list : List ℕ} {t : ℕ} {r out : List ℕ} {n v : ℕ} (a : Listi
       pub listing-made : k ≤ maxNodes
       listing-made = let fits = c .fits in let e = listing-most in let few = listing-few in omega arith
 
+      pub listing-inside : answerFrom m + 3 * k ≤ length after
+      listing-inside =
+          let fits = c .fits in
+          let e = listing-most in
+          let long = a .long in
+          let kept = c .kept in
+          let marked = marks .kept in
+          omega arith
+
       pub listing-fits : 3 * k ≤ length out
       listing-fits = let fits = c .fits in let room = a .output in omega arith
 

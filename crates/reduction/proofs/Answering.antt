@@ -235,6 +235,9 @@ module _ {w r out : List ℕ} {n v : ℕ} (lent : Lent w r out n v) {m : ℕ} (i
     pub answer-fits : 3 * c ≤ length out
     answer-fits = let fits = placed .fits in let room = lent .output in omega arith
 
+    pub answer-inside : max (size w) 2 + 3 * c ≤ length t
+    answer-inside = let fits = placed .fits in let long = lent .asked .long in let same = made .kept in omega arith
+
     module _ {out′ : List ℕ} (kept : length out′ ≡ length out) (copied : Copied t (max (size w) 2) out out′ (3 * c)) where
       front : take (3 * c) out′ ≡ reduce w
       front =

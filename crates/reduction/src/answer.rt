@@ -2,7 +2,6 @@
 // For m the larger of the number of nodes and 2, the memo stands in the room's first words, and the store from m on.
 use diagram::lengths::most;
 use diagram::node::BddPointer;
-use diagram::node::word;
 use diagram::room::clear;
 use store::shelf::END;
 use store::shelf::start;
@@ -10,7 +9,7 @@ use store::walk::build;
 ghost use mathlib.Core.Path.{_≡_};
 ghost use Prim.Native.Nat.{_+_, _*_, _≤_, max};
 ghost use lib.ListN.{length};
-ghost use Rattle.diagram.specs.Limits.{maxNodes, roomPerNode};
+ghost use Rattle.diagram.specs.Limits.{maxNodes};
 ghost use Rattle.diagram.specs.Diagram.{size};
 ghost use Rattle.reduction.specs.Room.{Copied, Asked, Shelved, Lent, Answered};
 
@@ -18,12 +17,12 @@ const MEMO: usize = 0;
 
 // Copies `count` words of the room, from a place on, to the output.
 pub fn copy(room: &[u32], from: usize, output: &mut [u32], count: usize)
-    requires { ⌜ (from ≤ roomPerNode * maxNodes) × (count ≤ length (now output)) ⌝ }
+    requires { ⌜ (from + count ≤ length (now room)) × (count ≤ length (now output)) ⌝ }
     ensures { λ _. ⌜ Copied (now (room .entry)) from (now (output .entry)) (now (output .exit)) count ⌝ }
 {
     let mut i = 0;
     while i < count {
-        output[i] = word(room, from + i);
+        output[i] = room[from + i];
         i += 1;
     }
 }
@@ -47,7 +46,7 @@ pub fn make(words: &[u32], room: &mut [u32], limit: usize, nodes: usize, vars: u
 // Copies the diagram's answer, of so many nodes, from the room to the output. It stands behind the memo, which has a word
 // for each of the diagram's nodes.
 fn hand_over(words: &[u32], room: &[u32], output: &mut [u32], count: usize)
-    requires { ⌜ (size (now words) ≤ maxNodes) × (3 * count ≤ length (now output)) ⌝ }
+    requires { ⌜ (size (now words) ≤ maxNodes) × (max (size (now words)) 2 + 3 * count ≤ length (now room)) × (3 * count ≤ length (now output)) ⌝ }
     ensures { λ _. ⌜ Copied (now (room .entry)) (max (size (now (words .entry))) 2) (now (output .entry)) (now (output .exit)) (3 * count) ⌝ }
 {
     let memo = most(words.len() / 3);

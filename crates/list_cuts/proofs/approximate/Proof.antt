@@ -1,4 +1,4 @@
-use Rattle.list_cuts.proofs.Answering.{listing-few, listing-markable, listing-cutting, listing-made, listing-fits, listing-ends}
+use Rattle.list_cuts.proofs.Answering.{listing-few, listing-markable, listing-cutting, listing-made, listing-inside, listing-fits, listing-ends}
 use native.Mathlib.Omega.{arith}
 use borrow.Author.Needs.{needs}
 use Rattle.list_cuts.proofs.approximate.Statement.{statement}
@@ -23,7 +23,7 @@ mul-copy-2 : tie.Need-mul-copy-2
 mul-copy-2 c = omega (arith, listing-made (c .before .before .before .before .before .before .before .before .before .before .before .before .before .before .before .before .before .pre) (c .before .before .before .before .before .before .before .before .before .before .before .before .most .ensures) (c .before .before .before .before .before .before .before .before .before .before .mark-all .ensures) (c .before .before .before .before .before .cut .ensures))
 
 copy-requires : tie.Need-copy-requires
-copy-requires c κs = (omega (arith, listing-few (c .before .before .before .before .before .before .before .before .before .before .before .before .before .before .before .before .before .pre) (c .before .before .before .before .before .before .before .before .before .before .before .before .most .ensures)), listing-fits (c .before .before .before .before .before .before .before .before .before .before .before .before .before .before .before .before .before .pre) (c .before .before .before .before .before .before .before .before .before .before .before .before .most .ensures) (c .before .before .before .before .before .before .before .before .before .before .mark-all .ensures) (c .before .before .before .before .before .cut .ensures))
+copy-requires c κs = (listing-inside (c .before .before .before .before .before .before .before .before .before .before .before .before .before .before .before .before .before .pre) (c .before .before .before .before .before .before .before .before .before .before .before .before .most .ensures) (c .before .before .before .before .before .before .before .before .before .before .mark-all .ensures) (c .before .before .before .before .before .cut .ensures), listing-fits (c .before .before .before .before .before .before .before .before .before .before .before .before .before .before .before .before .before .pre) (c .before .before .before .before .before .before .before .before .before .before .before .before .most .ensures) (c .before .before .before .before .before .before .before .before .before .before .mark-all .ensures) (c .before .before .before .before .before .cut .ensures))
 
 mul-clear : tie.Need-mul-clear
 mul-clear c = omega (arith, listing-few (c .before .before .before .before .before .before .before .before .before .before .before .before .before .before .before .before .before .before .before .before .before .pre) (c .before .before .before .before .before .before .before .before .before .before .before .before .before .before .before .before .most .ensures))

@@ -1,4 +1,4 @@
-use Rattle.reduction.proofs.Answering.{lent-few, lent-asked, answer-fits, answer-ends}
+use Rattle.reduction.proofs.Answering.{lent-few, lent-asked, answer-fits, answer-inside, answer-ends}
 use borrow.Author.Needs.{needs}
 use native.Mathlib.Omega.{arith}
 use Rattle.reduction.proofs.answer.answer.Statement.{statement}
@@ -11,7 +11,7 @@ make-requires : tie.Need-make-requires
 make-requires c κs = lent-asked (c .before .before .before .before .before .pre) (c .before .most .ensures)
 
 hand-over-requires : tie.Need-hand-over-requires
-hand-over-requires c κs = (c .before .before .before .before .before .before .before .before .before .before .pre .asked .ordered .formed .few, answer-fits (c .before .before .before .before .before .before .before .before .before .before .pre) (c .before .before .before .before .before .before .most .ensures) (c .before .before .before .before .make .ensures))
+hand-over-requires c κs = (c .before .before .before .before .before .before .before .before .before .before .pre .asked .ordered .formed .few, answer-inside (c .before .before .before .before .before .before .before .before .before .before .pre) (c .before .before .before .before .before .before .most .ensures) (c .before .before .before .before .make .ensures), answer-fits (c .before .before .before .before .before .before .before .before .before .before .pre) (c .before .before .before .before .before .before .most .ensures) (c .before .before .before .before .make .ensures))
 
 mul-clear : tie.Need-mul-clear
 mul-clear c = omega (arith, lent-few (c .before .before .before .before .before .before .before .before .before .before .before .before .before .before .pre .asked) (c .before .before .before .before .before .before .before .before .before .before .most .ensures))

@@ -18,14 +18,17 @@ abbrev μ-loop : tie.MeasureT-loop
 loop-holds : tie.Need-loop-holds Inv-loop μ-loop
 loop-holds c = (omega arith, refl, λ j h. absurd (omega arith), refl)
 
-add-word : tie.Need-add-word Inv-loop μ-loop
-add-word c = search needs
-
-word-requires : tie.Need-word-requires Inv-loop μ-loop
-word-requires c κs = search needs
+add-output : tie.Need-add-output Inv-loop μ-loop
+add-output c = search needs
 
 mul-output : tie.Need-mul-output Inv-loop μ-loop
 mul-output c = search needs
+
+shared-slice-read-output : tie.Need-shared-slice-read-output Inv-loop μ-loop
+shared-slice-read-output c = search needs
+
+mul-output-2 : tie.Need-mul-output-2 Inv-loop μ-loop
+mul-output-2 c = search needs
 
 slice-write-output : tie.Need-slice-write-output Inv-loop μ-loop
 slice-write-output c = search needs
@@ -38,16 +41,17 @@ loop-less c = search needs
 
 loop-again : tie.Need-loop-again Inv-loop μ-loop
 loop-again c =
-    let a = c .before .before .before .before .before .args in
+    let a = c .before .before .before .args in
     let inv = c .before .before .loop .inv in
-    (omega arith, simp length-set (inv .1), copy-more (now (a .room)) (c .before .before .loop .output) (a .from) (c .before .before .loop .i) (c .word .result) (c .word .ensures) (omega arith) (inv .2), drop-set-lt (a .count) (c .before .before .loop .output) (c .before .before .loop .i) (c .word .result) (c .before .loop-test .taken) ∙ inv .3)
+    let x = getD (now (a .room)) (a .from + c .before .before .loop .i) 0 in
+    (omega arith, simp length-set (inv .1), copy-more (now (a .room)) (c .before .before .loop .output) (a .from) (c .before .before .loop .i) x refl (omega arith) (inv .2), drop-set-lt (a .count) (c .before .before .loop .output) (c .before .before .loop .i) x (c .before .loop-test .taken) ∙ inv .3)
 
 same-length : tie.Need-same-length Inv-loop μ-loop
 same-length c = c .before .loop .inv .1
 
 returns : tie.Need-returns Inv-loop μ-loop
 returns c =
-    let a = c .before .before .before .before .args in
+    let a = c .before .before .args in
     let inv = c .before .loop .inv in
     let end : c .before .loop .i ≡ a .count = omega arith in
     record { first = λ j h. inv .2 j (omega arith); rest = inv .3 }
@@ -59,9 +63,10 @@ copy-spec =
     Inv-loop
     μ-loop
     loop-holds
-    add-word
-    word-requires
+    add-output
     mul-output
+    shared-slice-read-output
+    mul-output-2
     slice-write-output
     add-i
     loop-less

@@ -11,7 +11,7 @@ mul-copy-2 : tie.Need-mul-copy-2
 mul-copy-2 c = omega (arith, c .before .before .before .before .pre .few, c .before .before .before .before .pre .nodes)
 
 copy-requires : tie.Need-copy-requires
-copy-requires c κs = (omega (arith, c .before .before .before .before .pre .few), omega (arith, c .before .before .before .before .pre .nodes, c .before .before .before .before .pre .output))
+copy-requires c κs = (omega (arith, c .before .before .before .before .pre .nodes, c .before .before .before .before .pre .long), omega (arith, c .before .before .before .before .pre .nodes, c .before .before .before .before .pre .output))
 
 mul-clear : tie.Need-mul-clear
 mul-clear c = omega (arith, c .before .before .before .before .before .before .before .before .pre .few)
