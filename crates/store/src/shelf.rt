@@ -10,7 +10,7 @@ use diagram::node::word;
 use diagram::room::clear;
 use diagram::room::put;
 ghost use mathlib.Core.Path.{_≡_};
-ghost use Prim.Native.Nat.{_+_, _*_, _≤_};
+ghost use Prim.Native.Nat.{_+_, _*_, _<_, _≤_};
 ghost use lib.ListN.{getD};
 ghost use Rattle.diagram.specs.Limits.{maxNodes};
 ghost use Rattle.store.specs.Store.{node, same, join as joinOf};
@@ -112,17 +112,17 @@ fn enter(
     low: BddPointer,
     high: BddPointer,
 )
-    requires { ⌜ (base ≤ farthest) × (capacity ≤ maxNodes) × (count ≤ maxNodes) × (bucket ≤ maxNodes) ⌝ }
+    requires { ⌜ Space base capacity (now room) × (count < capacity) × (bucket < capacity) ⌝ }
     ensures { λ _. ⌜ now (room .exit) ≡ entered base capacity (now (room .entry)) count bucket (node (var .0) (low .0) (high .0)) ⌝ }
 {
     let at = base + 3 * count;
-    put(room, at, var.0);
-    put(room, at + 1, low.0);
-    put(room, at + 2, high.0);
+    room[at] = var.0;
+    room[at + 1] = low.0;
+    room[at + 2] = high.0;
     let head = base + HEADS * capacity + bucket;
-    let before = word(room, head);
-    put(room, base + NEXT * capacity + count, before);
-    put(room, head, count as u32);
+    let before = room[head];
+    room[base + NEXT * capacity + count] = before;
+    room[head] = count as u32;
 }
 
 // The pointer to a variable over two children: the child where both are the same, else the node that is there already,

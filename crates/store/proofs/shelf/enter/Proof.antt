@@ -1,5 +1,7 @@
 use Rattle.store.specs.Store.{node}
 use denote.Ref.{now}
+use lib.ListN.{length-set}
+use mathlib.Core.Path.{refl}
 use Rattle.store.proofs.Zones.{entered-is}
 use native.Mathlib.Omega.{arith}
 use borrow.Author.Needs.{needs}
@@ -12,20 +14,29 @@ mul-at c = search needs
 add-at : tie.Need-add-at
 add-at c = search needs
 
-put-requires : tie.Need-put-requires
-put-requires c κs = search needs
+mul-room : tie.Need-mul-room
+mul-room c = search needs
 
-add-put : tie.Need-add-put
-add-put c = search needs
+slice-write-room : tie.Need-slice-write-room
+slice-write-room c = search needs
 
-put-requires-2 : tie.Need-put-requires-2
-put-requires-2 c κs = search needs
+add-room : tie.Need-add-room
+add-room c = search needs
 
-add-put-2 : tie.Need-add-put-2
-add-put-2 c = search needs
+mul-room-2 : tie.Need-mul-room-2
+mul-room-2 c = search needs
 
-put-requires-3 : tie.Need-put-requires-3
-put-requires-3 c κs = search needs
+slice-write-room-2 : tie.Need-slice-write-room-2
+slice-write-room-2 c = simp length-set (omega (arith, c .pre .0 .long, c .pre .1))
+
+add-room-2 : tie.Need-add-room-2
+add-room-2 c = search needs
+
+mul-room-3 : tie.Need-mul-room-3
+mul-room-3 c = search needs
+
+slice-write-room-3 : tie.Need-slice-write-room-3
+slice-write-room-3 c = simp length-set (omega (arith, c .pre .0 .long, c .pre .1))
 
 mul-head : tie.Need-mul-head
 mul-head c = search needs
@@ -36,34 +47,43 @@ add-head c = search needs
 add-head-2 : tie.Need-add-head-2
 add-head-2 c = search needs
 
-word-requires : tie.Need-word-requires
-word-requires c κs = search needs
+mul-before : tie.Need-mul-before
+mul-before c = search needs
 
-mul-put : tie.Need-mul-put
-mul-put c = search needs
+slice-read-before : tie.Need-slice-read-before
+slice-read-before c = simp length-set (omega (arith, c .before .pre .0 .long, c .before .pre .2))
 
-add-put-3 : tie.Need-add-put-3
-add-put-3 c = search needs
+mul-room-4 : tie.Need-mul-room-4
+mul-room-4 c = search needs
 
-add-put-4 : tie.Need-add-put-4
-add-put-4 c = search needs
+add-room-3 : tie.Need-add-room-3
+add-room-3 c = search needs
 
-put-requires-4 : tie.Need-put-requires-4
-put-requires-4 c κs = search needs
+add-room-4 : tie.Need-add-room-4
+add-room-4 c = search needs
 
-cast-put : tie.Need-cast-put
-cast-put c = search needs
+mul-room-5 : tie.Need-mul-room-5
+mul-room-5 c = search needs
 
-put-requires-5 : tie.Need-put-requires-5
-put-requires-5 c κs = search needs
+slice-write-room-4 : tie.Need-slice-write-room-4
+slice-write-room-4 c = simp length-set (omega (arith, c .before .pre .0 .long, c .before .pre .1))
+
+cast-room : tie.Need-cast-room
+cast-room c = search needs
+
+mul-room-6 : tie.Need-mul-room-6
+mul-room-6 c = search needs
+
+slice-write-room-5 : tie.Need-slice-write-room-5
+slice-write-room-5 c = simp length-set (omega (arith, c .before .pre .0 .long, c .before .pre .2))
 
 same-length : tie.Need-same-length
 same-length c = search needs
 
 returns : tie.Need-returns
 returns c =
-    let a = c .before .before .before .before .before .before .before .before .before .before .before .before .before .before .before .before .before .before .before .before .before .before .before .args in
-    entered-is (a .base) (a .capacity) (now (a .room)) (a .count) (a .bucket) (node (a .var .0) (a .low .0) (a .high .0)) (c .before .before .before .before .before .before .before .before .before .before .before .before .before .before .before .before .before .before .before .before .put .ensures) (c .before .before .before .before .before .before .before .before .before .before .before .before .before .before .before .before .put2 .ensures) (c .before .before .before .before .before .before .before .before .before .before .before .before .put3 .ensures) (c .before .before .before .before .before .before .before .before .word .ensures) (c .before .before .before .before .before .before .put4 .ensures) (c .before .before .put5 .ensures)
+    let a = c .before .args in
+    entered-is (a .base) (a .capacity) (now (a .room)) (a .count) (a .bucket) (node (a .var .0) (a .low .0) (a .high .0)) refl refl refl refl refl refl
 
 pub enter-spec : {M : Type 1} → statement M
 enter-spec =
@@ -71,20 +91,26 @@ enter-spec =
     (tie.spec
     mul-at
     add-at
-    put-requires
-    add-put
-    put-requires-2
-    add-put-2
-    put-requires-3
+    mul-room
+    slice-write-room
+    add-room
+    mul-room-2
+    slice-write-room-2
+    add-room-2
+    mul-room-3
+    slice-write-room-3
     mul-head
     add-head
     add-head-2
-    word-requires
-    mul-put
-    add-put-3
-    add-put-4
-    put-requires-4
-    cast-put
-    put-requires-5
+    mul-before
+    slice-read-before
+    mul-room-4
+    add-room-3
+    add-room-4
+    mul-room-5
+    slice-write-room-4
+    cast-room
+    mul-room-6
+    slice-write-room-5
     same-length
     returns)

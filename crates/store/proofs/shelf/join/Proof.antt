@@ -36,9 +36,8 @@ returns-3 c = joins-full (c .before .before .before .before .before .before .bef
 
 enter-requires : tie.Need-enter-requires
 enter-requires c κs =
-    let few = c .before .before .before .before .before .before .before .before .before .before .pre .stored .space .few in
-    let fits = shelf-fits (c .before .before .before .before .before .before .before .before .before .before .pre) in
-    (c .before .before .before .before .before .before .before .before .before .before .pre .stored .space .near, few, omega (arith, few, fits), omega (arith, few, c .before .before .before .before .before .key .ensures, key-small (c .before .before .before .before .before .before .before .before .before .before .pre)))
+    let small = key-small (c .before .before .before .before .before .before .before .before .before .before .pre) in
+    (c .before .before .before .before .before .before .before .before .before .before .pre .stored .space, omega (arith, c .before .if3 .left), omega (arith, c .before .before .before .before .before .key .ensures, small))
 
 cast-t21 : tie.Need-cast-t21
 cast-t21 c = omega (arith, c .before .before .before .before .before .before .before .before .before .before .before .before .before .pre .stored .space .few, shelf-fits (c .before .before .before .before .before .before .before .before .before .before .before .before .before .pre))
