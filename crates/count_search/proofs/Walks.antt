@@ -26,7 +26,7 @@ use Rattle.approximation.proofs.Search.{first-all, false-count, walk-out, walk-
 use Rattle.approximation.proofs.Targets.{to-count-search}
 use Rattle.cuts.specs.Marks.{markedIn, Cutting, CutIn, CutWithin}
 use Rattle.cuts.proofs.Cutting.{within-most}
-use Rattle.cuts.proofs.Steps.{present}
+use Rattle.cuts.proofs.Marking.{present}
 use Rattle.cuts.proofs.Marking.{set-marks, listed-take}
 use Rattle.cuts.proofs.Rooms.{drop-more}
 use Rattle.recounts.specs.Kept.{Untouched, Recounting, Recounted}

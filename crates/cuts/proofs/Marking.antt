@@ -22,6 +22,17 @@ listed-take [] i q h = absurd (omega arith)
 listed-take (p ∷ s) zero q h = or-false (eqb q p)
 listed-take (p ∷ s) (suc i) q h = rw (listed-take s i q (omega arith)) (sym (or-assoc (eqb q p) (listed (take i s) q) (eqb q (getD s i 0))))
 
+-- One that is there.
+pub present : (s : List ℕ) (i q : ℕ) → i < length s → getD s i 0 ≡ q → listed s q ≡ true
+unfolding listed
+present [] i q h e = absurd (omega arith)
+present (p ∷ s) zero q h e = rw (eq-eqb q p (sym e)) refl
+present (p ∷ s) (suc i) q h e = or-true (eqb q p) (listed s q) (present s i q (omega arith) e)
+  where
+    or-true : (a b : Bool) → b ≡ true → (a || b) ≡ true
+    or-true true b e = refl
+    or-true false b e = e
+
 -- ---- one mark
 
 pub set-marks : (m : ℕ) (r : List ℕ) (p q : ℕ) → m + p < length r → markedIn m (set r (m + p) 1) q ≡ (markedIn m r q || eqb q p)

@@ -1,30 +1,18 @@
 -- A list is searched for a pointer.
-use Prim.Native.Nat.{ℕ, zero, suc, _≤_, _<_}
+use Prim.Native.Nat.{ℕ, suc, _≤_, _<_}
 use mathlib.Core.Path.{_≡_, refl, sym, ap, _∙_}
-use mathlib.Core.Bool.{Bool, true, false, _||_}
-use mathlib.Core.List.{List, [], _∷_}
+use mathlib.Core.Bool.{false}
+use mathlib.Core.List.{List}
 use native.Mathlib.Omega.{arith}
 use lib.ListN.{length, getD, take}
 use lib.Seq.{take-length}
-use lib.Dec.{eqb}
-use borrow.Author.Tests.{eq-eqb, ne-eqb}
+use borrow.Author.Tests.{ne-eqb}
 use Rattle.approximation.specs.Cut.{listed}
 use Rattle.cuts.proofs.Marking.{listed-take}
 
 -- None of the first i is the pointer.
 pub absent-on : (s : List ℕ) (i q : ℕ) → i < length s → listed (take i s) q ≡ false → (getD s i 0 ≡ q → ⊥) → listed (take (suc i) s) q ≡ false
 absent-on s i q h none ne = listed-take s i q h ∙ rw (none, ne-eqb q (getD s i 0) (λ e. ne (sym e))) refl
-
--- One that is there.
-pub present : (s : List ℕ) (i q : ℕ) → i < length s → getD s i 0 ≡ q → listed s q ≡ true
-unfolding listed
-present [] i q h e = absurd (omega arith)
-present (p ∷ s) zero q h e = rw (eq-eqb q p (sym e)) refl
-present (p ∷ s) (suc i) q h e = or-true (eqb q p) (listed s q) (present s i q (omega arith) e)
-  where
-    or-true : (a b : Bool) → b ≡ true → (a || b) ≡ true
-    or-true true b e = refl
-    or-true false b e = e
 
 pub absent-all : (s : List ℕ) (i q : ℕ) → length s ≤ i → i ≤ length s → listed (take i s) q ≡ false → listed s q ≡ false
 absent-all s i q h l none =

@@ -28,8 +28,7 @@ use Rattle.diagram.proofs.Entering.{refusal-is, verdict-is, admitted, ordered, 
 use Rattle.weights.specs.Weighed.{weightsVerdict, weightWords, Weighs}
 use Rattle.levels.specs.Chains.{Given}
 use Rattle.counts.specs.Table.{entry}
-use Rattle.weights.specs.Passes.{weightsFrom, weightsTo, Tables, Standing, Handed}
-use Rattle.weights.proofs.Entries.{entry-front}
+use Rattle.weights.specs.Passes.{weightsFrom, weightsTo, Standing, Handed}
 
 -- ---- the verdict, row by row
 
@@ -86,17 +85,6 @@ below a b c h k = omega arith
 -- an entry of a table that begins at 0
 plain : {x : ℕ} (s : List ℕ) (q : ℕ) → Holds x (entry 0 s q) → Holds x (take wordCount (drop (wordCount * q) s))
 plain s q h = let e : 0 + wordCount * q ≡ wordCount * q = omega arith in rw e at h
-
--- what stands in the part that is lent stands in the whole
-pub stands : {w : List ℕ} {n : ℕ} (room part : List ℕ) → weightsTo n ≤ length room → length part ≡ length (take (weightsTo n) room)
-    → Tables w n part → Standing w room n (part ++ drop (weightsTo n) room)
-stands {w} {n} room part fits same h =
-    let long : length part ≡ weightsTo n = same ∙ length-take-le (weightsTo n) room fits in
-    record {
-      kept = length-front room part (weightsTo n) same;
-      weight = λ p l. rw (entry-front (weightsFrom n) p part (drop (weightsTo n) room) (omega arith)) (h .weight p l);
-      rest = drop-at part (drop (weightsTo n) room) (weightsTo n) long;
-    }
 
 module _ {w : List ℕ} (out : List ℕ) {room after : List ℕ} {r : Verdict} (c : Checked w (Weights (length out)) room after r) where
   abbrev all : List ℕ

@@ -17,7 +17,7 @@ use Rattle.approximation.specs.Search.{order, cutFirst}
 use Rattle.approximation.proofs.Cut.{cut-same, cut-most}
 use Rattle.approximation.proofs.Members.{order-length, order-nodes}
 use Rattle.cuts.specs.Marks.{markedIn, Markable, Marked, Cutting, CutWithin}
-use Rattle.cuts.proofs.Steps.{present}
+use Rattle.cuts.proofs.Marking.{present}
 use Rattle.cuts.proofs.Rooms.{drop-more}
 use Rattle.trials.specs.Trials.{Ready, Trying, Tried}
 use Rattle.trials.specs.First.{Unmarkable, Unmarked, FirstMarkable, Limited, TriedWithin}

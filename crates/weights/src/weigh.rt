@@ -20,7 +20,7 @@ ghost use Rattle.weights.specs.Passes.{weightsFrom, weightsTo, Rising, T
 // Words of the room for each node: a link and a count, and behind all of these a weight.
 const BEFORE: usize = 1 + naturals::WORDS;
 
-pub(crate) const USED: usize = 1 + 2 * naturals::WORDS;
+pub const USED: usize = 1 + 2 * naturals::WORDS;
 
 // The second pass, over chains and counts that stand in the part already: they stay, and the weights come behind them.
 pub fn weigh_counted(words: &[u32], heads: &[u32], part: &mut [u32], nodes: usize, vars: u32)

@@ -4,7 +4,8 @@ use mathlib.Core.Bool.{false}
 use mathlib.Core.Path.{_≡_, sym, ap, _∙_}
 use Prim.Native.Nat.{ℕ, _-_, _≤_}
 use denote.Ref.{now}
-use Rattle.list_cuts.proofs.Searched.{absent-on, present, absent-all}
+use Rattle.cuts.proofs.Marking.{present}
+use Rattle.list_cuts.proofs.Searched.{absent-on, absent-all}
 use Rattle.approximation.proofs.Members.{listed-nil}
 use Rattle.approximation.specs.Cut.{listed}
 use borrow.Author.Needs.{needs}

@@ -1,7 +1,7 @@
 use denote.Ref.{now}
 use mathlib.Core.Path.{sym}
 use lib.Seq.{length-take-le}
-use Rattle.weights.proofs.Answers.{stands}
+use Rattle.weights.proofs.Entries.{stands}
 use Rattle.weights.specs.Passes.{weightsTo}
 use native.Mathlib.Omega.{arith}
 use borrow.Author.Needs.{needs}
