@@ -1,25 +1,25 @@
 -- The answers to a count target that take no search, and what a search begins with.
 use Prim.Native.Nat.{ℕ, _+_, _-_, _*_, _≤_, _<_, max}
-use mathlib.Core.Path.{_≡_, refl, sym, ap, _∙_}
+use mathlib.Core.Path.{_≡_, refl, sym, _∙_}
 use mathlib.Core.Bool.{false}
 use mathlib.Core.List.{List}
 use native.Mathlib.Omega.{arith}
-use native.Mathlib.Decide.{decLt}
 use lib.ListN.{length, take, drop, replicate}
-use borrow.Author.Tests.{le-leb, lt-leb}
 use borrow.Rule.Slice.PartMut.{putMid, midOf}
 use Rattle.naturals.specs.Natural.{value, Holds}
+use Rattle.naturals.proofs.Answer.{holds-as}
 use Rattle.diagram.specs.Limits.{maxNodes}
 use Rattle.diagram.specs.Diagram.{size, Ordered}
 use Rattle.diagram.specs.Verdict.{most}
 use Rattle.diagram.specs.Valuations.{countOf, weightOf}
+use Rattle.diagram.proofs.Tests.{by-eq}
 use Rattle.levels.specs.Chains.{chainCount, Given}
 use Rattle.counts.specs.Table.{entry}
 use Rattle.counts.proofs.Parts.{part-entry, part-kept, part-beyond, lent-long}
 use Rattle.weights.specs.Passes.{weightsFrom as weightsInFrom, Rising, Tables}
 use Rattle.weights.proofs.Ascent.{rises}
 use Rattle.approximation.specs.Cut.{listed}
-use Rattle.approximation.specs.Search.{Answer, answer, underToCount}
+use Rattle.approximation.specs.Search.{Answer, underToCount}
 use Rattle.approximation.proofs.Listing.{under-accepted-open}
 use Rattle.approximation.proofs.Targets.{one-count, to-count-none, to-count-same, search-many}
 use Rattle.priorities.specs.Prioritised.{Fits, Prioritised}
@@ -28,29 +28,65 @@ use Rattle.cuts.proofs.Rooms.{drop-more}
 use Rattle.room_map.specs.Map.{marksTo, linksFrom, countsTo, weightsFrom, weightsTo, searchTo}
 use Rattle.recounts.specs.Kept.{Beginning, Whole, Begun}
 use Rattle.recounts.proofs.Counting.{whole-lent, whole-put, whole-behind, whole-stale}
-use Rattle.trials.specs.Trials.{Preparing, Found}
+use Rattle.trials.specs.Trials.{Searching, Preparing, Found}
 use Rattle.trials.specs.First.{Unmarkable, Unmarked}
 use Rattle.trials.specs.Answers.{Constant, Keeping, Kept}
 use Rattle.trials.proofs.Readying.{ready-ordered, ready-marks}
 use Rattle.trials.proofs.Early.{searching-ordered, searching-few, searching-keeps, searching-kept, falsely}
-use Rattle.count_search.specs.Rounds.{cutToCount, Taken, Seeking, Aiming, Weighing, Weighed, Above}
+use Rattle.count_search.specs.Rounds.{Counted, Taken, Seeking, Aiming, Weighing, Weighed, Above}
 
--- ---- the words stay, or are underapproximated
+-- ---- the count
 
-module _ (w : List ℕ) (k : ℕ) where
-  pub cut-same : countOf w ≤ k → cutToCount w k ≡ answer w 0
-  unfolding cutToCount
-  cut-same h = rw (le-leb (countOf w) k h) refl
+module _ {w r : List ℕ} {n v : ℕ} (a : Searching w r n v) where
+  more : (n ≡ 1 → ⊥) → 2 ≤ n
+  more ne = let some = a .accepted .formed .some in let is = a .is-size in omega arith
 
-  pub cut-above : k < countOf w → cutToCount w k ≡ underToCount w k
-  unfolding cutToCount
-  cut-above h = rw (lt-leb (countOf w) k h) refl
+  pub counts-begin : (n ≡ 1 → ⊥) → {heads : List ℕ} → heads ≡ replicate chainCount 0 → Beginning w heads r n v
+  counts-begin ne e =
+      let long = a .long in
+      let is = a .is-size in
+      record {
+        given = record { ordered = searching-ordered a; nodes = is; two = more ne };
+        is-vars = a .is-vars;
+        empty = e;
+        long = omega arith;
+      }
 
-  pub cut-under : 0 < k → cutToCount w k ≡ underToCount w k
-  cut-under low = elim (decLt k (countOf w)) [
-    | yes h ↦ cut-above h
-    | no h ↦ cut-same (omega arith) ∙ sym (to-count-same w k low (omega arith))
-  ]
+  -- false has no valuation
+  pub counted-one : n ≡ 1 → {heads words : List ℕ} → Holds 0 words → Counted w heads r r words
+  counted-one e h =
+      let is = a .is-size in
+      record { count = holds-as (sym (one-count w (sym is ∙ e))) h; kept = refl; beyond = refl; whole = λ two. absurd (omega arith) }
+
+  pub counted-more : (n ≡ 1 → ⊥) → {heads after words : List ℕ} → Begun w heads r after × Holds (countOf w) words → Counted w heads r after words
+  counted-more ne {heads} {after} (x, h) =
+      record {
+        count = h;
+        kept = x .kept;
+        beyond = drop-more (countsTo (size w)) (searchTo (most w)) after r (omega arith) (x .beyond);
+        whole = λ two. x .whole;
+      }
+
+  module _ {heads b count : List ℕ} (x : Counted w heads r b count) where
+    pub counted-searches : Searching w b n v
+    counted-searches =
+        let long = a .long in
+        let kept = x .kept in
+        record { accepted = a .accepted; is-size = a .is-size; is-vars = a .is-vars; long = omega arith }
+
+    -- what is found where it was counted is found
+    pub counted-found : {d : Answer} {after : List ℕ} {j trials : ℕ} → Found w d b after j trials → Found w d r after j trials
+    counted-found f = record {
+      trials = f .trials;
+      count = f .count;
+      words = f .words;
+      fits = f .fits;
+      kept = f .kept ∙ x .kept;
+      made = f .made;
+      beyond = f .beyond ∙ x .beyond;
+    }
+
+-- ---- the answers
 
 module _ {w r : List ℕ} {k n v : ℕ} (a : Aiming w r k n v) where
   ordered : Ordered w
@@ -62,84 +98,28 @@ module _ {w r : List ℕ} {k n v : ℕ} (a : Aiming w r k n v) where
   pub aiming-none : k ≡ 0 → {after : List ℕ} {j trials : ℕ} → Constant (max n 2) 0 v r after j trials → Found w (underToCount w k) r after j trials
   aiming-none e c = falsely (a .searching) c (to-count-none w k e)
 
-  pub aiming-some : (k ≡ 0 → ⊥) → {after : List ℕ} {j trials : ℕ} → Found w (cutToCount w k) r after j trials → Found w (underToCount w k) r after j trials
-  aiming-some ne f = rw (cut-under w k (omega arith)) at f
+  module _ {heads b count : List ℕ} (x : Counted w heads r b count) where
+    pub aiming-keeps : {m : ℕ} → m ≡ max n 2 → Keeping w b m
+    aiming-keeps is-m = searching-keeps (counted-searches (a .searching) x) is-m
 
-  module _ {m : ℕ} (is-m : m ≡ max n 2) where
-    pub aiming-keeps : Keeping w r m
-    aiming-keeps = searching-keeps (a .searching) is-m
+    pub aiming-kept : (k ≡ 0 → ⊥) → value count ≤ k → {m : ℕ} → m ≡ max n 2 → {after : List ℕ} → Kept w m b after → Found w (underToCount w k) r after n 0
+    aiming-kept ne met is-m y =
+        let e = x .count .worth in
+        counted-found (a .searching) x
+        (searching-kept (counted-searches (a .searching) x) is-m y (to-count-same w k (omega arith) (omega arith)))
 
-    pub aiming-kept : countOf w ≤ k → {after : List ℕ} → Kept w m r after → Found w (cutToCount w k) r after n 0
-    aiming-kept met x = searching-kept (a .searching) is-m x (cut-same w k met)
-
-    -- false has no valuation
-    pub aiming-one : n ≡ 1 → {after : List ℕ} → Kept w m r after → Found w (cutToCount w k) r after 1 0
-    aiming-one e {after} x =
-        let none = one-count w (sym (a .searching .is-size) ∙ e) in
-        rw (sym e) (aiming-kept (omega arith) x)
-
--- ---- two nodes or more: the count
-
-module _ {w r : List ℕ} {k n v : ℕ} (a : Aiming w r k n v) (two : 2 ≤ n) where
-  pub aiming-begins : {heads : List ℕ} → heads ≡ replicate chainCount 0 → Beginning w heads r n v
-  aiming-begins e =
-      let long = a .searching .long in
-      let is = a .searching .is-size in
-      record {
-        given = record { ordered = ordered a; nodes = is; two = two };
-        is-vars = a .searching .is-vars;
-        empty = e;
-        long = omega arith;
-      }
-
-  module _ {heads b : List ℕ} (x : Begun w heads r b) where
-    -- what is found where it was counted is found
-    pub begun-found : {d : Answer} {after : List ℕ} {j trials : ℕ} → Found w d b after j trials → Found w d r after j trials
-    begun-found f =
-        let is = a .searching .is-size in
+    pub aiming-above : (k ≡ 0 → ⊥) → k < value count → Above w heads b k (value count) n v
+    aiming-above ne high =
+        let e = x .count .worth in
+        let some = a .searching .accepted .formed .some in
+        let two : 2 ≤ size w = by-eq (size w) 1 (λ one. let none = one-count w one in absurd (omega arith)) (λ other. omega arith) in
         record {
-          trials = f .trials;
-          count = f .count;
-          words = f .words;
-          fits = f .fits;
-          kept = f .kept ∙ x .kept;
-          made = f .made;
-          beyond = f .beyond ∙ drop-more (countsTo (size w)) (searchTo (most w)) b r (omega arith) (x .beyond);
+          aiming = record { searching = counted-searches (a .searching) x; target = a .target };
+          whole = x .whole two;
+          low = omega arith;
+          high = omega arith;
+          is-count = e;
         }
-
-    pub begun-aims : Aiming w b k n v
-    begun-aims =
-        let long = a .searching .long in
-        let kept = x .kept in
-        record {
-          searching = record { accepted = a .searching .accepted; is-size = a .searching .is-size; is-vars = a .searching .is-vars; long = omega arith };
-          target = a .target;
-        }
-
-    is-most : n ≡ max n 2
-    is-most = omega arith
-
-    pub begun-keeps : Keeping w b n
-    begun-keeps = aiming-keeps begun-aims is-most
-
-    module _ {count : List ℕ} (held : Holds (countOf w) count) where
-      pub begun-kept : value count ≤ k → {after : List ℕ} → Kept w n b after → Found w (cutToCount w k) r after n 0
-      begun-kept h y = let e = held .worth in begun-found (aiming-kept begun-aims is-most (omega arith) y)
-
-      module _ (high : k < value count) where
-        is-above : cutToCount w k ≡ underToCount w k
-        is-above = let e = held .worth in cut-above w k (omega arith)
-
-        pub begun-none : k ≡ 0 → {after : List ℕ} {j trials : ℕ} → Constant (max n 2) 0 v b after j trials → Found w (cutToCount w k) r after j trials
-        begun-none e c = rw is-above (begun-found (aiming-none begun-aims e c))
-
-        pub begun-above : (k ≡ 0 → ⊥) → Above w heads b k (value count) n v
-        begun-above ne =
-            let e = held .worth in
-            record { aiming = begun-aims; whole = x .whole; low = omega arith; high = omega arith; is-count = e }
-
-        pub begun-sought : {after : List ℕ} {j trials : ℕ} → Found w (underToCount w k) b after j trials → Found w (cutToCount w k) r after j trials
-        begun-sought f = rw is-above (begun-found f)
 
 -- ---- the weights, behind what was counted
 

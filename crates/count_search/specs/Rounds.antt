@@ -2,28 +2,20 @@
 -- has it.
 use Prim.Native.Nat.{ℕ, _+_, _-_, _≤_, _<_}
 use mathlib.Core.Path.{_≡_}
-use mathlib.Core.Bool.{cond}
 use mathlib.Core.List.{List}
 use lib.ListN.{length, getD, set, take, drop}
-use lib.Dec.{leb}
 use Rattle.naturals.specs.Natural.{Holds}
-use Rattle.diagram.specs.Limits.{maxNodes, roomPerNode}
+use Rattle.diagram.specs.Limits.{maxNodes}
 use Rattle.diagram.specs.Diagram.{size, vars, Ordered}
-use Rattle.diagram.specs.Verdict.{accepted}
+use Rattle.diagram.specs.Verdict.{accepted, most}
 use Rattle.diagram.specs.Valuations.{countOf}
 use Rattle.counts.specs.Table.{num, Noted}
 use Rattle.approximation.specs.Cut.{listed, underCountOf}
-use Rattle.approximation.specs.Search.{Answer, answer, order, underToCount}
+use Rattle.approximation.specs.Search.{order}
 use Rattle.cuts.specs.Marks.{markedIn}
 use Rattle.room_map.specs.Map.{countsFrom, countsTo, weightsFrom, weightsTo, searchTo}
 use Rattle.recounts.specs.Kept.{Stale, Whole}
 use Rattle.trials.specs.Trials.{Ready, Searching, Preparing, Prepared}
-
--- The words stay where their count is at most k, for k = 0 too. For other k it is the underapproximation itself.
-unfoldable pub cutToCount : List ℕ → ℕ → Answer
-cutToCount w k =
-    let same = answer w 0 in
-    cond (leb (countOf w) k) same (underToCount w k)
 
 -- A node stands at place i of the priorities.
 pub record Takeable (r : List ℕ) (n i : ℕ) : Type 0 where
@@ -58,6 +50,13 @@ pub record Seeking (w heads sent r : List ℕ) (k count n v : ℕ) : Type 0 wher
   pub low : 0 < k
   pub high : k < countOf w
   pub is-count : count ≡ countOf w
+
+-- The count of a diagram, and where it has two nodes or more what was counted, in the room.
+pub record Counted (w heads r after words : List ℕ) : Type 0 where
+  pub count : Holds (countOf w) words
+  pub kept : length after ≡ length r
+  pub beyond : drop (searchTo (most w)) after ≡ drop (searchTo (most w)) r
+  pub whole : 2 ≤ size w → Whole w heads after
 
 -- A room that is long enough, and a target that is not refused.
 pub record Aiming (w r : List ℕ) (k n v : ℕ) : Type 0 where

@@ -10,6 +10,7 @@ use levels::CHAINS;
 use naturals::Natural;
 use naturals::at_most;
 use naturals::is_zero;
+use naturals::zero;
 use priorities::prioritise;
 use recounts::begin;
 use room_map::LINKS;
@@ -20,11 +21,13 @@ use trials::answers::constantly;
 use trials::answers::keep;
 use trials::first::unmark;
 use weights::weigh::weigh_counted;
-ghost use Prim.Native.Nat.{_≤_};
+ghost use mathlib.Core.Path.{_≡_};
+ghost use lib.ListN.{replicate};
 ghost use Rattle.naturals.specs.Natural.{value};
+ghost use Rattle.levels.specs.Chains.{chainCount};
 ghost use Rattle.approximation.specs.Search.{underToCount};
-ghost use Rattle.trials.specs.Trials.{Found};
-ghost use Rattle.count_search.specs.Rounds.{cutToCount, Aiming, Weighing, Weighed, Above};
+ghost use Rattle.trials.specs.Trials.{Searching, Found};
+ghost use Rattle.count_search.specs.Rounds.{Counted, Aiming, Weighing, Weighed, Above};
 
 // The weights, behind what was counted, and the non-terminals by priority.
 fn prepare_counted(words: &[u32], heads: &[u32], room: &mut [u32], nodes: usize, vars: u32)
@@ -41,8 +44,8 @@ fn prepare_counted(words: &[u32], heads: &[u32], room: &mut [u32], nodes: usize,
     prioritise(room, nodes);
 }
 
-// The search with all it needs, for a count that is above the target.
-fn seek(
+// The search with all it needs, for a count that is above the target, over what was counted.
+pub fn seek(
     words: &[u32],
     heads: &[u32],
     room: &mut [u32],
@@ -60,49 +63,21 @@ fn seek(
     search(words, heads, &mut sent, room, target, count, nodes, vars)
 }
 
-// Two nodes or more: they are counted, and where the count is above the target the search goes on with what was counted.
-fn count_and_cut(
+// How many valuations the diagram has, with what was counted in the room. One node is false, with none.
+pub fn count_of(
     words: &[u32],
+    heads: &mut [u32],
     room: &mut [u32],
-    target: Natural,
     nodes: usize,
     vars: u32,
-) -> Answer
-    requires { ⌜ Aiming (now words) (now room) (value (target .words)) nodes vars × (2 ≤ nodes) ⌝ }
-    ensures { λ r. ⌜ Found (now (words .entry)) (cutToCount (now (words .entry)) (value (target .words))) (now (room .entry)) (now (room .exit)) (r .nodes) (r .trials) ⌝ }
+) -> Natural
+    requires { ⌜ Searching (now words) (now room) nodes vars × (now heads ≡ replicate chainCount 0) ⌝ }
+    ensures { λ r. ⌜ Counted (now (words .entry)) (now (heads .exit)) (now (room .entry)) (now (room .exit)) (r .words) ⌝ }
 {
-    let mut heads = [0u32; CHAINS];
-    let count = begin(words, &mut heads, room, nodes, vars);
-    if at_most(count, target) {
-        keep(words, room, nodes);
-        return Answer { nodes, trials: 0 };
-    }
-    if is_zero(target) {
-        return constantly(room, BddPointer(0), nodes, vars);
-    }
-    seek(words, &heads, room, target, count, nodes, vars)
-}
-
-// The words stay where their count is at most the target, a target of none too; else they are underapproximated.
-pub fn cut_to_count(
-    words: &[u32],
-    room: &mut [u32],
-    target: Natural,
-    nodes: usize,
-    vars: u32,
-) -> Answer
-    requires { ⌜ Aiming (now words) (now room) (value (target .words)) nodes vars ⌝ }
-    ensures { λ r. ⌜ Found (now (words .entry)) (cutToCount (now (words .entry)) (value (target .words))) (now (room .entry)) (now (room .exit)) (r .nodes) (r .trials) ⌝ }
-{
-    // One node is false, with no valuation.
     if nodes == 1 {
-        keep(words, room, most(nodes));
-        return Answer {
-            nodes: 1,
-            trials: 0,
-        };
+        return zero();
     }
-    count_and_cut(words, room, target, nodes, vars)
+    begin(words, heads, room, nodes, vars)
 }
 
 pub fn under_count(
@@ -118,5 +93,11 @@ pub fn under_count(
     if is_zero(target) {
         return constantly(room, BddPointer(0), nodes, vars);
     }
-    cut_to_count(words, room, target, nodes, vars)
+    let mut heads = [0u32; CHAINS];
+    let count = count_of(words, &mut heads, room, nodes, vars);
+    if at_most(count, target) {
+        keep(words, room, most(nodes));
+        return Answer { nodes, trials: 0 };
+    }
+    seek(words, &heads, room, target, count, nodes, vars)
 }

@@ -8,13 +8,14 @@ use mathlib.Core.Bool.{Bool, true, false, cond}
 use mathlib.Core.List.{List}
 use lib.ListN.{length, getD, drop, replicate}
 use Rattle.naturals.specs.Natural.{limit, Holds}
-use Rattle.diagram.specs.Limits.{maxNodes}
+use Rattle.diagram.specs.Limits.{maxNodes, maxVariables}
 use Rattle.diagram.specs.Diagram.{varOf, size, vars}
 use Rattle.diagram.specs.Valuations.{countOf}
 use Rattle.room_map.specs.Map.{linksFrom, countsFrom, countsTo}
 use Rattle.levels.specs.Chains.{chainCount, Last, Heads, Given, Node, Known}
 use Rattle.counts.specs.Table.{entry, num, In, scaled}
 use Rattle.counts.specs.Worth.{worthOf}
+use Rattle.negation.specs.Negation.{negated}
 use Rattle.approximation.specs.Cut.{cut, send}
 use Rattle.cuts.specs.Marks.{markedIn}
 
@@ -135,3 +136,31 @@ pub record Begun (w heads room after : List ℕ) : Type 0 where
   pub before : (k : ℕ) → k < linksFrom (size w) → getD after k 0 ≡ getD room k 0
   pub beyond : drop (countsTo (size w)) after ≡ drop (countsTo (size w)) room
   pub whole : Whole w heads after
+
+-- ---- the counts of the negation, from the diagram's
+
+-- All valuations of the variables from p's own on, less what is noted at p.
+abbrev pub opposite : List ℕ → List ℕ → ℕ → ℕ → ℕ → ℕ
+opposite w room n v p = 2 ^ (v - varOf w p) - num (countsFrom n) room p
+
+-- What one node asks for, and all of them.
+pub record Opposing (w room : List ℕ) (n v p : ℕ) : Type 0 where
+  pub few : n ≤ maxNodes
+  pub inside : In (countsFrom n) room p
+  pub above : varOf w p ≤ v
+  pub variables : v ≤ maxVariables
+  pub most : num (countsFrom n) room p ≤ 2 ^ (v - varOf w p)
+
+pub record Turnable (w room : List ℕ) (n v : ℕ) : Type 0 where
+  pub given : Given w n
+  pub is-vars : v ≡ vars w
+  pub many : 2 < n
+  pub long : countsTo n ≤ length room
+  pub left : (q : ℕ) → q < size w → Holds (worthOf true w q) (entry (countsFrom (size w)) room q)
+
+-- The non-terminals below b have the negation's counts, all other nodes still the diagram's.
+pub record Turned (w room after : List ℕ) (b : ℕ) : Type 0 where
+  pub untouched : Untouched (size w) room after
+  pub done : (q : ℕ) → 2 ≤ q → q < b → q < size w → Holds (worthOf true (negated w) q) (entry (countsFrom (size w)) after q)
+  pub ends : (q : ℕ) → q < 2 → Holds (worthOf true w q) (entry (countsFrom (size w)) after q)
+  pub todo : (q : ℕ) → b ≤ q → q < size w → Holds (worthOf true w q) (entry (countsFrom (size w)) after q)

@@ -3,6 +3,7 @@
 // changed, and reads the others where they stand.
 pub mod changes;
 mod renewal;
+pub mod turning;
 
 use counts::down::link_and_count;
 use counts::table::count_at;

@@ -1,13 +1,13 @@
--- Cutting to a count: what the search is given, and overapproximating by negation.
-use Prim.Native.Nat.{ℕ, _-_, _*_, _^_, _≤_, max}
+-- Cutting to a count: what the searches are given, and overapproximating by negation.
+use Prim.Native.Nat.{ℕ, _-_, _*_, _^_, _≤_, _<_, max}
 use mathlib.Core.Path.{_≡_, refl, sym, ap, _∙_}
 use mathlib.Core.Bool.{Bool, true, false, _&&_}
 use mathlib.Core.List.{List}
 use native.Mathlib.Omega.{arith}
-use lib.ListN.{length, take}
+use lib.ListN.{length, take, drop}
 use lib.Dec.{ltb, eqb}
-use native.Mathlib.Decide.{decLt}
-use Rattle.diagram.specs.Limits.{maxVariables}
+use Rattle.naturals.specs.Natural.{value}
+use Rattle.diagram.specs.Limits.{maxNodes, maxVariables}
 use Rattle.diagram.specs.Diagram.{size, vars, Accepted}
 use Rattle.diagram.specs.Valuations.{countOf}
 use Rattle.diagram.specs.Verdict.{accepted, said, row, most, Checked}
@@ -15,19 +15,26 @@ use Rattle.diagram.specs.declared.verdict.Verdict.{Verdict}
 use Rattle.diagram.specs.declared.verdict.Verdict.the-variants.{Accepted as Yes, Refused as No}
 use Rattle.diagram.specs.declared.verdict.Output.the-variants.{Diagram}
 use Rattle.diagram.proofs.Entering.{refusal-is, verdict-is, admitted}
-use Rattle.negation.specs.Negation.{negated}
-use Rattle.negation.proofs.Meaning.{negated-vars, negated-is-two, negated-accepted, negated-twice, negated-count}
+use Rattle.diagram.proofs.Tests.{by-eq}
+use Rattle.room_map.specs.Map.{countsTo, searchTo}
+use Rattle.negation.specs.Negation.{negated, Ready}
+use Rattle.negation.proofs.Words.{negated-true}
+use Rattle.negation.proofs.Meaning.{negated-vars, negated-is-two, negated-accepted, negated-count}
 use Rattle.approximation.specs.Cut.{between, underCountOf, overCountOf, Under}
-use Rattle.approximation.specs.Search.{Answer, answer, back, underToCount, overToCount}
+use Rattle.approximation.specs.Search.{back, underToCount, overToCount}
 use Rattle.approximation.proofs.Listing.{under-open-accepted, over-accepted-open, over-accepted-most}
-use Rattle.approximation.proofs.Targets.{Open, opposite, over-count-same, over-count-negates, to-count-under, itself-under}
-use Rattle.trials.specs.Trials.{Found}
-use Rattle.trials.specs.Answers.{Returned}
-use Rattle.count_search.specs.Rounds.{cutToCount, Aiming}
-use Rattle.count_search.proofs.Aims.{cut-same, cut-above}
+use Rattle.approximation.proofs.Targets.{Open, opposite, one-count, to-count-none, over-count-same, over-count-negates, to-count-under}
+use Rattle.cuts.proofs.Rooms.{drop-more}
+use Rattle.recounts.specs.Kept.{Turnable, Turned}
+use Rattle.recounts.proofs.Turned.{turned-whole}
+use Rattle.trials.specs.Trials.{Searching, Found}
+use Rattle.trials.specs.Answers.{Constant, Keeping, Kept, Returned}
+use Rattle.trials.proofs.Early.{searching-ordered, searching-few, searching-keeps, searching-kept, falsely}
+use Rattle.count_search.specs.Rounds.{Counted, Aiming, Above}
+use Rattle.count_search.proofs.Aims.{counted-searches, counted-found}
 use Rattle.told.specs.Told.{toldOf}
-use Rattle.targets.specs.Hits.{toCount, countVerdict, ToCount, Targeting, Counting, Hit}
-use Rattle.targets.proofs.Hitting.{Flipped, targeting-searches, flipped-searches, back-hits, meets-refused, meets-hit, check-targets}
+use Rattle.targets.specs.Hits.{toCount, countVerdict, ToCount, remaining, Targeting, Counting, Lacking, Mirroring, Hit}
+use Rattle.targets.proofs.Hitting.{Flipped, most-same, targeting-searches, negation-hits, meets-refused, meets-hit, check-targets}
 
 pub under-aims : {w r out : List ℕ} {k n v : ℕ} → Counting false w r out k n v → Aiming w r k n v
 under-aims a = record { searching = targeting-searches (a .targeting); target = a .target }
@@ -35,66 +42,206 @@ under-aims a = record { searching = targeting-searches (a .targeting); target = 
 pub targeting-variables : {w r out : List ℕ} {n v : ℕ} → Targeting w r out n v → v ≤ maxVariables
 targeting-variables t = let is = t .is-vars in let few = t .accepted .formed .variables in omega arith
 
--- ---- by negation
+-- ---- what a target leaves of all valuations
 
--- What stays and what is underapproximated holds only where the words do.
-cut-to-under : (w : List ℕ) (k : ℕ) → Accepted w → Open w k → Under w (cutToCount w k .words)
-cut-to-under w k a open-target = elim (decLt k (countOf w)) [
-  | yes h ↦ rw (cut-above w k h) (to-count-under w k a open-target)
-  | no h ↦ rw (cut-same w k (omega arith)) (itself-under w a)
-]
+remaining-open : (w : List ℕ) (k : ℕ) → Accepted w → overCountOf w k ≡ accepted (size w) (vars w) → Open (negated w) (remaining w k)
+remaining-open w k acc target two low less =
+    let one = negated-is-two w acc two in
+    let even = ap (λ (i : ℕ). 2 ^ i) (negated-vars w acc) in
+    let most = over-accepted-most w k target in
+    over-accepted-open w k target one (omega arith) (omega arith)
 
-back-same : (w : List ℕ) → Accepted w → back (answer (negated w) 0) ≡ answer w 0
-unfolding back
-back-same w a = ap (λ (l : List ℕ). answer l 0) (negated-twice w a)
+-- the negation of true is false
+true-negates : (w : List ℕ) → size w ≡ 2 → countOf (negated w) ≡ 0
+true-negates w two = one-count (negated w) (ap (λ (l : List ℕ). size l) (negated-true w two))
 
-module _ {w r out : List ℕ} {k n v : ℕ} (a : Counting true w r out k n v) {made : ℕ} {flipped : List ℕ} (e : Flipped w made flipped) {left : ℕ} (is-left : left ≡ 2 ^ v - k) where
-  abbrev t : Targeting w r out n v
-  t = a .targeting
+-- the negation can be searched where the diagram can
+negation-searches : {w r : List ℕ} {n v : ℕ} → Searching w r n v → {made : ℕ} → made ≡ size (negated w) → Searching (negated w) r made v
+negation-searches {w} a e =
+    let long = a .long in
+    let even = most-same w (a .accepted) in
+    record {
+      accepted = negated-accepted w (a .accepted);
+      is-size = e;
+      is-vars = a .is-vars ∙ sym (negated-vars w (a .accepted));
+      long = omega arith;
+    }
 
-  left-is : left ≡ 2 ^ vars w - k
-  left-is = is-left ∙ ap (λ (i : ℕ). 2 ^ i - k) (t .is-vars)
+module _ {w heads r : List ℕ} {k count n v : ℕ} (a : Lacking w heads r k count n v) where
+  abbrev acc : Accepted w
+  acc = a .searching .accepted
 
-  high : k ≤ 2 ^ vars w
-  high = over-accepted-most w k (a .target)
+  pub lacking-few : n ≤ maxNodes
+  lacking-few = searching-few (a .searching)
 
-  left-open : Open (negated w) left
-  left-open two low less =
-      let one = negated-is-two w (t .accepted) two in
-      let same = ap (λ (i : ℕ). 2 ^ i) (negated-vars w (t .accepted)) in
-      let is = left-is in
-      over-accepted-open w k (a .target) one (omega arith) (omega arith)
+  pub lacking-variables : v ≤ maxVariables
+  lacking-variables = let is = a .searching .is-vars in let few = acc .formed .variables in omega arith
 
-  -- where the words have as many valuations as are asked for, their negation has no more than are left
-  over-is : overToCount w k ≡ back (cutToCount (negated w) left)
-  over-is =
-      let all = negated-count w (t .accepted) in
-      let is = left-is in
-      let most = high in
-      elim (decLt (countOf w) k) [
-        | yes h ↦
-            let opposite-is : opposite w k ≡ left = omega arith in
-            over-count-negates w k h ∙ ap (λ (i : ℕ). back (underToCount (negated w) i)) opposite-is
-            ∙ ap (λ (x : Answer). back x) (sym (cut-above (negated w) left (omega arith)))
-        | no h ↦
-            over-count-same w k (omega arith) ∙ sym (back-same w (t .accepted))
-            ∙ ap (λ (x : Answer). back x) (sym (cut-same (negated w) left (omega arith)))
-      ]
+  module _ {left : ℕ} (is-left : left ≡ 2 ^ v - k) where
+    left-is : left ≡ remaining w k
+    left-is = is-left ∙ ap (λ (i : ℕ). 2 ^ i - k) (a .searching .is-vars)
 
-  pub back-aims : Aiming (take (3 * made) flipped) r left made v
-  back-aims = record {
-    searching = flipped-searches t e;
-    target = rw (e .words) (under-open-accepted (negated w) left left-open);
-  }
+    -- nothing is left: the negation of false
+    pub lacking-none : left ≡ 0 → {after : List ℕ} {j trials : ℕ} → Constant (max n 2) 0 v r after j trials
+        → Found (negated w) (underToCount (negated w) (remaining w k)) r after j trials
+    lacking-none e c =
+        let even : max n 2 ≡ max (size (negated w)) 2 = ap (λ (i : ℕ). max i 2) (a .searching .is-size) ∙ sym (most-same w acc) in
+        falsely (negation-searches (a .searching) refl) (rw (sym even) c) (to-count-none (negated w) (remaining w k) (sym left-is ∙ e))
 
-  pub back-under : Under (take (3 * made) flipped) (cutToCount (take (3 * made) flipped) left .words)
-  back-under = rw (e .words) (cut-to-under (negated w) left (negated-accepted w (t .accepted)) left-open)
+    module _ (ne : left ≡ 0 → ⊥) {others : ℕ} (is-others : others ≡ 2 ^ v - count) where
+      lacking-many : 2 < size w
+      lacking-many =
+          let some = acc .formed .some in
+          let is = left-is in
+          let high = a .high in
+          let all = negated-count w acc in
+          by-eq (size w) 1
+          (λ one.
+          let none = one-count w one in
+          absurd (over-accepted-open w k (a .target) one (omega arith) (omega arith)))
+          (λ x. by-eq (size w) 2
+          (λ two. let none = true-negates w two in absurd (omega arith))
+          (λ y. omega arith))
 
-  pub count-back-hits : {m : ℕ} → m ≡ max n 2 → {s : List ℕ} {j trials : ℕ} → Found (take (3 * made) flipped) (cutToCount (take (3 * made) flipped) left) r s j trials
-      → {room-after out′ : List ℕ} {c : ℕ} → Returned m j s out room-after out′ c → Hit (overToCount w k) r room-after out out′ c trials
-  count-back-hits is-m f g =
-      rw (over-is ∙ ap (λ (x : List ℕ). back (cutToCount x left)) (sym (e .words)))
-      (back-hits t e is-m f back-under g)
+      pub lacking-mirrors : Mirroring w heads r left others n v
+      lacking-mirrors =
+          let m = lacking-many in
+          let is-n = a .searching .is-size in
+          let is = left-is in
+          let high = a .high in
+          let all = negated-count w acc in
+          let count-is = a .is-count in
+          let same : 2 ^ v ≡ 2 ^ vars w = ap (λ (i : ℕ). 2 ^ i) (a .searching .is-vars) in
+          let most = over-accepted-most w k (a .target) in
+          record {
+            searching = a .searching;
+            many = omega arith;
+            whole = a .whole (omega arith);
+            target = rw is (under-open-accepted (negated w) (remaining w k) (remaining-open w k acc (a .target)));
+            low = omega arith;
+            high = omega arith;
+            is-count = omega arith;
+          }
+
+      pub lacking-found : {after : List ℕ} {j trials : ℕ} → Found (negated w) (underToCount (negated w) left) r after j trials
+          → Found (negated w) (underToCount (negated w) (remaining w k)) r after j trials
+      lacking-found f = rw left-is at f
+
+-- ---- the search over the negation
+
+module _ {w heads r : List ℕ} {k count n v : ℕ} (a : Mirroring w heads r k count n v) where
+  abbrev ok : Accepted w
+  ok = a .searching .accepted
+
+  pub mirror-few : n ≤ maxNodes
+  mirror-few = searching-few (a .searching)
+
+  pub mirror-ready : Ready w v
+  mirror-ready = record { formed = ok .formed; count = a .searching .is-vars }
+
+  mirror-many : 2 < size w
+  mirror-many = let is = a .searching .is-size in let m = a .many in omega arith
+
+  pub mirror-turns : Turnable w r n v
+  mirror-turns =
+      let m = a .many in
+      let is = a .searching .is-size in
+      let long = a .searching .long in
+      record {
+        given = record { ordered = searching-ordered (a .searching); nodes = is; two = omega arith };
+        is-vars = a .searching .is-vars;
+        many = m;
+        long = omega arith;
+        left = a .whole .left;
+      }
+
+  module _ {made : ℕ} {flipped : List ℕ} (e : Flipped w made flipped) {b : List ℕ} (t : Turned w r b n) where
+    mirror-searches : Searching w b n v
+    mirror-searches =
+        let long = a .searching .long in
+        let kept = t .untouched .kept in
+        record { accepted = ok; is-size = a .searching .is-size; is-vars = a .searching .is-vars; long = omega arith }
+
+    pub mirror-above : Above (take (3 * made) flipped) heads b k count made v
+    mirror-above = rw (e .words) (record {
+      aiming = record { searching = negation-searches mirror-searches (e .count); target = a .target };
+      whole = turned-whole ok mirror-many (a .searching .is-size) (a .whole) t;
+      low = a .low;
+      high = a .high;
+      is-count = a .is-count;
+    })
+
+    pub mirror-found : {after : List ℕ} {j trials : ℕ} → Found (take (3 * made) flipped) (underToCount (take (3 * made) flipped) k) b after j trials
+        → Found (negated w) (underToCount (negated w) k) r after j trials
+    mirror-found {after} {j} {trials} g =
+        let f : Found (negated w) (underToCount (negated w) k) b after j trials = rw (e .words) at g in
+        let even = most-same w ok in
+        record {
+          trials = f .trials;
+          count = f .count;
+          words = f .words;
+          fits = f .fits;
+          kept = f .kept ∙ t .untouched .kept;
+          made = f .made;
+          beyond = f .beyond ∙ drop-more (countsTo (size w)) (searchTo (most (negated w))) b r (omega arith) (t .untouched .beyond);
+        }
+
+-- ---- the words stay
+
+module _ {w r out : List ℕ} {k n v : ℕ} (a : Counting true w r out k n v) where
+  pub over-searches : Searching w r n v
+  over-searches = targeting-searches (a .targeting)
+
+  module _ {heads b count : List ℕ} (x : Counted w heads r b count) where
+    pub over-keeps : {m : ℕ} → m ≡ max n 2 → Keeping w b m
+    over-keeps is-m = searching-keeps (counted-searches over-searches x) is-m
+
+    -- it has as many as are asked for
+    pub over-kept : k ≤ value count → {m : ℕ} → m ≡ max n 2 → {s : List ℕ} → Kept w m b s → Found w (overToCount w k) r s n 0
+    over-kept met is-m y =
+        let e = x .count .worth in
+        counted-found over-searches x (searching-kept (counted-searches over-searches x) is-m y (over-count-same w k (omega arith)))
+
+    -- ---- by negation
+
+    pub over-lacks : value count < k → Lacking w heads b k (value count) n v
+    over-lacks high =
+        let e = x .count .worth in
+        record { searching = counted-searches over-searches x; target = a .target; whole = x .whole; high = omega arith; is-count = e }
+
+    module _ (high : value count < k) where
+      below : countOf w < k
+      below = let e = x .count .worth in omega arith
+
+      over-is : overToCount w k ≡ back (underToCount (negated w) (remaining w k))
+      over-is =
+          let all = negated-count w (a .targeting .accepted) in
+          let most = over-accepted-most w k (a .target) in
+          let less = below in
+          let opposite-is : opposite w k ≡ remaining w k = omega arith in
+          over-count-negates w k below ∙ ap (λ (i : ℕ). back (underToCount (negated w) i)) opposite-is
+
+      pub over-under : Under (negated w) (underToCount (negated w) (remaining w k) .words)
+      over-under = to-count-under (negated w) (remaining w k) (negated-accepted w (a .targeting .accepted)) (remaining-open w k (a .targeting .accepted) (a .target))
+
+      module _ {s : List ℕ} {j trials : ℕ} (f : Found (negated w) (underToCount (negated w) (remaining w k)) b s j trials) where
+        pub over-found : Found (negated w) (underToCount (negated w) (remaining w k)) r s j trials
+        over-found =
+            let even = most-same w (a .targeting .accepted) in
+            record {
+              trials = f .trials;
+              count = f .count;
+              words = f .words;
+              fits = f .fits;
+              kept = f .kept ∙ x .kept;
+              made = f .made;
+              beyond = f .beyond
+                  ∙ (ap (λ (i : ℕ). drop (searchTo i) b) even ∙ x .beyond ∙ ap (λ (i : ℕ). drop (searchTo i) r) (sym even));
+            }
+
+        pub over-hits : {m : ℕ} → m ≡ max n 2 → {room-after out′ : List ℕ} {c : ℕ} → Returned m j s out room-after out′ c
+            → Hit (overToCount w k) r room-after out out′ c trials
+        over-hits is-m g = rw over-is (negation-hits (a .targeting) is-m over-found over-under g)
 
 -- ---- the verdicts
 

@@ -30,6 +30,37 @@ pub record Flipped (w : List ℕ) (made : ℕ) (flipped : List ℕ) : Type 0 whe
   pub count : made ≡ size (negated w)
   pub words : take (3 * made) flipped ≡ negated w
 
+-- An accepted diagram and its negation.
+module _ (w : List ℕ) (acc : Accepted w) where
+  length-of : (x : List ℕ) → Accepted x → length x ≡ 3 * size x
+  length-of x y = let whole = y .formed .whole in omega arith
+
+  pub most-same : most (negated w) ≡ most w
+  most-same =
+      let one = negated-most w acc in
+      let two = negated-most (negated w) (negated-accepted w acc) in
+      let twice = ap (λ (l : List ℕ). size l) (negated-twice w acc) in
+      omega arith
+
+  pub negation-fits : length (negated w) ≤ 3 * maxNodes
+  negation-fits =
+      let l = length-of (negated w) (negated-accepted w acc) in
+      let few = negated-accepted w acc .formed .few in
+      omega arith
+
+  pub flips : (before : List ℕ) {made : ℕ} {flipped : List ℕ} → (made ≡ size (negated w)) × (flipped ≡ over (negated w) before) → Flipped w made flipped
+  flips before {made} {flipped} (count, written) =
+      let l = length-of (negated w) (negated-accepted w acc) in
+      let long : 3 * made ≡ length (negated w) = omega arith in
+      record {
+        count = count;
+        words = ap (λ (k : ℕ). take k flipped) long ∙ ap (λ (l : List ℕ). take (length (negated w)) l) written
+            ∙ take-append-seam (negated w) (drop (length (negated w)) before);
+      }
+
+  pub flips-few : {made : ℕ} → made ≡ size (negated w) → made ≤ maxNodes
+  flips-few m = let few = negated-accepted w acc .formed .few in omega arith
+
 module _ {w r out : List ℕ} {n v : ℕ} (a : Targeting w r out n v) where
   ordered : Ordered w
   ordered = accepted-ordered w (a .accepted)
@@ -85,43 +116,64 @@ module _ {w r out : List ℕ} {n v : ℕ} (a : Targeting w r out n v) where
 
   -- ---- negated back
 
-  most-same : most (negated w) ≡ most w
-  most-same =
-      let one = negated-most w (a .accepted) in
-      let two = negated-most (negated w) (negated-accepted w (a .accepted)) in
-      let twice = ap (λ (l : List ℕ). size l) (negated-twice w (a .accepted)) in
-      omega arith
+  same : most (negated w) ≡ most w
+  same = most-same w (a .accepted)
 
   pub negation-ready : Ready w v
   negation-ready = record { formed = a .accepted .formed; count = a .is-vars }
 
-  length-of : (x : List ℕ) → Accepted x → length x ≡ 3 * size x
-  length-of x acc = let whole = acc .formed .whole in omega arith
-
   pub negation-few : length (negated w) ≤ 3 * maxNodes
-  negation-few =
-      let l = length-of (negated w) (negated-accepted w (a .accepted)) in
-      let few = negated-accepted w (a .accepted) .formed .few in
-      omega arith
+  negation-few = negation-fits w (a .accepted)
 
   pub flip : (before : List ℕ) {made : ℕ} {flipped : List ℕ} → (made ≡ size (negated w)) × (flipped ≡ over (negated w) before) → Flipped w made flipped
-  flip before {made} {flipped} (count, written) =
-      let l = length-of (negated w) (negated-accepted w (a .accepted)) in
-      let long : 3 * made ≡ length (negated w) = omega arith in
-      record {
-        count = count;
-        words = ap (λ (k : ℕ). take k flipped) long ∙ ap (λ (l : List ℕ). take (length (negated w)) l) written
-            ∙ take-append-seam (negated w) (drop (length (negated w)) before);
-      }
+  flip before e = flips w (a .accepted) before e
+
+  module _ {m : ℕ} (is-m : m ≡ max n 2) {b : Answer} {s : List ℕ} {k trials : ℕ} (f : Found (negated w) b r s k trials) (u : Under (negated w) (b .words)) where
+    mm : m ≡ most w
+    mm = m-is is-m
+
+    answer-back : answerIn m s k ≡ b .words
+    answer-back = ap (λ (i : ℕ). take (3 * k) (drop (answerFrom i) s)) (mm ∙ sym same) ∙ f .made
+
+    pub negation-returns : Returning s out m k v
+    negation-returns =
+        let is = mm in
+        let even = same in
+        let few = ordered .formed .few in
+        let fits = f .fits in
+        let long = a .long in
+        let kept = f .kept in
+        let output = a .output in
+        let count = f .count in
+        let l = length-of w (a .accepted) (negated (b .words)) (negated-accepted (b .words) (u .accepted)) in
+        let less = negated-most (b .words) (u .accepted) in
+        record {
+          giving = record { few = omega arith; nodes = omega arith; long = omega arith; output = omega arith };
+          is-size = rw answer-back (f .count);
+          ready = rw answer-back (record { formed = u .accepted .formed; count = a .is-vars ∙ sym (u .variables ∙ negated-vars w (a .accepted)) });
+          fits = rw answer-back (omega arith);
+        }
+
+    pub negation-hits : {room-after out′ : List ℕ} {c : ℕ} → Returned m k s out room-after out′ c → Hit (back b) r room-after out out′ c trials
+    unfolding back
+    negation-hits {room-after} {out′} {c} g =
+        let rest : drop (searchTo m) s ≡ drop (searchTo m) r =
+        ap (λ (i : ℕ). drop (searchTo i) s) (mm ∙ sym same) ∙ f .beyond ∙ ap (λ (i : ℕ). drop (searchTo i) r) (same ∙ sym mm) in
+        record {
+          count = rw answer-back at (g .count);
+          trials = f .trials;
+          room = room-back is-m s room-after (f .kept) rest (g .room);
+          written = rw answer-back at (g .written);
+        }
 
   module _ {made : ℕ} {flipped : List ℕ} (e : Flipped w made flipped) where
     pub flipped-few : made ≤ maxNodes
-    flipped-few = let few = negated-accepted w (a .accepted) .formed .few in let m = e .count in omega arith
+    flipped-few = flips-few w (a .accepted) (e .count)
 
     pub flipped-searches : Searching (take (3 * made) flipped) r made v
     flipped-searches =
         let long = a .long in
-        let same = most-same in
+        let even = same in
         rw (e .words) (record {
           accepted = negated-accepted w (a .accepted);
           is-size = e .count;
@@ -131,48 +183,11 @@ module _ {w r out : List ℕ} {n v : ℕ} (a : Targeting w r out n v) where
 
     module _ {m : ℕ} (is-m : m ≡ max n 2) {b : Answer} {s : List ℕ} {k trials : ℕ} (f : Found (take (3 * made) flipped) b r s k trials)
         (u : Under (take (3 * made) flipped) (b .words)) where
-      mm : m ≡ most w
-      mm = m-is is-m
-
-      f-is : Found (negated w) b r s k trials
-      f-is = rw (e .words) at f
-
-      u-is : Under (negated w) (b .words)
-      u-is = rw (e .words) at u
-
-      answer-back : answerIn m s k ≡ b .words
-      answer-back = ap (λ (i : ℕ). take (3 * k) (drop (answerFrom i) s)) (mm ∙ sym most-same) ∙ f-is .made
-
       pub back-returns : Returning s out m k v
-      back-returns =
-          let is = mm in
-          let same = most-same in
-          let few = ordered .formed .few in
-          let fits = f-is .fits in
-          let long = a .long in
-          let kept = f-is .kept in
-          let output = a .output in
-          let count = f-is .count in
-          let l = length-of (negated (b .words)) (negated-accepted (b .words) (u-is .accepted)) in
-          let less = negated-most (b .words) (u-is .accepted) in
-          record {
-            giving = record { few = omega arith; nodes = omega arith; long = omega arith; output = omega arith };
-            is-size = rw answer-back (f-is .count);
-            ready = rw answer-back (record { formed = u-is .accepted .formed; count = a .is-vars ∙ sym (u-is .variables ∙ negated-vars w (a .accepted)) });
-            fits = rw answer-back (omega arith);
-          }
+      back-returns = negation-returns is-m (rw (e .words) at f) (rw (e .words) at u)
 
       pub back-hits : {room-after out′ : List ℕ} {c : ℕ} → Returned m k s out room-after out′ c → Hit (back b) r room-after out out′ c trials
-      unfolding back
-      back-hits {room-after} {out′} {c} g =
-          let rest : drop (searchTo m) s ≡ drop (searchTo m) r =
-          ap (λ (i : ℕ). drop (searchTo i) s) (mm ∙ sym most-same) ∙ f-is .beyond ∙ ap (λ (i : ℕ). drop (searchTo i) r) (most-same ∙ sym mm) in
-          record {
-            count = rw answer-back at (g .count);
-            trials = f-is .trials;
-            room = room-back is-m s room-after (f-is .kept) rest (g .room);
-            written = rw answer-back at (g .written);
-          }
+      back-hits g = negation-hits is-m (rw (e .words) at f) (rw (e .words) at u) g
 
 -- ---- the verdicts
 

@@ -1,6 +1,6 @@
 -- What the functions inside ask and promise: from below, or where `above` says so from above. No promise to a caller names
 -- these.
-use Prim.Native.Nat.{ℕ, _*_, _≤_, _<_}
+use Prim.Native.Nat.{ℕ, _-_, _*_, _^_, _≤_, _<_}
 use mathlib.Core.Path.{_≡_}
 use mathlib.Core.Bool.{Bool, true, cond}
 use mathlib.Core.List.{List, _++_}
@@ -9,7 +9,12 @@ use Rattle.diagram.specs.Diagram.{size, vars, Accepted}
 use Rattle.diagram.specs.Verdict.{Outcome, accepted, andThen, most, roomOf, verdictFor}
 use Rattle.diagram.specs.declared.verdict.Verdict.{Verdict}
 use Rattle.diagram.specs.declared.verdict.Output.the-variants.{Diagram}
+use Rattle.diagram.specs.Valuations.{countOf}
+use Rattle.negation.specs.Negation.{negated}
+use Rattle.approximation.specs.Cut.{underCountOf, overCountOf}
 use Rattle.approximation.specs.Search.{Answer, underToSize, overToSize, underToCount, overToCount}
+use Rattle.recounts.specs.Kept.{Whole}
+use Rattle.trials.specs.Trials.{Searching}
 use Rattle.told.specs.Told.{toldOf}
 use Rattle.targets.specs.Targets.{Meets}
 
@@ -49,3 +54,25 @@ pub record Hit (a : Answer) (r after out out′ : List ℕ) (k trial-count : ℕ
 pub record Counting (above : Bool) (w r out : List ℕ) (k n v : ℕ) : Type 0 where
   pub targeting : Targeting w r out n v
   pub target : toldOf above w k ≡ accepted (size w) (vars w)
+
+-- How many of all valuations a target k leaves.
+abbrev pub remaining : List ℕ → ℕ → ℕ
+remaining w k = 2 ^ vars w - k
+
+-- A count that is below the target, and what was counted.
+pub record Lacking (w heads r : List ℕ) (k count n v : ℕ) : Type 0 where
+  pub searching : Searching w r n v
+  pub target : overCountOf w k ≡ accepted (size w) (vars w)
+  pub whole : 2 ≤ size w → Whole w heads r
+  pub high : countOf w < k
+  pub is-count : count ≡ countOf w
+
+-- What was counted of a diagram, a target for its negation, and how many valuations that has.
+pub record Mirroring (w heads r : List ℕ) (k count n v : ℕ) : Type 0 where
+  pub searching : Searching w r n v
+  pub many : 2 < n
+  pub whole : Whole w heads r
+  pub target : underCountOf (negated w) k ≡ accepted (size (negated w)) (vars (negated w))
+  pub low : 0 < k
+  pub high : k < countOf (negated w)
+  pub is-count : count ≡ countOf (negated w)

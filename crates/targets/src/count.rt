@@ -1,25 +1,35 @@
 // To a count.
 use crate::Approximated;
-use count_search::cut_to_count;
+use count_search::count_of;
+use count_search::seek;
 use count_search::under_count;
 use diagram::lengths::most;
 use diagram::limits::MAX_WORDS;
+use diagram::node::BddPointer;
 use diagram::validate::admit;
 use diagram::verdict::Output;
 use diagram::verdict::Verdict;
+use levels::CHAINS;
 use naturals::Natural;
+use naturals::at_most;
 use naturals::excess;
+use naturals::is_zero;
 use naturals::power_of_two;
 use negation::negate;
+use recounts::turning::turn;
 use told::tell;
 use trials::answers::Answer;
+use trials::answers::constantly;
 use trials::answers::give;
 use trials::answers::give_back;
+use trials::answers::keep;
 ghost use mathlib.Core.Bool.{true, false};
 ghost use Rattle.naturals.specs.Natural.{value};
+ghost use Rattle.negation.specs.Negation.{negated};
 ghost use Rattle.approximation.specs.Search.{underToCount, overToCount};
+ghost use Rattle.trials.specs.Trials.{Found};
 ghost use Rattle.targets.specs.Targets.{UnderToCount, OverToCount};
-ghost use Rattle.targets.specs.Hits.{toCount, ToCount, Counting, Hit};
+ghost use Rattle.targets.specs.Hits.{toCount, ToCount, remaining, Mirroring, Lacking, Counting, Hit};
 
 fn under(
     words: &[u32],
@@ -37,8 +47,48 @@ fn under(
     found
 }
 
-// Underapproximates the negation to what the target leaves of all valuations, and negates back. Where the diagram has as many
-// as are asked for, its negation stays as it is.
+// The search over the negation. What was counted is turned to it: it is not counted again.
+fn turn_and_seek(
+    words: &[u32],
+    heads: &[u32],
+    room: &mut [u32],
+    target: Natural,
+    count: Natural,
+    nodes: usize,
+    vars: u32,
+) -> Answer
+    requires { ⌜ Mirroring (now words) (now heads) (now room) (value (target .words)) (value (count .words)) nodes vars ⌝ }
+    ensures { λ r. ⌜ Found (negated (now (words .entry))) (underToCount (negated (now (words .entry))) (value (target .words))) (now (room .entry)) (now (room .exit)) (r .nodes) (r .trials) ⌝ }
+{
+    let mut flipped = [0u32; MAX_WORDS];
+    let made = negate(words, &mut flipped, nodes, vars);
+    turn(words, room, nodes, vars);
+    seek(&flipped[..3 * made], heads, room, target, count, made, vars)
+}
+
+// Underapproximates the negation to what the target leaves of all valuations.
+fn under_negation(
+    words: &[u32],
+    heads: &[u32],
+    room: &mut [u32],
+    target: Natural,
+    count: Natural,
+    nodes: usize,
+    vars: u32,
+) -> Answer
+    requires { ⌜ Lacking (now words) (now heads) (now room) (value (target .words)) (value (count .words)) nodes vars ⌝ }
+    ensures { λ r. ⌜ Found (negated (now (words .entry))) (underToCount (negated (now (words .entry))) (remaining (now (words .entry)) (value (target .words)))) (now (room .entry)) (now (room .exit)) (r .nodes) (r .trials) ⌝ }
+{
+    let all = power_of_two(vars);
+    let left = excess(all.natural, target);
+    if is_zero(left) {
+        return constantly(room, BddPointer(0), nodes, vars);
+    }
+    let others = excess(all.natural, count);
+    turn_and_seek(words, heads, room, left, others, nodes, vars)
+}
+
+// Where the diagram has as many as are asked for, it stays as it is; else its negation is underapproximated and negated back.
 fn over(
     words: &[u32],
     target: Natural,
@@ -50,14 +100,17 @@ fn over(
     requires { ⌜ Counting true (now words) (now room) (now output) (value (target .words)) nodes vars ⌝ }
     ensures { λ r. ⌜ Hit (overToCount (now (words .entry)) (value (target .words))) (now (room .entry)) (now (room .exit)) (now (output .entry)) (now (output .exit)) (r .nodes) (r .trials) ⌝ }
 {
-    let mut flipped = [0u32; MAX_WORDS];
-    let made = negate(words, &mut flipped, nodes, vars);
-    let all = power_of_two(vars);
-    let left = excess(all.natural, target);
-    let found = cut_to_count(&flipped[..3 * made], room, left, made, vars);
-    let count = give_back(room, output, most(nodes), found.nodes, vars);
+    let mut heads = [0u32; CHAINS];
+    let count = count_of(words, &mut heads, room, nodes, vars);
+    if at_most(target, count) {
+        keep(words, room, most(nodes));
+        give(room, output, most(nodes), nodes);
+        return Answer { nodes, trials: 0 };
+    }
+    let found = under_negation(words, &heads, room, target, count, nodes, vars);
+    let made = give_back(room, output, most(nodes), found.nodes, vars);
     Answer {
-        nodes: count,
+        nodes: made,
         trials: found.trials,
     }
 }

@@ -1,46 +1,41 @@
-use lib.ListN.{replicate}
-use lib.Seq.{length-take-le}
-use mathlib.Core.Path.{sym, ap, _∙_}
-use Prim.Native.Nat.{ℕ, _-_}
-use Rattle.diagram.specs.Limits.{maxWords}
-use Rattle.naturals.specs.Natural.{value}
-use Rattle.targets.proofs.Counts.{targeting-variables, back-aims, back-under, count-back-hits}
-use Rattle.told.proofs.Opening.{power-value}
-use Rattle.targets.proofs.Hitting.{flip, negation-ready, negation-few, flipped-few, back-returns}
+use borrow.Author.Tests.{leb-true, leb-false}
+use mathlib.Core.Path.{refl, sym, _∙_}
+use Rattle.targets.proofs.Hitting.{found-gives, found-hits, negation-returns}
+use Rattle.targets.proofs.Counts.{over-searches, over-keeps, over-kept, over-lacks, over-found, over-under, over-hits}
 use native.Mathlib.Omega.{arith}
 use borrow.Author.Needs.{needs}
 use Rattle.targets.proofs.count.over.Statement.{statement}
 use Rattle.targets.proofs.count.over.Tie as tie
+use Rattle.targets.proofs.count.over.Reads as reads
+use Rattle.targets.proofs.count.over.Lts as lts
+use Rattle.count_search.proofs.count_of.Reads as count-of-reads
+use Rattle.diagram.proofs.lengths.most.Reads as most-reads
+use Rattle.naturals.proofs.at_most.Reads as at-most-reads
+use Rattle.targets.proofs.count.under_negation.Reads as under-negation-reads
+use Rattle.trials.proofs.answers.give.Reads as give-reads
+use Rattle.trials.proofs.answers.give_back.Reads as give-back-reads
+use Rattle.trials.proofs.answers.keep.Reads as keep-reads
 
-slice-aggregate-negate : tie.Need-slice-aggregate-negate
-slice-aggregate-negate c = search needs
+slice-aggregate-count-of : tie.Need-slice-aggregate-count-of
+slice-aggregate-count-of c = search needs
 
-negate-requires : tie.Need-negate-requires
-negate-requires c κs = ((c .before .before .before .before .pre .targeting) .is-size, negation-ready (c .before .before .before .before .pre .targeting), omega (arith, negation-few (c .before .before .before .before .pre .targeting)))
+count-of-requires : tie.Need-count-of-requires
+count-of-requires c κs = (over-searches (c .before .before .before .before .before .pre), refl)
 
-power-of-two-requires : tie.Need-power-of-two-requires
-power-of-two-requires c κs = search needs
-
-excess-requires : tie.Need-excess-requires
-excess-requires c κs = search needs
-
-mul-flipped : tie.Need-mul-flipped
-mul-flipped c = omega (arith, flipped-few (c .before .before .before .before .before .before .before .before .pre .targeting) (flip (c .before .before .before .before .before .before .before .before .pre .targeting) (replicate maxWords 0) (c .before .before .before .negate .ensures)))
-
-array-share-prefix-flipped : tie.Need-array-share-prefix-flipped
-array-share-prefix-flipped c = omega (arith, flipped-few (c .before .before .before .before .before .before .before .before .pre .targeting) (flip (c .before .before .before .before .before .before .before .before .pre .targeting) (replicate maxWords 0) (c .before .before .before .negate .ensures)))
-
-slice-aggregate-cut-to-count : tie.Need-slice-aggregate-cut-to-count
-slice-aggregate-cut-to-count c = sym (length-take-le _ _ (omega (arith, flipped-few (c .before .before .before .before .before .before .before .before .before .pre .targeting) (flip (c .before .before .before .before .before .before .before .before .before .pre .targeting) (replicate maxWords 0) (c .before .before .before .before .negate .ensures)))))
-
-cut-to-count-requires : tie.Need-cut-to-count-requires
-cut-to-count-requires c κs = back-aims (c .before .before .before .before .before .before .before .before .before .before .pre) (flip (c .before .before .before .before .before .before .before .before .before .before .pre .targeting) (replicate maxWords 0) (c .before .before .before .before .before .negate .ensures)) (c .before .before .excess .ensures ∙ ap (λ (x : ℕ). x - value (c .before .before .before .before .before .before .before .before .before .before .args .target .words)) (power-value (c .before .before .before .before .before .before .before .before .before .before .args .vars) (targeting-variables (c .before .before .before .before .before .before .before .before .before .before .pre .targeting)) (c .before .before .before .power-of-two .ensures)))
+at-most-requires : tie.Need-at-most-requires
+at-most-requires c κs = search needs
 
 most-requires : tie.Need-most-requires
 most-requires c κs = search needs
 
-give-back-requires : tie.Need-give-back-requires
-give-back-requires c κs = back-returns (c .before .before .before .before .before .before .before .before .before .before .before .before .before .before .before .before .pre .targeting) (flip (c .before .before .before .before .before .before .before .before .before .before .before .before .before .before .before .before .pre .targeting) (replicate maxWords 0) (c .before .before .before .before .before .before .before .before .before .before .before .negate .ensures)) (c .most .ensures) (c .before .before .before .before .before .cut-to-count .ensures) (back-under (c .before .before .before .before .before .before .before .before .before .before .before .before .before .before .before .before .pre) (flip (c .before .before .before .before .before .before .before .before .before .before .before .before .before .before .before .before .pre .targeting) (replicate maxWords 0) (c .before .before .before .before .before .before .before .before .before .before .before .negate .ensures)) (c .before .before .before .before .before .before .before .before .excess .ensures ∙ ap (λ (x : ℕ). x - value (c .before .before .before .before .before .before .before .before .before .before .before .before .before .before .before .before .args .target .words)) (power-value (c .before .before .before .before .before .before .before .before .before .before .before .before .before .before .before .before .args .vars) (targeting-variables (c .before .before .before .before .before .before .before .before .before .before .before .before .before .before .before .before .pre .targeting)) (c .before .before .before .before .before .before .before .before .before .power-of-two .ensures))))
+keep-requires : tie.Need-keep-requires
+keep-requires c κs = over-keeps (c .before .before .before .before .before .before .before .before .before .before .before .before .before .pre) (c .before .before .before .before .before .before .before .count-of .ensures) (c .most .ensures)
+
+most-requires-2 : tie.Need-most-requires-2
+most-requires-2 c κs = search needs
+
+give-requires : tie.Need-give-requires
+give-requires c κs = found-gives (c .before .before .before .before .before .before .before .before .before .before .before .before .before .before .before .before .before .before .before .pre .targeting) (c .most2 .ensures) (over-kept (c .before .before .before .before .before .before .before .before .before .before .before .before .before .before .before .before .before .before .before .pre) (c .before .before .before .before .before .before .before .before .before .before .before .before .before .count-of .ensures) (leb-true _ _ (sym (c .before .before .before .before .before .before .before .before .before .at-most .ensures) ∙ c .before .before .before .before .before .before .before .before .if1 .taken)) (c .before .before .before .before .before .before .most .ensures) (c .before .before .before .before .before .keep .ensures))
 
 same-length : tie.Need-same-length
 same-length c = search needs
@@ -49,22 +44,47 @@ same-length-2 : tie.Need-same-length-2
 same-length-2 c = search needs
 
 returns : tie.Need-returns
-returns c = count-back-hits (c .before .before .before .before .before .before .before .before .before .before .before .before .before .before .before .before .before .before .before .before .before .pre) (flip (c .before .before .before .before .before .before .before .before .before .before .before .before .before .before .before .before .before .before .before .before .before .pre .targeting) (replicate maxWords 0) (c .before .before .before .before .before .before .before .before .before .before .before .before .before .before .before .before .negate .ensures)) (c .before .before .before .before .before .before .before .before .before .before .before .before .before .excess .ensures ∙ ap (λ (x : ℕ). x - value (c .before .before .before .before .before .before .before .before .before .before .before .before .before .before .before .before .before .before .before .before .before .args .target .words)) (power-value (c .before .before .before .before .before .before .before .before .before .before .before .before .before .before .before .before .before .before .before .before .before .args .vars) (targeting-variables (c .before .before .before .before .before .before .before .before .before .before .before .before .before .before .before .before .before .before .before .before .before .pre .targeting)) (c .before .before .before .before .before .before .before .before .before .before .before .before .before .before .power-of-two .ensures))) (c .before .before .before .before .before .most .ensures) (c .before .before .before .before .before .before .before .before .before .before .cut-to-count .ensures) (c .before .before .before .before .give-back .ensures)
+returns c = found-hits (c .before .before .before .before .before .before .before .before .before .before .before .before .before .before .before .before .before .before .before .before .before .before .before .before .pre .targeting) (c .before .before .before .before .before .most2 .ensures) (over-kept (c .before .before .before .before .before .before .before .before .before .before .before .before .before .before .before .before .before .before .before .before .before .before .before .before .pre) (c .before .before .before .before .before .before .before .before .before .before .before .before .before .before .before .before .before .before .count-of .ensures) (leb-true _ _ (sym (c .before .before .before .before .before .before .before .before .before .before .before .before .before .before .at-most .ensures) ∙ c .before .before .before .before .before .before .before .before .before .before .before .before .before .if1 .taken)) (c .before .before .before .before .before .before .before .before .before .before .before .most .ensures) (c .before .before .before .before .before .before .before .before .before .before .keep .ensures)) (c .before .before .before .before .give .ensures)
+
+slice-aggregate-under-negation : tie.Need-slice-aggregate-under-negation
+slice-aggregate-under-negation c = search needs
+
+under-negation-requires : tie.Need-under-negation-requires
+under-negation-requires c κs = over-lacks (c .before .before .before .before .before .before .before .before .before .before .before .before .before .pre) (c .before .before .before .before .before .before .before .count-of .ensures) (leb-false _ _ (sym (c .before .before .before .at-most .ensures) ∙ c .before .before .if1 .left))
+
+most-requires-3 : tie.Need-most-requires-3
+most-requires-3 c κs = search needs
+
+give-back-requires : tie.Need-give-back-requires
+give-back-requires c κs = negation-returns (c .before .before .before .before .before .before .before .before .before .before .before .before .before .before .before .before .before .before .before .pre .targeting) (c .most3 .ensures) (over-found (c .before .before .before .before .before .before .before .before .before .before .before .before .before .before .before .before .before .before .before .pre) (c .before .before .before .before .before .before .before .before .before .before .before .before .before .count-of .ensures) (leb-false _ _ (sym (c .before .before .before .before .before .before .before .before .before .at-most .ensures) ∙ c .before .before .before .before .before .before .before .before .if1 .left)) (c .before .before .before .before .before .under-negation .ensures)) (over-under (c .before .before .before .before .before .before .before .before .before .before .before .before .before .before .before .before .before .before .before .pre) (c .before .before .before .before .before .before .before .before .before .before .before .before .before .count-of .ensures) (leb-false _ _ (sym (c .before .before .before .before .before .before .before .before .before .at-most .ensures) ∙ c .before .before .before .before .before .before .before .before .if1 .left)))
+
+same-length-3 : tie.Need-same-length-3
+same-length-3 c = search needs
+
+same-length-4 : tie.Need-same-length-4
+same-length-4 c = search needs
+
+returns-2 : tie.Need-returns-2
+returns-2 c = over-hits (c .before .before .before .before .before .before .before .before .before .before .before .before .before .before .before .before .before .before .before .before .before .before .before .before .pre) (c .before .before .before .before .before .before .before .before .before .before .before .before .before .before .before .before .before .before .count-of .ensures) (leb-false _ _ (sym (c .before .before .before .before .before .before .before .before .before .before .before .before .before .before .at-most .ensures) ∙ c .before .before .before .before .before .before .before .before .before .before .before .before .before .if1 .left)) (c .before .before .before .before .before .before .before .before .before .before .under-negation .ensures) (c .before .before .before .before .before .most3 .ensures) (c .before .before .before .before .give-back .ensures)
 
 pub over-spec : {M : Type 1} → statement M
 over-spec =
     tie.close
     (tie.spec
-    slice-aggregate-negate
-    negate-requires
-    power-of-two-requires
-    excess-requires
-    mul-flipped
-    array-share-prefix-flipped
-    slice-aggregate-cut-to-count
-    cut-to-count-requires
+    slice-aggregate-count-of
+    count-of-requires
+    at-most-requires
     most-requires
-    give-back-requires
+    keep-requires
+    most-requires-2
+    give-requires
     same-length
     same-length-2
-    returns)
+    returns
+    slice-aggregate-under-negation
+    under-negation-requires
+    most-requires-3
+    give-back-requires
+    same-length-3
+    same-length-4
+    returns-2)
