@@ -323,6 +323,8 @@ static int deep(void) {
             }
             uint32_t target[COUNT_WORDS] = {o->argument == SIZE_TARGET ? 300 : 1};
             if (o->argument == COUNT_TARGET) target[COUNT_WORDS - 1] = 1u << 27;
+            if (o->argument == COUNT_TARGET && o->name[0] == 'o') /* from above seven eighths of all: the ladders hold for fewer */
+                target[COUNT_WORDS - 1] = 0, target[VARS / 32] = 7u << (VARS % 32 - 3);
             list[0] = (uint32_t)n / 2, list[1] = (uint32_t)n / 3;
             Loan l = loan(words, len, list, o->argument == LIST ? 2 : 0, HOUAYLETAN_ROOM(n), output_asked(o->output, n), 77, 16);
             Request q = request_of(&l, target);
