@@ -30,7 +30,7 @@ partOf valuations w p child n = n * 2 ^ doublings valuations (varOf w child - va
 abbrev pub totalOf : Bool → List ℕ → ℕ
 totalOf valuations w = worthOf valuations w (root w) * 2 ^ doublings valuations (varOf w (root w))
 
--- The room has nine words for each node: a link, and its worth.
+-- The words of the room for each node: a link, and its worth.
 abbrev pub entry : ℕ
 entry = 1 + wordCount
 

@@ -107,7 +107,7 @@ fn refused_letter() -> Approximated {
     }
 }
 
-// A count target: eight words, least first.
+// A count target: the words of a count, least first.
 fn count_of(list: &[u32]) -> Natural {
     let read = load(list, 0);
     read.natural

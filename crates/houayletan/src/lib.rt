@@ -154,7 +154,7 @@ pub extern "C" fn houayletan_cardinality(words: &[u32], room: &mut [u32]) -> Hou
     flat_float(cardinality(words, room))
 }
 
-// For each node, in eight words of the output, how many valuations that the diagram holds for have a path that visits it.
+// For each node, in the words of a count in the output, how many valuations that the diagram holds for have a path that visits it.
 #[no_mangle]
 pub extern "C" fn houayletan_node_valuation_weights(
     words: &[u32],

@@ -9,7 +9,7 @@ use weights::weigh::hand_over;
 use weights::weigh::weigh;
 ghost use Rattle.weights.specs.Weighed.{Weighs};
 
-// Eight words of the output for each node, in the order of the nodes.
+// The words of a count in the output for each node, in the order of the nodes.
 pub fn node_valuation_weights(words: &[u32], room: &mut [u32], output: &mut [u32]) -> Verdict
     ensures { λ r. ⌜ Weighs (now (words .entry)) (now (room .entry)) (now (room .exit)) (now (output .entry)) (now (output .exit)) r ⌝ }
 {
