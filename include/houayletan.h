@@ -21,7 +21,8 @@
  *             answer leaves it as it was beyond the result.
  *   count     HOUAYLETAN_COUNT_WORDS words of 32 bits, least first.
  *
- * Numbers of refusal, in the order in which the checks run:
+ * Numbers of refusal, in the order in which the checks run (docs/RULES.md has the same table, with the paper that each row
+ * comes from). The diagram's own are those from 1 to 12 in this table, 17 among them; 4 only where there is an output.
  *
  *   no.  given when                                                     place
  *    1   no words                                                       0
@@ -34,7 +35,9 @@
  *    8   a variable is v or more                                        the node
  *    9   a low link is past the nodes                                   the node
  *   10   a high link is past the nodes                                  the node
- *   11   a reachable non-terminal has a child not at a larger variable  the smallest such node
+ *   11   a reachable non-terminal has a child not at a larger variable: its low child
+ *                                                                       the smallest node with such a child
+ *   17   the same: its high child, and not its low child                the smallest node with such a child
  *   12   a non-terminal is unreachable                                  the smallest such node
  *   13   a listed pointer is past the nodes                             the first such place in the list, from 0
  *   14   a terminal is listed and the root is not                       the first terminal's place in the list, from 0
@@ -43,7 +46,8 @@
  *   19   a count target strictly between 0 and 2^v: under on two nodes, over on one
  *                                                                       0
  *
- * Of 8, 9 and 10 the first faulty node is reported, and in it the variable, then low, then high.
+ * Of 8, 9 and 10 the first faulty node is reported, and in it the variable, then low, then high. Of 11 and 17 likewise: the
+ * node is chosen first, then its low child comes before its high child.
  */
 #ifndef HOUAYLETAN_H
 #define HOUAYLETAN_H
@@ -88,25 +92,25 @@ typedef struct {
     size_t nodes;
 } HouayletanDiagram;
 
-/* The check of any words as a diagram. Refusals 1 to 3 and 5 to 12. */
+/* The check of any words as a diagram. Refusals: the diagram's own. */
 HouayletanVerdict houayletan_validate(const uint32_t *words, size_t words_len, uint32_t *room, size_t room_len);
 
-/* How many of the 2^v valuations the diagram holds for. Refusals 1 to 3 and 5 to 12. */
+/* How many of the 2^v valuations the diagram holds for. Refusals: the diagram's own. */
 HouayletanCount houayletan_exact_cardinality(const uint32_t *words, size_t words_len, uint32_t *room, size_t room_len);
 
-/* The same as a double: exact up to 2^53; beyond, each node's sum is rounded once. Refusals 1 to 3 and 5 to 12. */
+/* The same as a double: exact up to 2^53; beyond, each node's sum is rounded once. Refusals: the diagram's own. */
 HouayletanFloat houayletan_cardinality(const uint32_t *words, size_t words_len, uint32_t *room, size_t room_len);
 
-/* How many paths lead from the root to node 1, in the array as it stands. Refusals 1 to 3 and 5 to 12. */
+/* How many paths lead from the root to node 1, in the array as it stands. Refusals: the diagram's own. */
 HouayletanCount houayletan_exact_clause_cardinality(const uint32_t *words, size_t words_len, uint32_t *room, size_t room_len);
 
 /* For each node, in HOUAYLETAN_COUNT_WORDS words of the output, how many valuations that the diagram holds for have a path
- * that visits it. The output is HOUAYLETAN_WEIGHTS(n) words. Refusals 1 to 12 and 15. */
+ * that visits it. The output is HOUAYLETAN_WEIGHTS(n) words. Refusals: the diagram's own, then 15. */
 HouayletanVerdict houayletan_node_valuation_weights(const uint32_t *words, size_t words_len, uint32_t *room, size_t room_len,
                                                     uint32_t *output, size_t output_len);
 
 /* The reduced diagram of the same function: no node with low = high, no two equal nodes, only reachable ones; nodes after
- * the terminals numbered on the way back, low branch first, root last. Refusals 1 to 12. */
+ * the terminals numbered on the way back, low branch first, root last. Refusals: the diagram's own. */
 HouayletanDiagram houayletan_reduce(const uint32_t *words, size_t words_len, uint32_t *room, size_t room_len,
                                     uint32_t *output, size_t output_len);
 
@@ -131,43 +135,43 @@ typedef struct {
     uint32_t words[HOUAYLETAN_COUNT_WORDS];
 } HouayletanNatural;
 
-/* The number of nodes of the array, and of variables. Refusals 1 to 3 and 5 to 12. */
+/* The number of nodes of the array, and of variables. Refusals: the diagram's own. */
 HouayletanAmount houayletan_size(const uint32_t *words, size_t words_len, uint32_t *room, size_t room_len);
 HouayletanAmount houayletan_num_vars(const uint32_t *words, size_t words_len, uint32_t *room, size_t room_len);
 
-/* Whether the array has two nodes, and whether it has one: true and false by the array alone. Refusals 1 to 3 and 5 to 12. */
+/* Whether the array has two nodes, and whether it has one: true and false by the array alone. Refusals: the diagram's own. */
 HouayletanAmount houayletan_is_true(const uint32_t *words, size_t words_len, uint32_t *room, size_t room_len);
 HouayletanAmount houayletan_is_false(const uint32_t *words, size_t words_len, uint32_t *room, size_t room_len);
 
 /* Whether the diagram is one conjunction of literals, and whether it holds for one valuation alone. A yes is right; a no is
- * right for a reduced array. Refusals 1 to 3 and 5 to 12. */
+ * right for a reduced array. Refusals: the diagram's own. */
 HouayletanAmount houayletan_is_clause(const uint32_t *words, size_t words_len, uint32_t *room, size_t room_len);
 HouayletanAmount houayletan_is_valuation(const uint32_t *words, size_t words_len, uint32_t *room, size_t room_len);
 
-/* How many nodes each variable has: the first v words of an output of at least HOUAYLETAN_VARS. Refusals 1 to 12. */
+/* How many nodes each variable has: the first v words of an output of at least HOUAYLETAN_VARS. Refusals: the diagram's own. */
 HouayletanVerdict houayletan_size_per_variable(const uint32_t *words, size_t words_len, uint32_t *room, size_t room_len,
                                                uint32_t *output, size_t output_len);
 
-/* The negation: constants exchange; else links 0 and 1 exchange and every node keeps its place. Refusals 1 to 12. */
+/* The negation: constants exchange; else links 0 and 1 exchange and every node keeps its place. Refusals: the diagram's own. */
 HouayletanDiagram houayletan_not(const uint32_t *words, size_t words_len, uint32_t *room, size_t room_len,
                                  uint32_t *output, size_t output_len);
 
 /* Cuts by a list of node pointers: links to listed nodes go to 0 (under) or to 1 (over), then the diagram is reduced. A
- * listed root gives false or true. Repeats are harmless, the empty list reduces. Refusals 1 to 14. */
+ * listed root gives false or true. Repeats are harmless, the empty list reduces. Refusals: the diagram's own, then 13 and 14. */
 HouayletanDiagram houayletan_underapproximate(const uint32_t *words, size_t words_len, const uint32_t *list, size_t list_len,
                                               uint32_t *room, size_t room_len, uint32_t *output, size_t output_len);
 HouayletanDiagram houayletan_overapproximate(const uint32_t *words, size_t words_len, const uint32_t *list, size_t list_len,
                                              uint32_t *room, size_t room_len, uint32_t *output, size_t output_len);
 
 /* Cuts to at most target nodes, the nodes of least weight first. A diagram that has no more than target nodes comes out as
- * it is. Targets 0 and 1 give false (under) or true (over, two nodes). Refusals 1 to 12. */
+ * it is. Targets 0 and 1 give false (under) or true (over, two nodes). Refusals: the diagram's own. */
 HouayletanApproximation houayletan_underapproximate_to_size(const uint32_t *words, size_t words_len, uint32_t target,
                                                             uint32_t *room, size_t room_len, uint32_t *output, size_t output_len);
 HouayletanApproximation houayletan_overapproximate_to_size(const uint32_t *words, size_t words_len, uint32_t target,
                                                            uint32_t *room, size_t room_len, uint32_t *output, size_t output_len);
 
 /* Cuts to a count of at most target (under) or at least target (over). Where the count is so already the diagram comes out
- * as it is, except that under to 0 gives the one-node false. Refusals 1 to 12 and 19 (under), 1 to 12, 16 and 19 (over). */
+ * as it is, except that under to 0 gives the one-node false. Refusals: the diagram's own, then 16 (over), then 19. */
 HouayletanApproximation houayletan_underapproximate_to_cardinality(const uint32_t *words, size_t words_len, HouayletanNatural target,
                                                                    uint32_t *room, size_t room_len, uint32_t *output, size_t output_len);
 HouayletanApproximation houayletan_overapproximate_to_cardinality(const uint32_t *words, size_t words_len, HouayletanNatural target,

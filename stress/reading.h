@@ -10,7 +10,7 @@ typedef struct {
     size_t place;
 } Refused;
 
-/* Rows 1 to 12; number 0 where the words are accepted. */
+/* Rows 1 to 12 and 17; number 0 where the words are accepted. */
 static inline Refused reading(const uint32_t *w, size_t len, size_t room, Output kind, size_t output) {
     if (len == 0) return (Refused){1, 0};
     if (len % 3) return (Refused){2, 0};
@@ -40,7 +40,9 @@ static inline Refused reading(const uint32_t *w, size_t len, size_t room, Output
         }
     }
     for (size_t p = 2; p < n; p++) {
-        if (met[p] && (w[3 * w[3 * p + 1]] <= w[3 * p] || w[3 * w[3 * p + 2]] <= w[3 * p])) return (Refused){11, p};
+        if (!met[p]) continue;
+        if (w[3 * w[3 * p + 1]] <= w[3 * p]) return (Refused){11, p};
+        if (w[3 * w[3 * p + 2]] <= w[3 * p]) return (Refused){17, p};
     }
     for (size_t p = 2; p < n; p++) {
         if (!met[p]) return (Refused){12, p};

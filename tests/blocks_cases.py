@@ -19,8 +19,8 @@ SENTENCES = {
     4: 'the output is too short',
     6: "node %d is not the terminal that stands there in a diagram, with node 0's variable count", 7: 'there are more than %s variables' % MAX_VARS,
     8: 'node %d has a variable that is not below the variable count', 9: 'node %d has a low link past the nodes',
-    10: 'node %d has a high link past the nodes', 11: 'node %d has a child that is not at a larger variable', 12: "node %d can't be reached from the root",
-    16: 'the count to reach is above the number of all valuations', 19: "a constant can't be cut to a count between 0 and the number of all valuations",
+    10: 'node %d has a high link past the nodes', 11: 'node %d has a low child that is not at a larger variable', 12: "node %d can't be reached from the root",
+    16: 'the count to reach is above the number of all valuations', 17: 'node %d has a high child that is not at a larger variable', 19: "a constant can't be cut to a count between 0 and the number of all valuations",
     21: 'a block is short or missing, or bytes stand after the last one', 22: 'a check sum is wrong',
     23: 'a block number, a node count or the order of blocks is wrong', 24: 'unused bytes are not zero', 25: 'there are more than %s nodes' % FILE_NODES,
 }

@@ -164,6 +164,7 @@ def cases():
     yield exact(D[:-1])
     yield exact([0, 0, 0, 0, 0, 0])
     yield exact([1, 0, 0, 1, 1, 1, 0, 2, 0, 0, 2, 1])
+    yield exact([1, 0, 0, 1, 1, 1, 0, 1, 2, 0, 2, 1])
     yield exact([MAX_VARS + 1, 0, 0])
     for v in (0, 1, 2, 5, MAX_VARS - 1, MAX_VARS):
         yield exact(terminals(v)[:3])

@@ -249,6 +249,7 @@ def by_hand():
         terminals(3) + [2, 0, 1, 2, 4, 9],
         terminals(3) + [2, 0, 1, 2, 0, 4],
         [1, 0, 0, 1, 1, 1, 0, 2, 0, 0, 2, 1],           # 11, through another violator
+        [1, 0, 0, 1, 1, 1, 0, 1, 2, 0, 2, 1],           # 17, at a smaller node than an 11
         [2, 0, 0, 2, 1, 1, 1, 0, 1, 1, 0, 1],           # 12
     ]
     for letter, target in targets.items():

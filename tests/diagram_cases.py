@@ -49,6 +49,36 @@ def layered(rng, n, v, order='random'):
     return [w for node in out for w in node]
 
 
+def which_link():
+    """A node whose child is not at a larger variable: 11 for its low child, 17 for its high child alone, the smallest node first."""
+    t = terminals(3)
+    for low, high in ((2, 1), (0, 2), (2, 2)):          # its own child: low only, high only, both
+        yield terminals(1) + [0, low, high]
+        yield t + [1, low, high]
+    yield terminals(1) + [0, 1, 2] + [0, 2, 1]          # 17 at 2, although there is an 11 at 3
+    yield terminals(1) + [0, 2, 1] + [0, 1, 2]          # 11 at 2, although there is a 17 at 3
+    for var in (0, 1):                                  # a child at a smaller variable, and at the same one; beside a right child
+        for low, high in ((2, 1), (0, 2), (2, 2)):
+            yield t + [var, 0, 1] + [1, low, high]
+        for low, high in ((3, 2), (2, 3), (3, 3)):
+            yield t + [2, 0, 1] + [var, 0, 1] + [1, low, high]
+    for first in ([1, 2, 1], [1, 1, 2], [1, 2, 2]):     # two such nodes: by low, by high, by both, and either met first
+        for second in ([1, 3, 1], [1, 1, 3], [1, 3, 3]):
+            yield t + first + second + [0, 2, 3]
+            yield t + first + second + [0, 3, 2]
+    for low, high in ((3, 0), (0, 3), (3, 3)):          # circles: of two nodes, back by low, by high, by both
+        for back, again in ((2, 1), (1, 2), (2, 2)):
+            yield t + [0, low, high] + [1, back, again] + [0, 2, 1]
+            yield t + [1, low, high] + [2, back, again] + [0, 2, 3]
+    for var in (0, 1, 2):                               # a circle through the root
+        yield t + [1, 0, 4] + [2, 4, 1] + [var, 2, 3]
+        yield t + [1, 4, 0] + [2, 1, 4] + [var, 3, 2]
+    yield t + [1, 0, 2] + [0, 0, 1]                     # out of reach: 12, whichever link
+    yield t + [1, 2, 0] + [0, 1, 1]
+    yield t + [2, 0, 1] + [1, 0, 3] + [0, 3, 1]         # 17 at 3 before 12 at 2
+    yield t + [2, 0, 1] + [1, 3, 0] + [0, 3, 1]         # and 11 at 3
+
+
 def cases():
     """(words, room length, word of the room before)"""
     rng = random.Random(1986)
@@ -88,6 +118,8 @@ def cases():
     yield exact([1, 0, 0, 1, 1, 1, 0, 2, 0, 0, 2, 1])   # 11 through another violator
     yield exact([1, 0, 0, 1, 1, 1, 0, 2, 2, 0, 0, 1])   # an unreachable violator is 12
     yield exact([1, 0, 0, 1, 1, 1, 0, 0, 1, 0, 3, 1])   # 11 before a 12 at a smaller node
+    yield exact([1, 0, 0, 1, 1, 1, 0, 0, 1, 0, 1, 3])   # and 17
+    yield from (exact(words) for words in which_link())
     yield exact([1, 0, 0, 1, 1, 1, 0, 2, 1])            # self-linked
     yield exact([2, 0, 0, 2, 1, 1, 0, 3, 1, 1, 2, 0])   # a cycle
     yield exact([3, 0, 0, 3, 1, 1, 1, 3, 0, 1, 4, 0, 1, 2, 0, 0, 2, 1])

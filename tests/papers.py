@@ -7,7 +7,9 @@
    as CRATE/EDIT; every edit cited there exists.
 3. Every name in backquotes in docs/PROMISES.md exists: as a definition, field, function or file of the crates, or, word by
    word, in their text.
-4. The numbers of document 01 are the same in the code, in the definitions, for C, for Rust and for the scripts.
+4. The numbers in force are the same in docs/RULES.md, in the code, in the definitions, for C, for Rust and for the scripts.
+5. The refusals of docs/RULES.md are those of the code, of the table of definitions, of the header's table and of Rust's sentences; where there
+   is an order, in the same order.
 
 It reads the crates as text. `--edits` prints the edits with what each one breaks; `--believed` prints the files that must be believed, with their lines and those without comments and
 imports, and the definitions in them that no promise leads to."""
@@ -170,24 +172,53 @@ for path in set(re.findall(r"\bcrates/[\w/.-]+\.(?:rt|antt)", promises)):
         amiss.append(f"{PROMISES}: {path} is not there")
 
 # ---- numbers
-# Each number's name in the files that may say it as a numeral: the code's, the definitions', C's, Rust's and the scripts'.
+# Each number's name in the files that may say it as a numeral: the code's, the definitions', C's, Rust's, the scripts' and the rules'.
+RULES = "docs/RULES.md"
 CODE, SAID, C, RUST, PYTHON = (r"const {} *: \w+ = (\d+);", r"^{} = (\d+)$", r"^#define {} (\d+)$", r"const {}: usize = (\d+);", r"^{} = (\d+)\b")
+RULED = r"^\| {} \| ([\d,]+)(?: × [mn])? \|"
 LIMITS, OUTSIDE = "crates/diagram/src/limits.rt", ("include/houayletan_limits.h", "bindings/rust/src/limits.rs", "tests/limits.py")
 NUMBERS = [
-    (LIMITS, "MAX_NODES", "crates/diagram/specs/Limits.antt", "maxNodes", "HOUAYLETAN_NODES", "MOST_NODES", "MAX_NODES"),
-    (LIMITS, "MAX_VARIABLES", "crates/diagram/specs/Limits.antt", "maxVariables", "HOUAYLETAN_VARS", "MOST_VARS", "MAX_VARS"),
-    (LIMITS, "ROOM_PER_NODE", "crates/diagram/specs/Limits.antt", "roomPerNode", "HOUAYLETAN_ROOM_PER_NODE", "ROOM_PER_NODE", "ROOM"),
-    ("crates/naturals/src/lib.rt", "WORDS", "crates/naturals/specs/Natural.antt", "wordCount", "HOUAYLETAN_COUNT_WORDS", "COUNT_WORDS", "COUNT"),
-    ("crates/blocks/src/layout.rt", "BLOCK", "crates/blocks/specs/Block.antt", "blockBytes", None, None, "BLOCK"),
-    ("crates/blocks/src/layout.rt", "NODES", "crates/blocks/specs/Block.antt", "blockNodes", None, None, "BLOCK_NODES"),
-    ("crates/blocks/src/layout.rt", "MOST", "crates/blocks/specs/Block.antt", "maxStored", None, None, "FILE_NODES"),
+    (LIMITS, "MAX_NODES", "crates/diagram/specs/Limits.antt", "maxNodes", "nodes of a diagram, at most", "HOUAYLETAN_NODES", "MOST_NODES", "MAX_NODES"),
+    (LIMITS, "MAX_VARIABLES", "crates/diagram/specs/Limits.antt", "maxVariables", "variables, at most", "HOUAYLETAN_VARS", "MOST_VARS", "MAX_VARS"),
+    (LIMITS, "MAX_VARIABLES", "crates/diagram/specs/Limits.antt", "maxVariables", "words of the output of `size_per_variable`"),
+    (LIMITS, "ROOM_PER_NODE", "crates/diagram/specs/Limits.antt", "roomPerNode", "words of working room", "HOUAYLETAN_ROOM_PER_NODE", "ROOM_PER_NODE", "ROOM"),
+    ("crates/naturals/src/lib.rt", "WORDS", "crates/naturals/specs/Natural.antt", "wordCount", "words of 32 bits in a count, least first", "HOUAYLETAN_COUNT_WORDS", "COUNT_WORDS", "COUNT"),
+    ("crates/naturals/src/lib.rt", "WORDS", "crates/naturals/specs/Natural.antt", "wordCount", "words of a weight output"),
+    ("crates/blocks/src/layout.rt", "BLOCK", "crates/blocks/specs/Block.antt", "blockBytes", "bytes of a block", None, None, "BLOCK"),
+    ("crates/blocks/src/layout.rt", "NODES", "crates/blocks/specs/Block.antt", "blockNodes", "nodes in a block, at most", None, None, "BLOCK_NODES"),
+    ("crates/blocks/src/layout.rt", "MOST", "crates/blocks/specs/Block.antt", "maxStored", "nodes in a block file, at most", None, None, "FILE_NODES"),
 ]
-for code, name, definitions_file, defined_as, *outside in NUMBERS:
-    places = [(code, CODE, name), (definitions_file, SAID, defined_as)]
+for code, name, definitions_file, defined_as, ruled, *outside in NUMBERS:
+    places = [(code, CODE, name), (definitions_file, SAID, defined_as), (RULES, RULED, ruled)]
     places += [(path, shape, there) for path, shape, there in zip(OUTSIDE, (C, RUST, PYTHON), outside) if there]
-    found = {path: re.findall(shape.format(there), text_of(path), re.M) for path, shape, there in places}
+    found = {path: [numeral.replace(",", "") for numeral in re.findall(shape.format(there), text_of(path), re.M)] for path, shape, there in places}
     if any(len(numerals) != 1 or numerals != found[code] for numerals in found.values()):
         amiss.append(f"{name} of {code} is not one number everywhere: {found}")
+
+# ---- refusals
+
+
+def numbers(shape, text):
+    """The numbers that a shape finds, each once, in their order."""
+    return list(dict.fromkeys(int(number) for number in re.findall(shape, text, re.M)))
+
+
+def section(text, heading):
+    return text.split(f"\n## {heading}\n")[1].split("\n## ")[0]
+
+
+ROW, CONSTANT = r"^\| (\d+) \| ", r"^pub const \w+: u32 = (\d+);$"
+ruled, stored = (numbers(ROW, section(text_of(RULES), heading)) for heading in ("Refusals", "Refusals of block files"))
+own = ruled[:ruled.index(12) + 1]
+for path, found, said in [
+    ("crates/diagram/src/refusal.rt", sorted(numbers(CONSTANT, text_of("crates/diagram/src/refusal.rt"))), sorted(ruled)),
+    ("crates/diagram/specs/Verdict.antt", numbers(r"\brow (\d+) ", text_of("crates/diagram/specs/Verdict.antt")), own),
+    ("include/houayletan.h", numbers(r"^ \*   {,2}(\d+)   ", text_of("include/houayletan.h")), ruled),
+    ("bindings/rust/src/refusal.rs", sorted(numbers(r"^            (\d+) => ", text_of("bindings/rust/src/refusal.rs"))), sorted(ruled)),
+    ("crates/blocks/src/stored.rt", sorted(numbers(CONSTANT, text_of("crates/blocks/src/stored.rt"))), sorted(set(stored) - set(ruled))),
+]:
+    if found != said:
+        amiss.append(f"{RULES} has the refusals {said}, {path} has {found}")
 
 if "--believed" in sys.argv:
     total = plain = 0

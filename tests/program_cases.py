@@ -72,6 +72,7 @@ def weighed():
         'weigh-22': changed(d, block.SUMMED, 0), 'weigh-23': resummed(changed(d, 0, 1)), 'weigh-24': resummed(changed(d, 503, 1)),
         'weigh-25': b''.join(block.write(chain(FILE_NODES + 1))), 'weigh-second-block': big[:BLOCK] + changed(big[BLOCK:2 * BLOCK], 9, 7) + big[2 * BLOCK:],
         'weigh-50': file_of(chain(50)), 'weigh-100': file_of(chain(100)), 'weigh-120': big, 'weigh-unordered': file_of([1, 0, 0, 1, 1, 1, 0, 2, 0, 0, 2, 1]),
+        'weigh-unordered-high': file_of([1, 0, 0, 1, 1, 1, 0, 1, 2, 0, 2, 1]),
     }
 
 
@@ -100,6 +101,7 @@ def broken():
     yield 23, 'keep', 'size', 4, resummed(changed(d, 0, 1))
     yield 24, 'keep', 'size', 4, resummed(changed(d, 503, 1))
     yield 25, 'keep', 'size', 4, b''.join(block.write(chain(FILE_NODES + 1)))
+    yield 17, 'suppress', 'size', 4, file_of(ends + [0, 1, 2])
 
 
 def asked():

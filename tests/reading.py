@@ -1,4 +1,4 @@
-"""An executable reading of document 01, written from the paper alone: the expected output of the test programs is made
+"""An executable reading of the rules in force (docs/RULES.md), written from the papers alone: the expected output of the test programs is made
 with it. It shares no code and no method with the library: sets and dictionaries, no limits on depth or size."""
 from limits import COUNT, MAX_NODES, MAX_VARS, ROOM
 
@@ -51,8 +51,9 @@ def verdict(words, room, output=None):
             if p >= 2:
                 todo |= {ns[p][1], ns[p][2]}
     for p in range(2, n):
-        if p in reached and not all(ns[p][0] < ns[c][0] for c in ns[p][1:]):
-            return 'refused', 11, p
+        wrong = [side for side in (1, 2) if ns[ns[p][side]][0] <= ns[p][0]]
+        if p in reached and wrong:
+            return 'refused', {1: 11, 2: 17}[wrong[0]], p
     for p in range(2, n):
         if p not in reached:
             return 'refused', 12, p

@@ -202,6 +202,7 @@ REFUSED = [
     [3, 0, 0, 3, 1, 1, 0, 3, 1],
     [3, 0, 0, 3, 1, 1, 0, 1, 3],
     [3, 0, 0, 3, 1, 1, 1, 0, 1, 1, 2, 0],
+    [3, 0, 0, 3, 1, 1, 1, 0, 1, 1, 0, 2],
     [3, 0, 0, 3, 1, 1, 1, 0, 1, 1, 1, 0],
 ]
 # How many functions of so many variables: all of the few, some of the others.

@@ -91,6 +91,7 @@ def cases():
     yield exact([3, 0, 0, 3, 1, 1, 2, 3, 1])
     yield exact([3, 0, 0, 3, 1, 1, 2, 0, 3])
     yield exact([1, 0, 0, 1, 1, 1, 0, 2, 1])            # 11
+    yield exact([1, 0, 0, 1, 1, 1, 0, 1, 2])            # 17
     yield exact([2, 0, 0, 2, 1, 1, 1, 0, 1, 1, 0, 1])   # 12
     for links in ((0, 1), (1, 0), (1, 1), (0, 0)):      # one node, first and last variable of the most, low = high among them
         yield exact(terminals(MAX_VARS) + [0, *links])

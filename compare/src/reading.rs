@@ -1,4 +1,4 @@
-//! Document 01 read on its own: the table of refusals, negation, reduction, cuts and the searches with their trials. It shares
+//! The rules in force (docs/RULES.md) read on their own: the table of refusals, negation, reduction, cuts and the searches with their trials. It shares
 //! no code with the library or with the Rust text, from which it takes counts and weights as arguments only.
 use crate::limits::{COUNT_WORDS, MOST_NODES, MOST_VARS, ROOM_PER_NODE};
 use num_bigint::BigUint;
@@ -15,7 +15,7 @@ pub enum Output {
 /// (number, place)
 pub type Refused = (u32, usize);
 
-/// Rows 1 to 12 of the table. What is accepted comes with its n and v.
+/// Rows 1 to 12 and 17 of the table. What is accepted comes with its n and v.
 pub fn check(words: &[u32], room: usize, output: Output, output_len: usize) -> Result<(usize, usize), Refused> {
     if words.is_empty() {
         return Err((1, 0));
@@ -68,10 +68,10 @@ pub fn check(words: &[u32], room: usize, output: Output, output_len: usize) -> R
             }
         }
     }
-    for &p in reachable.iter().filter(|p| **p >= 2) {
-        if node(node(p).1).0 <= node(p).0 || node(node(p).2).0 <= node(p).0 {
-            return Err((11, p));
-        }
+    // the node first, the smallest; then which of its links
+    let wrong = |p: usize, child: usize| node(child).0 <= node(p).0;
+    if let Some(&p) = reachable.iter().find(|p| **p >= 2 && (wrong(**p, node(**p).1) || wrong(**p, node(**p).2))) {
+        return Err((if wrong(p, node(p).1) { 11 } else { 17 }, p));
     }
     match (2..n).find(|p| !reachable.contains(p)) {
         Some(p) => Err((12, p)),

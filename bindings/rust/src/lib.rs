@@ -4,8 +4,9 @@
 //! `(v, 0, 0)`, node 1 the one terminal `(v, 1, 1)`, with `v` the variable count; one node alone is false, two are true. The
 //! root is the last node. At most [`MOST_NODES`] nodes and [`MOST_VARS`] variables; nodes may stand in any order.
 //!
-//! Any words may be offered. What is no diagram is refused with a number, a place and a sentence ([`Refusal`]). Each function
-//! here allocates its output and its working room; in [`lent`] the caller lends them.
+//! Any words may be offered. What is no diagram is refused with a number, a place and a sentence ([`Refusal`]): *the diagram's
+//! own* refusals are 1 to 12 and 17. Each function here allocates its output and its working room, so that 4 and 5 don't come
+//! up; in [`lent`] the caller lends them.
 //!
 //! ```
 //! # fn main() -> Result<(), houayletan::Refusal> {
@@ -80,7 +81,7 @@ fn diagram(words: &[u32], write: impl FnOnce(&mut [u32], &mut [u32]) -> lent::Di
     Ok(output)
 }
 
-/// The check of any words as a diagram. Refusals 1 to 3 and 6 to 12.
+/// The check of any words as a diagram. Refusals: the diagram's own.
 ///
 /// ```
 /// assert!(houayletan::validate(&[7, 0, 0]).is_ok());
@@ -91,7 +92,7 @@ pub fn validate(words: &[u32]) -> Result<Accepted, Refusal> {
     accepted(lent::validate(words, &mut room_for(words)))
 }
 
-/// How many of the 2^v valuations the diagram holds for. Refusals 1 to 3 and 6 to 12.
+/// How many of the 2^v valuations the diagram holds for. Refusals: the diagram's own.
 ///
 /// ```
 /// let v = houayletan::MOST_VARS as u32;
@@ -103,7 +104,7 @@ pub fn exact_cardinality(words: &[u32]) -> Result<Count, Refusal> {
     accepted(counted.verdict).map(|_| counted.count)
 }
 
-/// How many paths lead from the root to node 1, in the array as it stands. Refusals 1 to 3 and 6 to 12.
+/// How many paths lead from the root to node 1, in the array as it stands. Refusals: the diagram's own.
 ///
 /// ```
 /// let words = [3, 0, 0, 3, 1, 1, 2, 0, 1, 1, 2, 1, 0, 2, 3];
@@ -115,8 +116,8 @@ pub fn exact_clause_cardinality(words: &[u32]) -> Result<Count, Refusal> {
     accepted(counted.verdict).map(|_| counted.count)
 }
 
-/// For each node, how many valuations that the diagram holds for have a path that visits it. Refusals 1 to 3, 6 to 12, and
-/// 15 for the one-node diagram.
+/// For each node, how many valuations that the diagram holds for have a path that visits it. Refusals: the diagram's
+/// own, then 15 for the one-node diagram.
 ///
 /// ```
 /// let words = [3, 0, 0, 3, 1, 1, 2, 0, 1, 1, 2, 1, 0, 2, 3];
@@ -131,7 +132,7 @@ pub fn node_valuation_weights(words: &[u32]) -> Result<Vec<Count>, Refusal> {
 }
 
 /// The reduced diagram of the same function: no node with low = high, no two equal nodes, only reachable ones; nodes after
-/// the terminals numbered on the way back, low branch first, root last. Refusals 1 to 3 and 6 to 12.
+/// the terminals numbered on the way back, low branch first, root last. Refusals: the diagram's own.
 ///
 /// ```
 /// assert_eq!(houayletan::reduce(&[1, 0, 0, 1, 1, 1, 0, 1, 1])?, [1, 0, 0, 1, 1, 1]);
@@ -141,7 +142,7 @@ pub fn reduce(words: &[u32]) -> Result<Vec<u32>, Refusal> {
     diagram(words, |room, output| lent::reduce(words, room, output))
 }
 
-/// The count as an `f64`: exact up to 2^53; beyond, each node's sum is rounded once. Refusals 1 to 3 and 6 to 12.
+/// The count as an `f64`: exact up to 2^53; beyond, each node's sum is rounded once. Refusals: the diagram's own.
 ///
 /// ```
 /// let words = [3, 0, 0, 3, 1, 1, 2, 0, 1, 1, 2, 1, 0, 2, 3];
@@ -153,7 +154,7 @@ pub fn cardinality(words: &[u32]) -> Result<f64, Refusal> {
     accepted(counted.verdict).map(|_| counted.count)
 }
 
-/// How many nodes the array has. Refusals 1 to 3 and 6 to 12.
+/// How many nodes the array has. Refusals: the diagram's own.
 ///
 /// ```
 /// assert_eq!(houayletan::size(&[3, 0, 0, 3, 1, 1]), Ok(2));
@@ -163,7 +164,7 @@ pub fn size(words: &[u32]) -> Result<usize, Refusal> {
     accepted(said.verdict).map(|_| said.amount)
 }
 
-/// How many variables there are. Refusals 1 to 3 and 6 to 12.
+/// How many variables there are. Refusals: the diagram's own.
 ///
 /// ```
 /// assert_eq!(houayletan::num_vars(&[3, 0, 0, 3, 1, 1]), Ok(3));
@@ -173,7 +174,7 @@ pub fn num_vars(words: &[u32]) -> Result<usize, Refusal> {
     accepted(said.verdict).map(|_| said.amount)
 }
 
-/// Whether the array has two nodes. Refusals 1 to 3 and 6 to 12.
+/// Whether the array has two nodes. Refusals: the diagram's own.
 ///
 /// ```
 /// assert_eq!(houayletan::is_true(&[3, 0, 0, 3, 1, 1]), Ok(true));
@@ -183,7 +184,7 @@ pub fn is_true(words: &[u32]) -> Result<bool, Refusal> {
     accepted(said.verdict).map(|_| said.amount == 1)
 }
 
-/// Whether the array has one node. Refusals 1 to 3 and 6 to 12.
+/// Whether the array has one node. Refusals: the diagram's own.
 ///
 /// ```
 /// assert_eq!(houayletan::is_false(&[3, 0, 0, 3, 1, 1]), Ok(false));
@@ -193,8 +194,8 @@ pub fn is_false(words: &[u32]) -> Result<bool, Refusal> {
     accepted(said.verdict).map(|_| said.amount == 1)
 }
 
-/// Whether the diagram is one conjunction of literals. A yes is right; a no is right for a reduced array. Refusals 1 to 3
-/// and 6 to 12.
+/// Whether the diagram is one conjunction of literals. A yes is right; a no is right for a reduced array. Refusals: the
+/// diagram's own.
 ///
 /// ```
 /// // x0 and not x1
@@ -205,8 +206,8 @@ pub fn is_clause(words: &[u32]) -> Result<bool, Refusal> {
     accepted(said.verdict).map(|_| said.amount == 1)
 }
 
-/// Whether the diagram holds for one valuation alone. A yes is right; a no is right for a reduced array. Refusals 1 to 3
-/// and 6 to 12.
+/// Whether the diagram holds for one valuation alone. A yes is right; a no is right for a reduced array. Refusals: the
+/// diagram's own.
 ///
 /// ```
 /// // x0 and not x1, of three variables and of two
@@ -218,7 +219,7 @@ pub fn is_valuation(words: &[u32]) -> Result<bool, Refusal> {
     accepted(said.verdict).map(|_| said.amount == 1)
 }
 
-/// How many nodes each variable has, one number a variable. Refusals 1 to 3 and 6 to 12.
+/// How many nodes each variable has, one number a variable. Refusals: the diagram's own.
 ///
 /// ```
 /// let words = [3, 0, 0, 3, 1, 1, 2, 0, 1, 2, 1, 0, 0, 2, 3];
@@ -232,7 +233,7 @@ pub fn size_per_variable(words: &[u32]) -> Result<Vec<u32>, Refusal> {
     Ok(output)
 }
 
-/// The negation: constants exchange; else links 0 and 1 exchange and every node keeps its place. Refusals 1 to 3 and 6 to 12.
+/// The negation: constants exchange; else links 0 and 1 exchange and every node keeps its place. Refusals: the diagram's own.
 ///
 /// ```
 /// assert_eq!(houayletan::not(&[1, 0, 0, 1, 1, 1, 0, 0, 1])?, [1, 0, 0, 1, 1, 1, 0, 1, 0]);
@@ -243,7 +244,8 @@ pub fn not(words: &[u32]) -> Result<Vec<u32>, Refusal> {
     diagram(words, |room, output| lent::not(words, room, output))
 }
 
-/// Links to the listed nodes go to 0, then the diagram is reduced; a listed root gives false. Refusals 1 to 3 and 6 to 14.
+/// Links to the listed nodes go to 0, then the diagram is reduced; a listed root gives false. Refusals: the diagram's own, then
+/// 13 and 14.
 ///
 /// ```
 /// let words = [3, 0, 0, 3, 1, 1, 2, 0, 1, 1, 2, 1, 0, 2, 3];
@@ -256,7 +258,8 @@ pub fn underapproximate(words: &[u32], list: &[u32]) -> Result<Vec<u32>, Refusal
     diagram(words, |room, output| lent::underapproximate(words, list, room, output))
 }
 
-/// Links to the listed nodes go to 1, then the diagram is reduced; a listed root gives true. Refusals 1 to 3 and 6 to 14.
+/// Links to the listed nodes go to 1, then the diagram is reduced; a listed root gives true. Refusals: the diagram's own, then
+/// 13 and 14.
 ///
 /// ```
 /// let words = [3, 0, 0, 3, 1, 1, 2, 0, 1, 1, 2, 1, 0, 2, 3];
@@ -278,7 +281,7 @@ fn cut(words: &[u32], write: impl FnOnce(&mut [u32], &mut [u32]) -> lent::Approx
 }
 
 /// Holds for fewer valuations and has at most `target` nodes, where that is 2 or more; the nodes of least weight go first. A
-/// diagram of no more than `target` nodes comes out as it is; targets 0 and 1 give false. Refusals 1 to 3 and 6 to 12.
+/// diagram of no more than `target` nodes comes out as it is; targets 0 and 1 give false. Refusals: the diagram's own.
 ///
 /// ```
 /// let words = [3, 0, 0, 3, 1, 1, 2, 0, 1, 1, 2, 1, 0, 2, 3];
@@ -291,7 +294,7 @@ pub fn underapproximate_to_size(words: &[u32], target: u32) -> Result<Cut, Refus
 }
 
 /// Holds for more valuations and has at most `target` nodes, where that is 2 or more: the negation is cut and negated back.
-/// Targets 0 and 1 give true. Refusals 1 to 3 and 6 to 12.
+/// Targets 0 and 1 give true. Refusals: the diagram's own.
 ///
 /// ```
 /// let words = [3, 0, 0, 3, 1, 1, 2, 0, 1, 1, 2, 1, 0, 2, 3];
@@ -304,7 +307,7 @@ pub fn overapproximate_to_size(words: &[u32], target: u32) -> Result<Cut, Refusa
 }
 
 /// Holds for at most `target` valuations, all of them the diagram's. A count that is no more than `target` leaves the diagram
-/// as it is; 0 gives the one-node false. Refusals 1 to 3, 6 to 12, and 19 for the two-node diagram.
+/// as it is; 0 gives the one-node false. Refusals: the diagram's own, then 19 for the two-node diagram.
 ///
 /// ```
 /// let words = [3, 0, 0, 3, 1, 1, 2, 0, 1, 1, 2, 1, 0, 2, 3];
@@ -317,7 +320,7 @@ pub fn underapproximate_to_cardinality(words: &[u32], target: Count) -> Result<C
 }
 
 /// Holds for at least `target` valuations, all of the diagram's among them. A count that is no less than `target` leaves the
-/// diagram as it is. Refusals 1 to 3, 6 to 12, 16 above 2^v, and 19 for the one-node diagram.
+/// diagram as it is. Refusals: the diagram's own, then 16 above 2^v, then 19 for the one-node diagram.
 ///
 /// ```
 /// let words = [3, 0, 0, 3, 1, 1, 2, 0, 1, 1, 2, 1, 0, 2, 3];
@@ -344,6 +347,8 @@ mod tests {
         assert_eq!(number(&[MOST_VARS as u32 + 1, 0, 0]), Err((7, 0)));
         assert_eq!(number(&[1, 0, 0, 1, 1, 1, 1, 0, 1]), Err((8, 2)));
         assert_eq!(number(&[1, 0, 0, 1, 1, 1, 0, 3, 1]), Err((9, 2)));
+        assert_eq!(number(&[1, 0, 0, 1, 1, 1, 0, 2, 2]), Err((11, 2)));
+        assert_eq!(number(&[1, 0, 0, 1, 1, 1, 0, 1, 2, 0, 2, 1]), Err((17, 2)));
         assert_eq!(number(&[1, 0, 0, 1, 1, 1, 0, 0, 1, 0, 0, 1]), Err((12, 2)));
         assert_eq!(node_valuation_weights(&[0, 0, 0]).unwrap_err().number, 15);
         assert_eq!(reduce(&[]).unwrap_err().number, 1);
@@ -352,7 +357,7 @@ mod tests {
     #[test]
     fn every_number_has_a_sentence() {
         assert_eq!(Refusal { number: 3, place: 0 }.sentence().replace(',', ""), format!("there are more than {MOST_NODES} nodes"));
-        for number in (1..=16).chain([19]) {
+        for number in (1..=17).chain([19]) {
             let refusal = Refusal { number, place: 7 };
             assert!(!refusal.sentence().contains("no table"), "{number}");
             assert!(refusal.to_string().starts_with(&format!("refused {number} at 7: ")));

@@ -11,11 +11,14 @@ fn in_threes(n: usize) -> String {
 /// ```
 /// let refusal = houayletan::validate(&[1, 0, 0, 1, 1, 1, 0, 2, 1]).unwrap_err();
 /// assert_eq!((refusal.number, refusal.place), (11, 2));
-/// assert_eq!(refusal.to_string(), "refused 11 at 2: node 2 has a child that is not at a larger variable");
+/// assert_eq!(refusal.to_string(), "refused 11 at 2: node 2 has a low child that is not at a larger variable");
+///
+/// let refusal = houayletan::validate(&[1, 0, 0, 1, 1, 1, 0, 1, 2]).unwrap_err();
+/// assert_eq!(refusal.to_string(), "refused 17 at 2: node 2 has a high child that is not at a larger variable");
 /// ```
 #[derive(Clone, Copy, Debug, Eq, Hash, PartialEq)]
 pub struct Refusal {
-    /// 1 to 16 or 19.
+    /// 1 to 17 or 19.
     pub number: u32,
     /// A node, a place in the list of a cut, or 0.
     pub place: usize,
@@ -36,12 +39,13 @@ impl Refusal {
             8 => format!("node {place} has a variable that is not below the variable count"),
             9 => format!("node {place} has a low link past the nodes"),
             10 => format!("node {place} has a high link past the nodes"),
-            11 => format!("node {place} has a child that is not at a larger variable"),
+            11 => format!("node {place} has a low child that is not at a larger variable"),
             12 => format!("node {place} can't be reached from the root"),
             13 => format!("the pointer at place {place} of the list is past the nodes"),
             14 => format!("the pointer at place {place} of the list is a terminal, and the root is not listed"),
             15 => "the one-node diagram has no weights".into(),
             16 => "the count to reach is above the number of all valuations".into(),
+            17 => format!("node {place} has a high child that is not at a larger variable"),
             19 => "a constant can't be cut to a count between 0 and the number of all valuations".into(),
             number => format!("number {number} is in no table"),
         }

@@ -8,7 +8,7 @@
 //     6  read one block, as 0: the first two bytes are its number and the nodes that block 0 stated
 //     7  the line of a refusal: the filling is its number, the length its place
 //     8  the line of a target that is not met: the filling is the target, the length the nodes
-// Both files are made by tests/blocks_cases.py, from a reading of document 01 that shares nothing with this code.
+// Both files are made by tests/blocks_cases.py, from a reading of the rules in force that shares nothing with this code.
 use block_file::read::read_file;
 use block_file::write::write_file;
 use block_reading::read_block;

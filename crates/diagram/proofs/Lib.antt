@@ -7,7 +7,7 @@
 --     Meeting     the nodes that a path meets, level by level
 --     Reaching    the test `reaches` says `Reach`
 --     Marking     the search for reachable nodes
---     Breaks      the tests of check 11
+--     Breaks      the tests of checks 11 and 17
 --     Faulty      8 to 10 by the first node with a fault
 --     Rows        the returns of the checks are the rows of the verdict
 --     Accepting   what an acceptance tells

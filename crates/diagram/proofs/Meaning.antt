@@ -1,5 +1,5 @@
 -- What the verdict means in document 01's words: accepted exactly where the words are a diagram that it accepts, and
--- 11 and 12 at the smallest node, in terms of `Reach`.
+-- 11, 17 and 12 at the smallest node, in terms of `Reach`.
 use Prim.Native.Nat.{ℕ, _-_, _%_, _≤_, _<_}
 use mathlib.Core.Path.{_≡_, refl, sym, _∙_, ap}
 use mathlib.Core.Bool.{Bool, true, false, not, _&&_}
@@ -11,8 +11,8 @@ use lib.ListN.{length}
 use lib.Dec.{ltb, eqb}
 use Rattle.diagram.specs.Limits.{maxNodes, maxVariables}
 use Rattle.diagram.specs.Diagram.{varOf, lowOf, highOf, size, vars, root, Reach, Terminal, Above, Formed, Accepted}
-use Rattle.diagram.specs.Verdict.{Outcome, accepted, refused, row, andThen, roomOf, short, lengthsOf, isTerminal, terminalsOf, firstNode, rangesOf, reaches, isAbove, isBroken, graphOf, contentsOf, verdictOf}
-use Rattle.diagram.specs.Demand1.{Smallest, Broken, Lost}
+use Rattle.diagram.specs.Verdict.{Outcome, accepted, refused, row, andThen, roomOf, short, lengthsOf, isTerminal, terminalsOf, firstNode, rangesOf, reaches, isAboveLow, isAboveHigh, isAbove, isBroken, graphOf, contentsOf, verdictOf}
+use Rattle.diagram.specs.Demand1.{Smallest, Broken, ByLow, ByHighAlone, NoneBroken, Lost}
 use Rattle.diagram.specs.Faults.{faultOf, isFaulty}
 use Rattle.diagram.specs.declared.verdict.Output.{Output}
 use Rattle.diagram.proofs.Tests.{by-test, not-both, and-both, both-and}
@@ -90,9 +90,13 @@ module _ (w : List ℕ) (formed : Formed w) where
   lost-at : ℕ
   lost-at = firstNode w (λ p. not (reaches w p))
 
-  graph-11 : broken-at < size w → graphOf w ≡ refused 11 broken-at
+  graph-11 : broken-at < size w → isAboveLow w broken-at ≡ false → graphOf w ≡ refused 11 broken-at
   unfolding graphOf row broken-at
-  graph-11 l = rw (lt-ltb (firstNode w (isBroken w)) (size w) l)
+  graph-11 l f = rw (lt-ltb (firstNode w (isBroken w)) (size w) l, f)
+
+  graph-17 : broken-at < size w → isAboveLow w broken-at ≡ true → graphOf w ≡ refused 17 broken-at
+  unfolding graphOf row broken-at
+  graph-17 l t = rw (lt-ltb (firstNode w (isBroken w)) (size w) l, t)
 
   graph-12 : size w ≤ broken-at → lost-at < size w → graphOf w ≡ refused 12 lost-at
   unfolding graphOf row broken-at lost-at
@@ -103,44 +107,81 @@ module _ (w : List ℕ) (formed : Formed w) where
   graph-ok a l = rw (le-ltb (firstNode w (isBroken w)) (size w) a, le-ltb (firstNode w (λ p. not (reaches w p))) (size w) l)
 
   -- by cases, in the order of the checks
-  by-graph : {C : Type 0} → (broken-at < size w → graphOf w ≡ refused 11 broken-at → C)
+  by-graph : {C : Type 0} → (broken-at < size w → isAboveLow w broken-at ≡ false → graphOf w ≡ refused 11 broken-at → C)
+      → (broken-at < size w → isAboveLow w broken-at ≡ true → graphOf w ≡ refused 17 broken-at → C)
       → (size w ≤ broken-at → lost-at < size w → graphOf w ≡ refused 12 lost-at → C)
       → (size w ≤ broken-at → size w ≤ lost-at → graphOf w ≡ accepted (size w) (vars w) → C) → C
-  by-graph f g h =
+  by-graph low high lost ok =
       by-test (ltb broken-at (size w))
-      (λ e. let l = ltb-true broken-at (size w) e in f l (graph-11 l))
+      (λ e.
+      let l = ltb-true broken-at (size w) e in
+      by-test (isAboveLow w broken-at)
+      (λ t. high l t (graph-17 l t))
+      (λ f. low l f (graph-11 l f)))
       (λ e.
       let a = ltb-false broken-at (size w) e in
       by-test (ltb lost-at (size w))
-      (λ d. let l = ltb-true lost-at (size w) d in g a l (graph-12 a l))
-      (λ d. let l = ltb-false lost-at (size w) d in h a l (graph-ok a l)))
+      (λ d. let l = ltb-true lost-at (size w) d in lost a l (graph-12 a l))
+      (λ d. let l = ltb-false lost-at (size w) d in ok a l (graph-ok a l)))
 
-  -- 11: exactly at the smallest reachable node with a child that is not at a larger variable
-  pub refused-11 : (p : ℕ) → (graphOf w ≡ refused 11 p) ↔ Smallest w (Broken w) p
+  -- 11 and 17: exactly at the smallest reachable node with a child that is not at a larger variable, by its low child or by its high child alone
+  smallest-broken : broken-at < size w → (p : ℕ) → broken-at ≡ p → Smallest w (Broken w) p
   unfolding broken-at
+  smallest-broken l p q = rw q at (smallest-of (Broken w) (isBroken w) broken-told broken-tells l)
+
+  broken-is : (p : ℕ) → Smallest w (Broken w) p → broken-at ≡ p
+  unfolding broken-at
+  broken-is p s = smallest-is (Broken w) (isBroken w) broken-told broken-tells p s
+
+  pub refused-11 : (p : ℕ) → (graphOf w ≡ refused 11 p) ↔ (Smallest w (Broken w) p × ByLow w p)
   refused-11 p = (there, back)
     where
-      there : graphOf w ≡ refused 11 p → Smallest w (Broken w) p
+      there : graphOf w ≡ refused 11 p → Smallest w (Broken w) p × ByLow w p
       there e =
           by-graph
-          (λ l x. let q : broken-at ≡ p = cc in rw q at (smallest-of (Broken w) (isBroken w) broken-told broken-tells l))
+          (λ l f x. let q : broken-at ≡ p = cc in (smallest-broken l p q, ltb-false (varOf w p) (varOf w (lowOf w p)) (rw q at f)))
+          (λ l t x. let z : _≡_ {A = ℕ} 17 11 = cc in absurd (omega arith))
           (λ a l x. let z : _≡_ {A = ℕ} 12 11 = cc in absurd (omega arith))
           (λ a l x. let z : _≡_ {A = ℕ} 0 1 = cc in absurd (omega arith))
 
-      back : Smallest w (Broken w) p → graphOf w ≡ refused 11 p
+      back : Smallest w (Broken w) p × ByLow w p → graphOf w ≡ refused 11 p
       back s =
-          let q = smallest-is (Broken w) (isBroken w) broken-told broken-tells p s in
-          graph-11 (omega (arith, q, s .node .1)) ∙ ap (λ (x : ℕ). refused 11 x) q
+          let q = broken-is p (s .0) in
+          graph-11 (omega (arith, q, s .0 .node .1)) (rw q (le-ltb (varOf w p) (varOf w (lowOf w p)) (s .1))) ∙ ap (λ (x : ℕ). refused 11 x) q
 
-  -- 12: exactly where there is no 11, at the smallest node out of reach
-  pub refused-12 : (p : ℕ) → (graphOf w ≡ refused 12 p) ↔ (((q : ℕ) → 2 ≤ q → q < size w → Broken w q → ⊥) × Smallest w (Lost w) p)
+  pub refused-17 : (p : ℕ) → (graphOf w ≡ refused 17 p) ↔ (Smallest w (Broken w) p × ByHighAlone w p)
+  refused-17 p = (there, back)
+    where
+      alone : isAboveLow w p ≡ true → Broken w p → ByHighAlone w p
+      alone t b =
+          let low = ltb-true (varOf w p) (varOf w (lowOf w p)) t in
+          by-test (isAboveHigh w p)
+          (λ h. absurd (b .1 (record { low = low; high = ltb-true (varOf w p) (varOf w (highOf w p)) h })))
+          (λ h. (low, ltb-false (varOf w p) (varOf w (highOf w p)) h))
+
+      there : graphOf w ≡ refused 17 p → Smallest w (Broken w) p × ByHighAlone w p
+      there e =
+          by-graph
+          (λ l f x. let z : _≡_ {A = ℕ} 17 11 = cc in absurd (omega arith))
+          (λ l t x. let q : broken-at ≡ p = cc in let s = smallest-broken l p q in (s, alone (rw q at t) (s .holds)))
+          (λ a l x. let z : _≡_ {A = ℕ} 17 12 = cc in absurd (omega arith))
+          (λ a l x. let z : _≡_ {A = ℕ} 0 1 = cc in absurd (omega arith))
+
+      back : Smallest w (Broken w) p × ByHighAlone w p → graphOf w ≡ refused 17 p
+      back s =
+          let q = broken-is p (s .0) in
+          graph-17 (omega (arith, q, s .0 .node .1)) (rw q (lt-ltb (varOf w p) (varOf w (lowOf w p)) (s .1 .0))) ∙ ap (λ (x : ℕ). refused 17 x) q
+
+  -- 12: exactly where no node is broken, at the smallest node out of reach
+  pub refused-12 : (p : ℕ) → (graphOf w ≡ refused 12 p) ↔ (NoneBroken w × Smallest w (Lost w) p)
   unfolding broken-at lost-at
   refused-12 p = (there, back)
     where
-      there : graphOf w ≡ refused 12 p → ((q : ℕ) → 2 ≤ q → q < size w → Broken w q → ⊥) × Smallest w (Lost w) p
+      there : graphOf w ≡ refused 12 p → NoneBroken w × Smallest w (Lost w) p
       there e =
           by-graph
-          (λ l x. let z : _≡_ {A = ℕ} 12 11 = cc in absurd (omega arith))
+          (λ l f x. let z : _≡_ {A = ℕ} 12 11 = cc in absurd (omega arith))
+          (λ l t x. let z : _≡_ {A = ℕ} 17 12 = cc in absurd (omega arith))
           (λ a l x.
           let q : lost-at ≡ p = cc in (
             none-of (Broken w) (isBroken w) broken-told broken-tells a,
@@ -148,7 +189,7 @@ module _ (w : List ℕ) (formed : Formed w) where
           ))
           (λ a l x. let z : _≡_ {A = ℕ} 0 1 = cc in absurd (omega arith))
 
-      back : ((q : ℕ) → 2 ≤ q → q < size w → Broken w q → ⊥) × Smallest w (Lost w) p → graphOf w ≡ refused 12 p
+      back : NoneBroken w × Smallest w (Lost w) p → graphOf w ≡ refused 12 p
       back s =
           let q = smallest-is (Lost w) (λ p′. not (reaches w p′)) lost-told lost-tells p (s .1) in
           graph-12 (none-is (Broken w) (isBroken w) broken-told broken-tells (s .0)) (omega (arith, q, s .1 .node .1))
@@ -158,7 +199,8 @@ module _ (w : List ℕ) (formed : Formed w) where
   unfolding broken-at lost-at
   graph-accepted n v e =
       by-graph
-      (λ l x. let z : _≡_ {A = ℕ} 0 1 = cc in absurd (omega arith))
+      (λ l f x. let z : _≡_ {A = ℕ} 0 1 = cc in absurd (omega arith))
+      (λ l t x. let z : _≡_ {A = ℕ} 0 1 = cc in absurd (omega arith))
       (λ a l x. let z : _≡_ {A = ℕ} 0 1 = cc in absurd (omega arith))
       (λ a l x.
       let reached : (p : ℕ) → 2 ≤ p → p < size w → reaches w p ≡ true =

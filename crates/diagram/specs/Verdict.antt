@@ -1,4 +1,4 @@
--- The verdict on any words (document 01, "Numbers of refusal"): the checks in their order, each with its number and place.
+-- The verdict on any words (docs/RULES.md): the checks in their order, each with its number and place.
 use Prim.Native.Nat.{ℕ, zero, suc, _-_, _*_, _%_, max}
 use mathlib.Core.Path.{_≡_}
 use mathlib.Core.Bool.{Bool, false, cond, not, _&&_, _||_}
@@ -105,10 +105,16 @@ reachedIn w (suc k) p = reachedIn w k p || any (size w) (λ q. reachedIn w k q &
 unfoldable pub reaches : List ℕ → ℕ → Bool
 reaches w p = reachedIn w (size w) p
 
--- 11 and 12: the smallest reachable non-terminal with a child not at a larger variable; then the smallest
--- non-terminal that is out of reach.
+-- 11 and 17: the smallest reachable non-terminal with a child not at a larger variable; 11 if its low child is such, else
+-- 17, for its high child. Then 12: the smallest non-terminal that is out of reach.
+abbrev pub isAboveLow : List ℕ → ℕ → Bool
+isAboveLow w p = ltb (varOf w p) (varOf w (lowOf w p))
+
+abbrev pub isAboveHigh : List ℕ → ℕ → Bool
+isAboveHigh w p = ltb (varOf w p) (varOf w (highOf w p))
+
 unfoldable pub isAbove : List ℕ → ℕ → Bool
-isAbove w p = ltb (varOf w p) (varOf w (lowOf w p)) && ltb (varOf w p) (varOf w (highOf w p))
+isAbove w p = isAboveLow w p && isAboveHigh w p
 
 unfoldable pub isBroken : List ℕ → ℕ → Bool
 isBroken w p = reaches w p && not (isAbove w p)
@@ -117,9 +123,10 @@ unfoldable pub graphOf : List ℕ → Outcome
 graphOf w =
     let broken = firstNode w (isBroken w) in
     let lost = firstNode w (λ p. not (reaches w p)) in
-    row 11 (ltb broken (size w)) broken
+    row 11 (ltb broken (size w) && not (isAboveLow w broken)) broken
+    (row 17 (ltb broken (size w)) broken
     (row 12 (ltb lost (size w)) lost
-    (accepted (size w) (vars w)))
+    (accepted (size w) (vars w))))
 
 -- The checks in their order, for words `w`, the output that an operation lends and the length of its working room.
 unfoldable pub contentsOf : List ℕ → Outcome

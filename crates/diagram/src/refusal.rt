@@ -1,4 +1,4 @@
-// The numbers of refusal of document 01, each once.
+// The numbers of refusal that are in force (docs/RULES.md), each once.
 
 // No words.
 pub const NO_WORDS: u32 = 1;
@@ -28,8 +28,10 @@ pub const BAD_LOW_LINK: u32 = 9;
 
 pub const BAD_HIGH_LINK: u32 = 10;
 
-// A reachable node has a child that is not at a larger variable.
-pub const BROKEN_ORDER: u32 = 11;
+// A reachable node has a low child that is not at a larger variable; or only its high child isn't.
+pub const BROKEN_LOW_ORDER: u32 = 11;
+
+pub const BROKEN_HIGH_ORDER: u32 = 17;
 
 // A node is unreachable.
 pub const UNREACHABLE: u32 = 12;

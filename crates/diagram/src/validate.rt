@@ -1,13 +1,14 @@
-// The check of any words as a diagram: refusals 1 to 12 of document 01, in its order.
+// The check of any words as a diagram: refusals 1 to 12 and 17, in the order of docs/RULES.md.
 use crate::lengths::lengths;
 use crate::lengths::most;
 use crate::limits::ROOM_PER_NODE;
+use crate::node::BddPointer;
 use crate::plain::is_plain;
 use crate::ranges::ranges;
+use crate::reach::broken_order;
 use crate::reach::first_broken;
 use crate::reach::first_lost;
 use crate::reach::mark;
-use crate::refusal::BROKEN_ORDER;
 use crate::refusal::UNREACHABLE;
 use crate::room::clear;
 use crate::terminals::terminals;
@@ -20,7 +21,7 @@ ghost use Rattle.diagram.specs.Diagram.{size, vars as varsOf, Formed};
 ghost use Rattle.diagram.specs.Verdict.{said, graphOf, contentsOf, Checked};
 ghost use Rattle.diagram.specs.Marking.{Sized};
 
-// Refusals 11 and 12: what can be said once links can be followed.
+// Refusals 11, 17 and 12: what can be said once links can be followed.
 fn graph(words: &[u32], room: &mut [u32], nodes: usize, vars: u32) -> Verdict
     requires { ⌜ (nodes ≡ size (now words)) × (vars ≡ varsOf (now words)) × Formed (now words) × (2 * nodes ≤ length (now room)) ⌝ }
     ensures { λ r. ⌜ said r ≡ graphOf (now (words .entry)) ⌝ }
@@ -32,8 +33,9 @@ fn graph(words: &[u32], room: &mut [u32], nodes: usize, vars: u32) -> Verdict
     let broken = first_broken(words, room, nodes);
     let lost = first_lost(room, nodes);
     if broken < nodes {
+        let number = broken_order(words, BddPointer(broken as u32));
         return Verdict::Refused {
-            number: BROKEN_ORDER,
+            number,
             place: broken,
         };
     }
@@ -44,7 +46,7 @@ fn graph(words: &[u32], room: &mut [u32], nodes: usize, vars: u32) -> Verdict
     }
 }
 
-// Refusals 6 to 12.
+// Refusals 6 to 12 and 17.
 fn contents(words: &[u32], room: &mut [u32]) -> Verdict
     requires { ⌜ Sized (now words) (now room) ⌝ }
     ensures { λ r. ⌜ said r ≡ contentsOf (now (words .entry)) ⌝ }
@@ -83,7 +85,7 @@ pub fn admit(words: &[u32], room: &mut [u32], output: Output) -> Verdict
     inspect(words, &mut room[..all])
 }
 
-// The check alone: refusals 1 to 3 and 5 to 12.
+// The check alone: refusals 1 to 3, 5 to 12 and 17.
 pub fn validate(words: &[u32], room: &mut [u32]) -> Verdict
     ensures { λ r. ⌜ Checked (now (words .entry)) Output.Nothing (now (room .entry)) (now (room .exit)) r ⌝ }
 {

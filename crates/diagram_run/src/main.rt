@@ -1,7 +1,7 @@
 // Runs `validate` over the cases of standard input and prints a line for each. A case is a line of decimal numbers: the
 // length of the working room, the word that it is filled with beforehand, and the words of the diagram. The answer is the
 // verdict, and of the room afterwards how many words at its front are zero and how many after these are as they were.
-// Both files are made by tests/diagram_cases.py, from a reading of document 01 that shares nothing with this code.
+// Both files are made by tests/diagram_cases.py, from a reading of the rules in force that shares nothing with this code.
 use cases::fill;
 use cases::least;
 use cases::line_ends;

@@ -13,10 +13,15 @@ module _ (number : ℕ) where
   node-six h = simp (eq-eqb number 6 h)
 
   module _ (h : number ≢ 6) where
-    pub node-before : number < 8 → false ≡ ofNode number
+    pub node-seventeen : number ≡ 17 → true ≡ ofNode number
     unfolding ofNode
-    node-before l = simp (ne-eqb number 6 h, lt-leb 8 number l)
+    node-seventeen g = simp (ne-eqb number 6 h, eq-eqb number 17 g)
 
-    pub node-from : 8 ≤ number → leb number 12 ≡ ofNode number
-    unfolding ofNode
-    node-from l = simp (ne-eqb number 6 h, le-leb 8 number l)
+    module _ (g : number ≢ 17) where
+      pub node-before : number < 8 → false ≡ ofNode number
+      unfolding ofNode
+      node-before l = simp (ne-eqb number 6 h, ne-eqb number 17 g, lt-leb 8 number l)
+
+      pub node-from : 8 ≤ number → leb number 12 ≡ ofNode number
+      unfolding ofNode
+      node-from l = simp (ne-eqb number 6 h, ne-eqb number 17 g, le-leb 8 number l)

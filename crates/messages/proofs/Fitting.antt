@@ -39,13 +39,14 @@ phrase-length number =
     (of-both (longestSentence + decimalDigits) (eqb number 11) _ _ (omega arith)
     (of-both (longestSentence + decimalDigits) (eqb number 12) _ _ (omega arith)
     (of-both (longestSentence + decimalDigits) (eqb number 16) _ _ (omega arith)
+    (of-both (longestSentence + decimalDigits) (eqb number 17) _ _ (omega arith)
     (of-both (longestSentence + decimalDigits) (eqb number 19) _ _ (omega arith)
     (of-both (longestSentence + decimalDigits) (eqb number 21) _ _ (omega arith)
     (of-both (longestSentence + decimalDigits) (eqb number 22) _ _ (omega arith)
     (of-both (longestSentence + decimalDigits) (eqb number 23) _ _ (omega arith)
     (of-both (longestSentence + decimalDigits) (eqb number 24) _ _ (omega arith)
     (of-both (longestSentence + decimalDigits) (eqb number 25) _ _ (omega (arith, more-length maxStored (bytes " nodes")))
-    (omega arith)))))))))))))))
+    (omega arith))))))))))))))))
 
 subject-length : (number place : ℕ) → length (subject number place) ≤ 6 + decimalDigits
 unfolding subject

@@ -26,7 +26,7 @@ whichText = bytes "shrink: count does not say which base its number is in: write
 
 -- The sentence of each number that can come up. Those of a node begin with it: `node 4 can't be reached from the root`.
 unfoldable pub ofNode : ℕ → Bool
-ofNode number = eqb number 6 || (leb 8 number && leb number 12)
+ofNode number = (eqb number 6 || eqb number 17) || (leb 8 number && leb number 12)
 
 unfoldable pub subject : ℕ → ℕ → List ℕ
 subject number place = cond (ofNode number) (bytes "node " ++ decimal place ++ bytes " ") []
@@ -43,16 +43,17 @@ phrase number =
     (cond (eqb number 8) (bytes "has a variable that is not below the variable count")
     (cond (eqb number 9) (bytes "has a low link past the nodes")
     (cond (eqb number 10) (bytes "has a high link past the nodes")
-    (cond (eqb number 11) (bytes "has a child that is not at a larger variable")
+    (cond (eqb number 11) (bytes "has a low child that is not at a larger variable")
     (cond (eqb number 12) (bytes "can't be reached from the root")
     (cond (eqb number 16) (bytes "the count to reach is above the number of all valuations")
+    (cond (eqb number 17) (bytes "has a high child that is not at a larger variable")
     (cond (eqb number 19) (bytes "a constant can't be cut to a count between 0 and the number of all valuations")
     (cond (eqb number 21) (bytes "a block is short or missing, or bytes stand after the last one")
     (cond (eqb number 22) (bytes "a check sum is wrong")
     (cond (eqb number 23) (bytes "a block number, a node count or the order of blocks is wrong")
     (cond (eqb number 24) (bytes "unused bytes are not zero")
     (cond (eqb number 25) (moreThan maxStored (bytes " nodes"))
-    (bytes "the input is refused")))))))))))))))
+    (bytes "the input is refused"))))))))))))))))
 
 unfoldable pub refusalText : ℕ → ℕ → List ℕ
 refusalText number place = refusedAt number place ++ bytes ": " ++ subject number place ++ phrase number ++ feed

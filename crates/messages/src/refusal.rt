@@ -1,6 +1,10 @@
 // The line of a refusal: `refused 22 at 0: a check sum is wrong`.
 use blocks::layout::MOST;
 use diagram::limits::MAX_VARIABLES;
+use diagram::refusal::BAD_VARIABLE;
+use diagram::refusal::BROKEN_HIGH_ORDER;
+use diagram::refusal::NO_TERMINAL;
+use diagram::refusal::UNREACHABLE;
 use report::lines::write_number;
 use report::lines::write_refused;
 use writing::put;
@@ -13,13 +17,16 @@ ghost use Rattle.messages.specs.Texts.{ofNode, subject, moreThan, phrase
 fn of_node(number: u32) -> bool
     ensures { λ r. ⌜ r ≡ ofNode number ⌝ }
 {
-    if number == 6 {
+    if number == NO_TERMINAL {
         return true;
     }
-    if number < 8 {
+    if number == BROKEN_HIGH_ORDER {
+        return true;
+    }
+    if number < BAD_VARIABLE {
         return false;
     }
-    number <= 12
+    number <= UNREACHABLE
 }
 
 fn write_subject(out: &mut [u8], at: usize, number: u32, place: usize) -> usize
@@ -58,12 +65,17 @@ fn write_phrase(out: &mut [u8], at: usize, number: u32) -> usize
         ),
         9 => write(out, at, b"has a low link past the nodes"),
         10 => write(out, at, b"has a high link past the nodes"),
-        11 => write(out, at, b"has a child that is not at a larger variable"),
+        11 => write(out, at, b"has a low child that is not at a larger variable"),
         12 => write(out, at, b"can't be reached from the root"),
         16 => write(
             out,
             at,
             b"the count to reach is above the number of all valuations",
+        ),
+        17 => write(
+            out,
+            at,
+            b"has a high child that is not at a larger variable",
         ),
         19 => write(
             out,

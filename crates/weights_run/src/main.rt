@@ -2,7 +2,7 @@
 // numbers: the length of the working room and the word that it is filled with beforehand, the same of the output, and the
 // words of the diagram. The answer is the verdict; of the room afterwards how many words at its front are zero and how
 // many after these are as they were; how many words of the output beyond the result are as they were; and the weights,
-// in hexadecimal. Both files are made by tests/weights_cases.py, from a reading of document 01 that shares nothing with
+// in hexadecimal. Both files are made by tests/weights_cases.py, from a reading of the rules in force that shares nothing with
 // this code.
 use cases::fill;
 use cases::least;

@@ -1,6 +1,6 @@
 -- `diagram::validate::graph` meets its contract.
 use denote.Ref.{now}
-use Rattle.diagram.proofs.Rows.{refuse-11}
+use Rattle.diagram.proofs.Rows.{broken-near, refuse-order}
 use Rattle.diagram.proofs.Parents.{pass-plain, lost-left}
 use borrow.Author.Needs.{needs}
 use native.Mathlib.Omega.{arith}
@@ -25,11 +25,20 @@ first-broken-requires c κs = search needs
 first-lost-requires : tie.Need-first-lost-requires
 first-lost-requires c κs = search needs
 
+cast-t19 : tie.Need-cast-t19
+cast-t19 c =
+    omega (arith, broken-near (now (c .before .before .before .before .before .before .before .before .before .before .before .before .before .before .before .before .args .words)) (c .before .before .before .before .before .before .before .before .before .before .before .before .before .before .before .before .args .nodes) (c .before .before .before .first-broken .result) (c .before .before .before .before .before .before .before .before .before .before .before .before .before .before .before .before .pre .0) (c .before .before .before .first-broken .ensures), c .before .before .before .before .before .before .before .before .before .before .before .before .before .before .before .before .pre .2 .few)
+
+broken-order-requires : tie.Need-broken-order-requires
+broken-order-requires c κs = search needs
+
 same-length-2 : tie.Need-same-length-2
 same-length-2 c = search needs
 
 returns-2 : tie.Need-returns-2
-returns-2 c = refuse-11 (now (c .before .before .before .before .before .before .before .before .before .before .before .before .before .before .before .before .args .words)) (c .before .before .before .before .before .before .before .before .before .before .before .before .before .before .before .before .args .nodes) (c .before .before .before .first-broken .result) (c .before .before .before .before .before .before .before .before .before .before .before .before .before .before .before .before .pre .0) (c .before .before .before .first-broken .ensures) (c .if2 .taken)
+returns-2 c =
+    refuse-order (now (c .before .before .before .before .before .before .before .before .before .before .before .before .before .before .before .before .before .args .words)) (c .before .before .before .before .before .before .before .before .before .before .before .before .before .before .before .before .before .args .nodes) (c .before .before .before .before .first-broken .result) (c .before .before .before .before .before .before .before .before .before .before .before .before .before .before .before .before .before .pre .0) (c .before .before .before .before .first-broken .ensures) (c .before .if2 .taken)
+    (c .broken-order .result) (c .broken-order .ensures)
 
 same-length-3 : tie.Need-same-length-3
 same-length-3 c = search needs
@@ -48,6 +57,8 @@ graph-spec =
     mark-requires
     first-broken-requires
     first-lost-requires
+    cast-t19
+    broken-order-requires
     same-length-2
     returns-2
     same-length-3

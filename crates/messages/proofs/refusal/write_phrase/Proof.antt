@@ -89,17 +89,23 @@ slice-aggregate-write-13 c = search needs
 write-requires-13 : tie.Need-write-requires-13
 write-requires-13 c κs = search needs
 
+slice-aggregate-write-14 : tie.Need-slice-aggregate-write-14
+slice-aggregate-write-14 c = search needs
+
+write-requires-14 : tie.Need-write-requires-14
+write-requires-14 c κs = search needs
+
 slice-aggregate-write-limit-2 : tie.Need-slice-aggregate-write-limit-2
 slice-aggregate-write-limit-2 c = search needs
 
 write-limit-requires-2 : tie.Need-write-limit-requires-2
 write-limit-requires-2 c κs = search needs
 
-slice-aggregate-write-14 : tie.Need-slice-aggregate-write-14
-slice-aggregate-write-14 c = search needs
+slice-aggregate-write-15 : tie.Need-slice-aggregate-write-15
+slice-aggregate-write-15 c = search needs
 
-write-requires-14 : tie.Need-write-requires-14
-write-requires-14 c κs = search needs
+write-requires-15 : tie.Need-write-requires-15
+write-requires-15 c κs = search needs
 
 same-length : tie.Need-same-length
 same-length c = search needs
@@ -204,14 +210,21 @@ same-length-15 c = search needs
 
 returns-15 : tie.Need-returns-15
 unfolding phrase
-returns-15 c = rw (c .before .before .before .before .before .match .keys15) (c .before .before .write-limit2 .ensures)
+returns-15 c = rw (c .before .before .before .before .before .match .keys15) (c .before .before .write14 .ensures)
 
 same-length-16 : tie.Need-same-length-16
 same-length-16 c = search needs
 
 returns-16 : tie.Need-returns-16
 unfolding phrase
-returns-16 c = simp (ne-eqb (c .before .before .before .before .before .before .before .args .number) 4 (c .before .before .before .before .before .match .rest .0 .0 .0 .0 .0 .0 .0 .0 .0 .0 .0 .0 .0 .0 .1), ne-eqb (c .before .before .before .before .before .before .before .args .number) 6 (c .before .before .before .before .before .match .rest .0 .0 .0 .0 .0 .0 .0 .0 .0 .0 .0 .0 .0 .1), ne-eqb (c .before .before .before .before .before .before .before .args .number) 7 (c .before .before .before .before .before .match .rest .0 .0 .0 .0 .0 .0 .0 .0 .0 .0 .0 .0 .1), ne-eqb (c .before .before .before .before .before .before .before .args .number) 8 (c .before .before .before .before .before .match .rest .0 .0 .0 .0 .0 .0 .0 .0 .0 .0 .0 .1), ne-eqb (c .before .before .before .before .before .before .before .args .number) 9 (c .before .before .before .before .before .match .rest .0 .0 .0 .0 .0 .0 .0 .0 .0 .0 .1), ne-eqb (c .before .before .before .before .before .before .before .args .number) 10 (c .before .before .before .before .before .match .rest .0 .0 .0 .0 .0 .0 .0 .0 .0 .1), ne-eqb (c .before .before .before .before .before .before .before .args .number) 11 (c .before .before .before .before .before .match .rest .0 .0 .0 .0 .0 .0 .0 .0 .1), ne-eqb (c .before .before .before .before .before .before .before .args .number) 12 (c .before .before .before .before .before .match .rest .0 .0 .0 .0 .0 .0 .0 .1), ne-eqb (c .before .before .before .before .before .before .before .args .number) 16 (c .before .before .before .before .before .match .rest .0 .0 .0 .0 .0 .0 .1), ne-eqb (c .before .before .before .before .before .before .before .args .number) 19 (c .before .before .before .before .before .match .rest .0 .0 .0 .0 .0 .1), ne-eqb (c .before .before .before .before .before .before .before .args .number) 21 (c .before .before .before .before .before .match .rest .0 .0 .0 .0 .1), ne-eqb (c .before .before .before .before .before .before .before .args .number) 22 (c .before .before .before .before .before .match .rest .0 .0 .0 .1), ne-eqb (c .before .before .before .before .before .before .before .args .number) 23 (c .before .before .before .before .before .match .rest .0 .0 .1), ne-eqb (c .before .before .before .before .before .before .before .args .number) 24 (c .before .before .before .before .before .match .rest .0 .1), ne-eqb (c .before .before .before .before .before .before .before .args .number) 25 (c .before .before .before .before .before .match .rest .1)) (c .before .before .write14 .ensures)
+returns-16 c = rw (c .before .before .before .before .before .match .keys16) (c .before .before .write-limit2 .ensures)
+
+same-length-17 : tie.Need-same-length-17
+same-length-17 c = search needs
+
+returns-17 : tie.Need-returns-17
+unfolding phrase
+returns-17 c = simp (ne-eqb (c .before .before .before .before .before .before .before .args .number) 4 (c .before .before .before .before .before .match .rest .0 .0 .0 .0 .0 .0 .0 .0 .0 .0 .0 .0 .0 .0 .0 .1), ne-eqb (c .before .before .before .before .before .before .before .args .number) 6 (c .before .before .before .before .before .match .rest .0 .0 .0 .0 .0 .0 .0 .0 .0 .0 .0 .0 .0 .0 .1), ne-eqb (c .before .before .before .before .before .before .before .args .number) 7 (c .before .before .before .before .before .match .rest .0 .0 .0 .0 .0 .0 .0 .0 .0 .0 .0 .0 .0 .1), ne-eqb (c .before .before .before .before .before .before .before .args .number) 8 (c .before .before .before .before .before .match .rest .0 .0 .0 .0 .0 .0 .0 .0 .0 .0 .0 .0 .1), ne-eqb (c .before .before .before .before .before .before .before .args .number) 9 (c .before .before .before .before .before .match .rest .0 .0 .0 .0 .0 .0 .0 .0 .0 .0 .0 .1), ne-eqb (c .before .before .before .before .before .before .before .args .number) 10 (c .before .before .before .before .before .match .rest .0 .0 .0 .0 .0 .0 .0 .0 .0 .0 .1), ne-eqb (c .before .before .before .before .before .before .before .args .number) 11 (c .before .before .before .before .before .match .rest .0 .0 .0 .0 .0 .0 .0 .0 .0 .1), ne-eqb (c .before .before .before .before .before .before .before .args .number) 12 (c .before .before .before .before .before .match .rest .0 .0 .0 .0 .0 .0 .0 .0 .1), ne-eqb (c .before .before .before .before .before .before .before .args .number) 16 (c .before .before .before .before .before .match .rest .0 .0 .0 .0 .0 .0 .0 .1), ne-eqb (c .before .before .before .before .before .before .before .args .number) 17 (c .before .before .before .before .before .match .rest .0 .0 .0 .0 .0 .0 .1), ne-eqb (c .before .before .before .before .before .before .before .args .number) 19 (c .before .before .before .before .before .match .rest .0 .0 .0 .0 .0 .1), ne-eqb (c .before .before .before .before .before .before .before .args .number) 21 (c .before .before .before .before .before .match .rest .0 .0 .0 .0 .1), ne-eqb (c .before .before .before .before .before .before .before .args .number) 22 (c .before .before .before .before .before .match .rest .0 .0 .0 .1), ne-eqb (c .before .before .before .before .before .before .before .args .number) 23 (c .before .before .before .before .before .match .rest .0 .0 .1), ne-eqb (c .before .before .before .before .before .before .before .args .number) 24 (c .before .before .before .before .before .match .rest .0 .1), ne-eqb (c .before .before .before .before .before .before .before .args .number) 25 (c .before .before .before .before .before .match .rest .1)) (c .before .before .write15 .ensures)
 
 pub write-phrase-spec : {M : Type 1} → statement M
 write-phrase-spec =
@@ -245,10 +258,12 @@ write-phrase-spec =
     write-requires-12
     slice-aggregate-write-13
     write-requires-13
-    slice-aggregate-write-limit-2
-    write-limit-requires-2
     slice-aggregate-write-14
     write-requires-14
+    slice-aggregate-write-limit-2
+    write-limit-requires-2
+    slice-aggregate-write-15
+    write-requires-15
     same-length
     returns
     same-length-2
@@ -280,4 +295,6 @@ write-phrase-spec =
     same-length-15
     returns-15
     same-length-16
-    returns-16)
+    returns-16
+    same-length-17
+    returns-17)
