@@ -1,13 +1,14 @@
 -- The tests of checks 11 and 17, as the code makes them.
 use Prim.Native.Nat.{ℕ, _<_}
 use mathlib.Core.Path.{_≡_, sym, _∙_, ap}
-use mathlib.Core.Bool.{Bool, true, false, cond, not, Bool·not-not}
+use mathlib.Core.Bool.{Bool, true, false, not, Bool·not-not}
 use mathlib.Core.List.{List}
 use borrow.Author.Tests.{eq-eqb, ne-eqb}
 use lib.ListN.{getD}
 use lib.Dec.{ltb, eqb}
 use Rattle.diagram.specs.Diagram.{varOf, lowOf, highOf, size}
 use Rattle.diagram.specs.Verdict.{reaches, isAboveLow, isAbove, isBroken}
+use Rattle.diagram.specs.Faults.{orderNumber}
 use Rattle.diagram.specs.Marking.{Marks}
 
 module _ (w : List ℕ) (p var low lowVar : ℕ) (v : var ≡ varOf w p) (l : low ≡ lowOf w p) (lv : lowVar ≡ varOf w low) where
@@ -25,11 +26,10 @@ module _ (w : List ℕ) (p var low lowVar : ℕ) (v : var ≡ varOf w p) (l : lo
       let x : ltb (varOf w p) (varOf w (lowOf w p)) ≡ false = cc in
       rw x
 
-  -- the number: 17 where the low child is not such, else 11
-  pub number-by-low : (k : ℕ) (b₁ t : Bool) → b₁ ≡ ltb var lowVar → b₁ ≡ t → k ≡ cond t 17 11 → k ≡ cond (isAboveLow w p) 17 11
-  number-by-low k b₁ t e₁ e n =
+  pub number-by-low : (b₁ t : Bool) → b₁ ≡ ltb var lowVar → b₁ ≡ t → orderNumber t ≡ orderNumber (isAboveLow w p)
+  number-by-low b₁ t e₁ e =
       let x : ltb (varOf w p) (varOf w (lowOf w p)) ≡ t = cc in
-      rw x n
+      rw x
 
 module _ (w r : List ℕ) (p mark : ℕ) (l : p < size w) (marks : Marks w r) (m : mark ≡ getD r p 0) where
   reached : (b : Bool) → eqb (getD r p 0) 0 ≡ b → reaches w p ≡ not b

@@ -124,7 +124,6 @@ module _ (w : List ℕ) (formed : Formed w) where
       (λ d. let l = ltb-true lost-at (size w) d in lost a l (graph-12 a l))
       (λ d. let l = ltb-false lost-at (size w) d in ok a l (graph-ok a l)))
 
-  -- 11 and 17: exactly at the smallest reachable node with a child that is not at a larger variable, by its low child or by its high child alone
   smallest-broken : broken-at < size w → (p : ℕ) → broken-at ≡ p → Smallest w (Broken w) p
   unfolding broken-at
   smallest-broken l p q = rw q at (smallest-of (Broken w) (isBroken w) broken-told broken-tells l)
@@ -133,6 +132,7 @@ module _ (w : List ℕ) (formed : Formed w) where
   unfolding broken-at
   broken-is p s = smallest-is (Broken w) (isBroken w) broken-told broken-tells p s
 
+  -- 11: exactly at the smallest reachable node with a child that is not at a larger variable, where its low child is such
   pub refused-11 : (p : ℕ) → (graphOf w ≡ refused 11 p) ↔ (Smallest w (Broken w) p × ByLow w p)
   refused-11 p = (there, back)
     where
@@ -149,6 +149,7 @@ module _ (w : List ℕ) (formed : Formed w) where
           let q = broken-is p (s .0) in
           graph-11 (omega (arith, q, s .0 .node .1)) (rw q (le-ltb (varOf w p) (varOf w (lowOf w p)) (s .1))) ∙ ap (λ (x : ℕ). refused 11 x) q
 
+  -- 17: exactly at that node where only its high child is
   pub refused-17 : (p : ℕ) → (graphOf w ≡ refused 17 p) ↔ (Smallest w (Broken w) p × ByHighAlone w p)
   refused-17 p = (there, back)
     where

@@ -1,7 +1,7 @@
 -- Each return of the checks is its row of the verdict, by the tests that led there.
 use Prim.Native.Nat.{ℕ, _+_, _-_, _*_, _/_, _%_, _≤_, _<_, max}
 use mathlib.Core.Path.{_≡_, sym, _∙_, ap}
-use mathlib.Core.Bool.{Bool, true, false, cond, not, _&&_}
+use mathlib.Core.Bool.{Bool, true, false, not, _&&_}
 use mathlib.Core.List.{List}
 use native.Mathlib.Omega.{arith}
 use native.Mathlib.Nat.{add-comm}
@@ -13,11 +13,11 @@ use Rattle.naturals.specs.Natural.{wordCount}
 use Rattle.diagram.specs.Limits.{maxNodes, maxVariables, roomPerNode}
 use Rattle.diagram.specs.Diagram.{varOf, lowOf, highOf, size, vars}
 use Rattle.diagram.specs.Verdict.{accepted, refused, row, short, lengthsOf, isTerminal, terminalsOf, first, firstNode, rangesOf, reaches, isAboveLow, isBroken, graphOf}
-use Rattle.diagram.specs.Faults.{faultOf, isFaulty}
+use Rattle.diagram.specs.Faults.{faultOf, isFaulty, orderNumber}
 use Rattle.diagram.specs.Marking.{Marks}
 use Rattle.diagram.specs.declared.verdict.Output.{Output}
 use Rattle.diagram.specs.declared.verdict.Output.the-variants.{Nothing, Diagram, Weights, PerVariable}
-use Rattle.diagram.proofs.Tests.{by-test, cond-true, cond-false}
+use Rattle.diagram.proofs.Tests.{by-test}
 use Rattle.diagram.proofs.Count.{first-shift, first-from, first-same}
 use Rattle.diagram.proofs.Faulty.{ranges-by}
 
@@ -191,13 +191,13 @@ module _ (w : List ℕ) (n broken : ℕ) (en : n ≡ size w) (eb : broken ≡ fi
   pub broken-near : broken ≤ 2 + (size w - 2)
   broken-near = omega (arith, eb, first-from (isBroken w) 2 (size w - 2) .1)
 
-  pub refuse-order : broken < n → (number : ℕ) → number ≡ cond (isAboveLow w broken) 17 11 → refused number broken ≡ graphOf w
+  pub refuse-order : broken < n → (number : ℕ) → number ≡ orderNumber (isAboveLow w broken) → refused number broken ≡ graphOf w
   unfolding graphOf row
   refuse-order l number e =
       let inside : ltb broken (size w) ≡ true = lt-ltb broken (size w) (rw en at l) in
       by-test (isAboveLow w broken)
-      (λ t. simp (← eb, inside, t) (ap (λ (k : ℕ). refused k broken) (e ∙ cond-true (isAboveLow w broken) 17 11 t)))
-      (λ f. simp (← eb, inside, f) (ap (λ (k : ℕ). refused k broken) (e ∙ cond-false (isAboveLow w broken) 17 11 f)))
+      (λ t. simp (← eb, inside, e, t))
+      (λ f. simp (← eb, inside, e, f))
 
   module _ (a : n ≤ broken) (r : List ℕ) (marks : Marks w r) (lost : ℕ) (el : lost ≡ first (λ p. eqb (getD r p 0) 0) 2 (n - 2)) where
     lost-is : lost ≡ firstNode w (λ p. not (reaches w p))

@@ -1,5 +1,6 @@
 -- How the code finds 8 to 10: the number of what is out of range at a node, 0 where nothing is, and the first node at which
--- it isn't 0. Auxiliary: no promise to a caller names these (`ranges-by` of proofs/Faulty.antt says that they give `rangesOf`).
+-- it isn't 0; and which of 11 and 17 it gives. Auxiliary: no promise to a caller names these (`ranges-by` of
+-- proofs/Faulty.antt and `refuse-order` of proofs/Rows.antt say that they give the rows of the verdict).
 use Prim.Native.Nat.{ℕ}
 use mathlib.Core.Bool.{Bool, cond, not}
 use mathlib.Core.List.{List}
@@ -12,3 +13,7 @@ faultOf n v w p = cond (leb v (varOf w p)) 8 (cond (leb n (lowOf w p)) 9 (cond (
 
 abbrev pub isFaulty : ℕ → ℕ → List ℕ → ℕ → Bool
 isFaulty n v w p = not (eqb (faultOf n v w p) 0)
+
+-- The number of a node with a child not at a larger variable, by whether its low child is at one.
+abbrev pub orderNumber : Bool → ℕ
+orderNumber aboveLow = cond aboveLow 17 11

@@ -11,13 +11,13 @@ use crate::refusal::BROKEN_LOW_ORDER;
 use crate::room::clear;
 use crate::room::put;
 ghost use mathlib.Core.Path.{_≡_};
-ghost use mathlib.Core.Bool.{cond};
 ghost use Prim.Native.Nat.{_+_, _-_, _*_, _<_, _≤_};
 ghost use lib.ListN.{length, getD};
 ghost use lib.Dec.{eqb};
 ghost use Rattle.diagram.specs.Limits.{maxNodes};
 ghost use Rattle.diagram.specs.Diagram.{size, Formed};
 ghost use Rattle.diagram.specs.Verdict.{first, firstNode, isAboveLow, isAbove, isBroken};
+ghost use Rattle.diagram.specs.Faults.{orderNumber};
 ghost use Rattle.diagram.specs.Marking.{pushed, pushedTop, Working, Onward, Marks};
 
 // Marks a node and puts it on the stack, unless it has its mark.
@@ -77,7 +77,7 @@ pub(crate) fn is_above(words: &[u32], node: BddPointer) -> bool
 
 // Which of 11 and 17 a node gets that has a child not at a larger variable: its low child comes first.
 pub(crate) fn broken_order(words: &[u32], node: BddPointer) -> u32
-    ensures { λ r. ⌜ r ≡ cond (isAboveLow (now (words .entry)) (node .0)) 17 11 ⌝ }
+    ensures { λ r. ⌜ r ≡ orderNumber (isAboveLow (now (words .entry)) (node .0)) ⌝ }
 {
     let var = var_of(words, node);
     let low = var_of(words, low_link_of(words, node));

@@ -1,6 +1,5 @@
 -- `diagram::reach::broken_order` meets its contract.
 use denote.Ref.{now}
-use mathlib.Core.Path.{refl}
 use mathlib.Core.Bool.{true, false}
 use Rattle.diagram.proofs.Breaks.{number-by-low}
 use borrow.Author.Needs.{needs}
@@ -23,13 +22,13 @@ returns : tie.Need-returns
 returns c =
     number-by-low (now (c .before .before .before .before .before .before .args .words)) (c .before .before .before .before .before .before .args .node .0) (c .before .before .before .before .var-of .result .0) (c .before .before .before .low-link-of .result .0) (c .before .before .var-of2 .result .0)
     (c .before .before .before .before .var-of .ensures) (c .before .before .before .low-link-of .ensures) (c .before .before .var-of2 .ensures)
-    17 (c .before .is-before .result) true (c .before .is-before .ensures) (c .if1 .taken) refl
+    (c .before .is-before .result) true (c .before .is-before .ensures) (c .if1 .taken)
 
 returns-2 : tie.Need-returns-2
 returns-2 c =
     number-by-low (now (c .before .before .before .before .before .before .args .words)) (c .before .before .before .before .before .before .args .node .0) (c .before .before .before .before .var-of .result .0) (c .before .before .before .low-link-of .result .0) (c .before .before .var-of2 .result .0)
     (c .before .before .before .before .var-of .ensures) (c .before .before .before .low-link-of .ensures) (c .before .before .var-of2 .ensures)
-    11 (c .before .is-before .result) false (c .before .is-before .ensures) (c .if1 .left) refl
+    (c .before .is-before .result) false (c .before .is-before .ensures) (c .if1 .left)
 
 pub broken-order-spec : {M : Type 1} → statement M
 broken-order-spec = tie.close (tie.spec var-of-requires low-link-of-requires var-of-requires-2 is-before-requires returns returns-2)
