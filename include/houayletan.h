@@ -40,7 +40,7 @@
  *   17   the same: its high child, and not its low child                the smallest node with such a child
  *   12   a non-terminal is unreachable                                  the smallest such node
  *   13   a listed pointer is past the nodes                             the first such place in the list, from 0
- *   14   a terminal is listed and the root is not                       the first terminal's place in the list, from 0
+ *   14   a terminal is listed                                           the first terminal's place in the list, from 0
  *   15   weights of the one-node diagram                                0
  *   16   a count target above 2^v for an overapproximation              0
  *   19   a count target strictly between 0 and 2^v: under on two nodes, over on one
@@ -157,7 +157,8 @@ HouayletanDiagram houayletan_not(const uint32_t *words, size_t words_len, uint32
                                  uint32_t *output, size_t output_len);
 
 /* Cuts by a list of node pointers: links to listed nodes go to 0 (under) or to 1 (over), then the diagram is reduced. A
- * listed root gives false or true. Repeats are harmless, the empty list reduces. Refusals: the diagram's own, then 13 and 14. */
+ * listed root gives false or true. Repeats are harmless, the empty list reduces. Refusals: the diagram's own, then 13 and 14:
+ * a terminal is never listed, also where it is the root, so of one or two nodes only the empty list is taken. */
 HouayletanDiagram houayletan_underapproximate(const uint32_t *words, size_t words_len, const uint32_t *list, size_t list_len,
                                               uint32_t *room, size_t room_len, uint32_t *output, size_t output_len);
 HouayletanDiagram houayletan_overapproximate(const uint32_t *words, size_t words_len, const uint32_t *list, size_t list_len,

@@ -62,12 +62,10 @@ static inline Refused reading_argument(const Operation *o, const Request *q) {
     size_t n = q->words_len / 3;
     if (strcmp(o->name, "node_valuation_weights") == 0 && n == 1) return (Refused){15, 0};
     if (o->argument == LIST) {
-        bool root = false;
         for (size_t i = 0; i < q->list_len; i++) {
             if (q->list[i] >= n) return (Refused){13, i};
-            root = root || q->list[i] == n - 1;
         }
-        for (size_t i = 0; i < q->list_len && !root; i++) {
+        for (size_t i = 0; i < q->list_len; i++) {
             if (q->list[i] < 2) return (Refused){14, i};
         }
     }

@@ -175,7 +175,7 @@ def refusal(letter, target, words, room, lent):
         terminal = [i for i, p in enumerate(target) if p < 2]
         if outside:
             return 'refused', 13, outside[0]
-        if terminal and n - 1 not in target:
+        if terminal:
             return 'refused', 14, terminal[0]
         return said
     k = number(target)
@@ -187,8 +187,8 @@ def refusal(letter, target, words, room, lent):
 
 
 def worked():
-    """C3 to C12 of 01, its cases that are only run, and others settled by hand: a request, and its answer's nodes after the
-    terminals, its count, its trials (None: not said); or the refusal."""
+    """C3 to C12 of 01, its cases that are only run (by [0, 4] as 02, E10, has it), and others settled by hand: a request, and its
+    answer's nodes after the terminals, its count, its trials (None: not said); or the refusal."""
     yield 'u', [2], D, [(1, 0, 1), (0, 0, 2)], 2, 0
     yield 'u', [3], D, [(2, 0, 1), (0, 2, 0)], 2, 0
     yield 'o', [3], D, [(2, 0, 1), (0, 2, 1)], 6, 0
@@ -200,7 +200,7 @@ def worked():
     yield 's', [4], terminals(3) + [2, 0, 1, 1, 0, 2, 0, 0, 3], None, 0, None
     yield 'd', count_words(8), D, [], 8, None
     yield 'd', count_words(9), D, 16, 0
-    yield 'u', [0, 4], D, None, 0, 0
+    yield 'u', [0, 4], D, 14, 0
     yield 'u', [0], D, 14, 0
     yield 's', [5], D, nodes(D)[2:], 5, 0
     yield 'u', [], [MAX_VARS, 0, 0], None, 0, 0
@@ -211,11 +211,20 @@ def worked():
     # where a plausible port goes wrong
     for target, place in (([2, 9], 1), ([0, 9], 1), ([4, 5], 1), ([4294967295], 0)):
         yield 'u', target, D, 13, place
-    yield 'u', [1, 2], terminals(0), 13, 1
-    yield 'u', [2, 1, 0], D, 14, 1
-    yield 'u', [0], terminals(0), 14, 0
-    yield 'u', [0, 1], terminals(0), None, 0, 0
-    yield 'o', [0], [0, 0, 0], [], 1, 0
+    # a terminal is refused beside the root and where it is the root (02, E10); 13 first
+    for letter, after, share in (('u', None, 0), ('o', [], 1)):
+        yield letter, [4], D, after, share * 8, 0
+        for target, place in (([0, 4], 0), ([4, 0], 1), ([1, 4, 0], 0), ([2, 1, 0], 1), ([4, 3, 1, 1], 2)):
+            yield letter, target, D, 14, place
+        for target, place in (([0, 9], 1), ([9, 0], 0), ([4, 0, 5], 2), ([5, 4, 0], 0)):
+            yield letter, target, D, 13, place
+        for target, number, place in (([0], 14, 0), ([0, 0], 14, 0), ([1], 13, 0), ([0, 1], 13, 1)):
+            yield letter, target, [0, 0, 0], number, place
+        for target, number, place in (([0], 14, 0), ([1], 14, 0), ([0, 1], 14, 0), ([1, 2], 13, 1), ([2, 1], 13, 0)):
+            yield letter, target, terminals(0), number, place
+        for words in (terminals(1) + [0, 0, 0], SINGLE):        # constants in three nodes have a root that may be listed
+            yield letter, [2], words, after, share * 2, 0
+            yield letter, [2, 1], words, 14, 1
     yield 's', [3], BOTH, [], 4, 2                      # the last cut counts, though the list was tried before
     yield 't', [2], [0, 0, 0], None, 0, 0               # the early rules look at the negation's array
     yield 't', [1], [0, 0, 0], [], 1, 0
@@ -260,9 +269,7 @@ def by_hand():
             yield exact(letter, target, [0, 0, 0], room, output)
         yield exact(letter, [4294967295] * len(target), [MAX_VARS + 1, 0, 0])   # whatever is asked for
     yield 'u', [2], [9] * 3 * (MAX_NODES + 1), ROOM * MAX_NODES, 3 * MAX_NODES  # 3, at one node more than the most
-    # listed roots and terminals of constants; places in the list; 13 before 14, and whether or not the root is listed
-    yield exact('o', [1], terminals(0))
-    yield exact('u', [0], [0, 0, 0])
+    # places in the list; 13 and 14, whether or not the root is listed
     yield exact('u', [2], terminals(0), 2)
     yield exact('o', [5], [0, 0, 0], 2, 2)
     for target in ([2, 9], [2, 1, 0], [0, 9], [9, 0], [4, 9], [4, 5], [1, 4, 0], [3, 3, 3], [2, 3], [3, 2, 4], [4294967295]):

@@ -60,7 +60,7 @@ fn list(random: &mut Random, n: usize) -> Vec<u32> {
     let from = if n > 3 { 2 } else { 0 };
     let to = if n > 3 { n - 2 } else { n - 1 };
     let mut list: Vec<u32> = (0..len).map(|_| random.from_to(from, to.max(from)) as u32).collect();
-    for _ in 0..random.below(4) / 2 {
+    for _ in 0..random.below(6) / 2 {
         if !list.is_empty() {
             let at = random.below(list.len());
             list[at] = random.pick(&[0, 1, n as u32 - 1, n as u32 - 1, n as u32, u32::MAX, list[0]]);

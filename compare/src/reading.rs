@@ -93,9 +93,6 @@ pub fn check_list(n: usize, list: &[u32]) -> Result<(), Refused> {
     if let Some(at) = list.iter().position(|p| *p as usize >= n) {
         return Err((13, at));
     }
-    if list.contains(&(n as u32 - 1)) {
-        return Ok(());
-    }
     match list.iter().position(|p| *p < 2) {
         Some(at) => Err((14, at)),
         None => Ok(()),
@@ -115,7 +112,7 @@ pub fn check_count(n: usize, v: usize, over: bool, target: &BigUint) -> Result<(
     Ok(())
 }
 
-fn constant(v: u32, yes: bool) -> Vec<u32> {
+pub fn constant(v: u32, yes: bool) -> Vec<u32> {
     if yes { vec![v, 0, 0, v, 1, 1] } else { vec![v, 0, 0] }
 }
 

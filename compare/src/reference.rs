@@ -43,6 +43,16 @@ fn held_to_validate(words: &[u32], refused: Option<u32>) {
     assert_eq!(Bdd::from_words(words).validate().is_ok(), refused.is_none(), "validate of {words:?}");
 }
 
+/// A listed root made 01 and makes the Rust answer a constant, whatever terminals are listed beside it; 02 E10 refuses them.
+fn held_to_listed_root(request: &Request, list: &[u32]) {
+    let words = &request.words;
+    if list.contains(&(words.len() as u32 / 3 - 1)) {
+        let (bdd, over) = (Bdd::from_words(words), request.operation() == Overapproximate);
+        let answer = if over { bdd.overapproximate(&pointers(list)) } else { bdd.underapproximate(&pointers(list)) };
+        assert_eq!(answer.to_words(), reading::constant(words[0], over), "a cut by {list:?} of {words:?}");
+    }
+}
+
 pub fn expected(request: &Request) -> Reply {
     let refuse = |(number, place)| Reply { number, place, nodes: 0, vars: 0, values: vec![0; values_of(request)], written: vec![] };
     let words = &request.words;
@@ -65,6 +75,9 @@ pub fn expected(request: &Request) -> Reply {
         _ => Ok(()),
     };
     if let Err(refused) = later {
+        if let (14, Argument::List(list)) = (refused.0, &request.argument) {
+            held_to_listed_root(request, list);
+        }
         return refuse(refused);
     }
 

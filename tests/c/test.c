@@ -241,8 +241,12 @@ int main(void) {
         {"underapproximate", 1, {2}, 0, 0, C3, LEN(C3), 0},
         {"underapproximate", 1, {3}, 0, 0, C4, LEN(C4), 0},
         {"overapproximate", 1, {3}, 0, 0, C5, LEN(C5), 0},
-        {"underapproximate", 2, {0, 4}, 0, 0, FALSE3, LEN(FALSE3), 0},
-        {"overapproximate", 2, {0, 4}, 0, 0, TRUE3, LEN(TRUE3), 0},
+        {"underapproximate", 1, {4}, 0, 0, FALSE3, LEN(FALSE3), 0},
+        {"overapproximate", 1, {4}, 0, 0, TRUE3, LEN(TRUE3), 0},
+        {"underapproximate", 2, {0, 4}, 14, 0, NULL, 0, 0},
+        {"overapproximate", 2, {0, 4}, 14, 0, NULL, 0, 0},
+        {"underapproximate", 3, {4, 1, 0}, 14, 1, NULL, 0, 0},
+        {"overapproximate", 3, {4, 1, 0}, 14, 1, NULL, 0, 0},
         {"underapproximate", 0, {0}, 0, 0, D, LEN(D), 0},
         {"underapproximate", 1, {0}, 14, 0, NULL, 0, 0},
         {"underapproximate", 3, {2, 1, 0}, 14, 1, NULL, 0, 0},
@@ -291,11 +295,15 @@ int main(void) {
         uint32_t result[9];
         size_t trials;
     } readings[] = {
-        /* past the nodes is refused though the root is listed; a terminal that is the root may be listed */
+        /* past the nodes is refused though the root is listed, and before a terminal, which is refused also where it is the root */
         {"underapproximate", 6, {0, 0, 0, 0, 1, 1}, 2, {1, 2}, 13, 1, 0, {0}, 0},
-        {"overapproximate", 3, {0, 0, 0}, 1, {0}, 0, 0, 6, {0, 0, 0, 0, 1, 1}, 0},
+        {"underapproximate", 3, {0, 0, 0}, 1, {0}, 14, 0, 0, {0}, 0},
+        {"overapproximate", 3, {0, 0, 0}, 1, {0}, 14, 0, 0, {0}, 0},
+        {"underapproximate", 3, {0, 0, 0}, 1, {1}, 13, 0, 0, {0}, 0},
+        {"overapproximate", 3, {0, 0, 0}, 2, {0, 1}, 13, 1, 0, {0}, 0},
         {"underapproximate", 6, {0, 0, 0, 0, 1, 1}, 1, {0}, 14, 0, 0, {0}, 0},
-        {"underapproximate", 6, {0, 0, 0, 0, 1, 1}, 2, {0, 1}, 0, 0, 3, {0, 0, 0}, 0},
+        {"underapproximate", 6, {0, 0, 0, 0, 1, 1}, 1, {1}, 14, 0, 0, {0}, 0},
+        {"overapproximate", 6, {0, 0, 0, 0, 1, 1}, 2, {1, 0}, 14, 0, 0, {0}, 0},
         /* the last cut counts, also where the same list was tried before */
         {"underapproximate_to_size", 12, {2, 0, 0, 2, 1, 1, 1, 1, 1, 0, 2, 2}, 0, {3}, 0, 0, 6, {2, 0, 0, 2, 1, 1}, 2},
         {"underapproximate_to_size", 9, {1, 0, 0, 1, 1, 1, 0, 1, 1}, 0, {2}, 0, 0, 3, {1, 0, 0}, 0},

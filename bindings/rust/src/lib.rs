@@ -252,6 +252,8 @@ pub fn not(words: &[u32]) -> Result<Vec<u32>, Refusal> {
 /// assert_eq!(houayletan::underapproximate(&words, &[3])?, [3, 0, 0, 3, 1, 1, 2, 0, 1, 0, 2, 0]);
 /// let refusal = houayletan::underapproximate(&words, &[2, 9]).unwrap_err();
 /// assert_eq!((refusal.number, refusal.place), (13, 1));
+/// let refusal = houayletan::underapproximate(&words, &[4, 0]).unwrap_err();
+/// assert_eq!(refusal.to_string(), "refused 14 at 1: the pointer at place 1 of the list is a terminal");
 /// # Ok::<(), houayletan::Refusal>(())
 /// ```
 pub fn underapproximate(words: &[u32], list: &[u32]) -> Result<Vec<u32>, Refusal> {
@@ -264,6 +266,8 @@ pub fn underapproximate(words: &[u32], list: &[u32]) -> Result<Vec<u32>, Refusal
 /// ```
 /// let words = [3, 0, 0, 3, 1, 1, 2, 0, 1, 1, 2, 1, 0, 2, 3];
 /// assert_eq!(houayletan::overapproximate(&words, &[3])?, [3, 0, 0, 3, 1, 1, 2, 0, 1, 0, 2, 1]);
+/// assert_eq!(houayletan::overapproximate(&words, &[4])?, [3, 0, 0, 3, 1, 1]);
+/// assert_eq!(houayletan::overapproximate(&[3, 0, 0], &[0]).unwrap_err().number, 14);
 /// # Ok::<(), houayletan::Refusal>(())
 /// ```
 pub fn overapproximate(words: &[u32], list: &[u32]) -> Result<Vec<u32>, Refusal> {

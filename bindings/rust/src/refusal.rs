@@ -42,7 +42,7 @@ impl Refusal {
             11 => format!("node {place} has a low child that is not at a larger variable"),
             12 => format!("node {place} can't be reached from the root"),
             13 => format!("the pointer at place {place} of the list is past the nodes"),
-            14 => format!("the pointer at place {place} of the list is a terminal, and the root is not listed"),
+            14 => format!("the pointer at place {place} of the list is a terminal"),
             15 => "the one-node diagram has no weights".into(),
             16 => "the count to reach is above the number of all valuations".into(),
             17 => format!("node {place} has a high child that is not at a larger variable"),

@@ -102,6 +102,17 @@ module _ (w : List ℕ) (o : Ordered w) (m : ℕ → Bool) (t : ℕ) (terminal :
       let nodes = count-nodes (size w) in
       elim (decLt 2 (size w)) [ yes many ↦ omega arith | no few ↦ omega arith ]
 
+  -- Also the root, where it is no terminal.
+  pub cut-smaller : (m (root w) ≡ true → 2 ≤ root w) → size (cut w m t) + count (size w) (hits m) ≤ size w
+  cut-smaller node = by-test (m (root w))
+      (λ e.
+      let two = node e in
+      let s = cut-root-size w o m e t terminal in
+      let split = count-split (size w) m in
+      let nodes = count-nodes (size w) in
+      omega arith)
+      cut-size
+
   pub cut-most : size (cut w m t) ≤ max (size w) 2
   cut-most = by-test (m (root w))
       (λ e. let s = cut-root-size w o m e t terminal in omega arith)

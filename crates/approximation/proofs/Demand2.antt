@@ -9,17 +9,18 @@ use lib.Dec.{leb, eqb}
 use borrow.Author.Tests.{le-leb}
 use Rattle.diagram.specs.Diagram.{size, vars, root, holds, Ordered, Accepted}
 use Rattle.diagram.specs.Valuations.{meets}
-use Rattle.diagram.proofs.Tests.{by-test, both-and, cond-true, cond-false}
+use Rattle.diagram.specs.Verdict.{accepted}
+use Rattle.diagram.proofs.Tests.{both-and, cond-true, cond-false}
 use Rattle.diagram.proofs.Reading.{accepted-ordered}
 use Rattle.reduction.specs.Reduce.{reduce}
-use Rattle.reduction.proofs.Count.{count-mono}
-use Rattle.approximation.specs.Cut.{listed, cut}
+use Rattle.reduction.proofs.Count.{count, count-mono}
+use Rattle.approximation.specs.Cut.{listed, cut, listOf}
 use Rattle.approximation.specs.Sorted.{Distinct}
 use Rattle.approximation.specs.Demand2.{ByList, Demand2}
 use Rattle.approximation.proofs.Send.{send-is-cut}
-use Rattle.approximation.proofs.Cut.{hits, cut-root-under, cut-root-over, cut-size, cut-holds, cut-reduced, cut-under, cut-over, cut-same, cut-none}
-use Rattle.approximation.proofs.Members.{count-listed, order-sorted, order-distinct, order-listed, order-unique}
-use Rattle.approximation.proofs.Listing.{under-accepted-open, over-accepted-open, over-accepted-most}
+use Rattle.approximation.proofs.Cut.{hits, cut-root-under, cut-root-over, cut-smaller, cut-holds, cut-reduced, cut-under, cut-over, cut-same, cut-none}
+use Rattle.approximation.proofs.Members.{each-listed, count-listed, order-sorted, order-distinct, order-listed, order-unique}
+use Rattle.approximation.proofs.Listing.{list-accepted, list-verdict, under-accepted-open, over-accepted-open, over-accepted-most}
 use Rattle.approximation.proofs.Rules.{under-size, over-size, under-count, over-count}
 use Rattle.approximation.proofs.Targets.{to-size-under, to-size-fits, over-to-size-over, over-to-size-fits, to-count-under, to-count-fits, over-to-count-over, over-to-count-fits}
 
@@ -36,17 +37,24 @@ module _ (w list : List ℕ) (o : Ordered w) where
       → holds (cut w (listed list) t) bs ≡ eqb t 1
   list-met t h bs l e = list-holds t h bs l ∙ cond-true (meets w bs (listed list)) (eqb t 1) (holds w bs) e
 
-  -- Different non-terminals, without the root.
-  list-smaller : (t : ℕ) → t < 2 → Distinct list → ((p : ℕ) → listed list p ≡ true → (2 ≤ p) × (p < root w))
-      → size (cut w (listed list) t) + length list ≤ size w
-  list-smaller t h d nodes =
-      let some = o .formed .some in
-      let free : listed list (root w) ≡ false = by-test (listed list (root w)) (λ e. let i = nodes (root w) e in absurd (omega arith)) (λ e. e) in
-      let less = cut-size w o (listed list) t h free in
-      let found = count-listed (size w) d (λ p e. let i = nodes p e in omega arith) in
-      let all = count-mono (size w) (listed list) (hits (listed list))
-      (λ p in-w e. both-and (leb 2 p) (listed list p) (le-leb 2 p (nodes p e .0)) e) in
-      omega arith
+  -- A list that isn't refused.
+  module _ (fine : listOf w list ≡ accepted (size w) (vars w)) where
+    list-node : (p : ℕ) → listed list p ≡ true → (2 ≤ p) × (p < size w)
+    list-node = each-listed (λ p. (2 ≤ p) × (p < size w)) list (list-accepted w list (size w) (vars w) fine)
+
+    list-less : (t : ℕ) → t < 2 → size (cut w (listed list) t) + count (size w) (hits (listed list)) ≤ size w
+    list-less t h = cut-smaller w o (listed list) t h (λ e. list-node (root w) e .0)
+
+    list-fits : (t : ℕ) → t < 2 → size (cut w (listed list) t) ≤ size w
+    list-fits t h = let less = list-less t h in omega arith
+
+    list-smaller : Distinct list → (t : ℕ) → t < 2 → size (cut w (listed list) t) + length list ≤ size w
+    list-smaller d t h =
+        let less = list-less t h in
+        let found = count-listed (size w) d (λ p e. list-node p e .1) in
+        let all = count-mono (size w) (listed list) (hits (listed list))
+        (λ p in-w e. both-and (leb 2 p) (listed list p) (le-leb 2 p (list-node p e .0)) e) in
+        omega arith
 
 pub by-list : (w list : List ℕ) → Accepted w → ByList w list
 by-list w list a =
@@ -61,7 +69,8 @@ by-list w list a =
       rooted = λ e. (cut-root-under w o (listed list) e, cut-root-over w o (listed list) e);
       members = λ others same.
           (cut-same w o (listed list) (listed others) 0 (λ p h. same p), cut-same w o (listed list) (listed others) 1 (λ p h. same p));
-      smaller = λ d nodes. (list-smaller w list o 0 (omega arith) d nodes, list-smaller w list o 1 (omega arith) d nodes);
+      fits = λ fine. (list-fits w list o fine 0 (omega arith), list-fits w list o fine 1 (omega arith));
+      smaller = λ fine d. (list-smaller w list o fine d 0 (omega arith), list-smaller w list o fine d 1 (omega arith));
     }
 
 empty-list : (w : List ℕ) (t : ℕ) → cut w (listed []) t ≡ reduce w
@@ -70,6 +79,7 @@ empty-list w t = cut-none w t
 
 pub demand2 : Demand2
 demand2 = record {
+  list-verdict = list-verdict;
   by-list = by-list;
   empty = λ w. (empty-list w 0, empty-list w 1);
   priorities = λ w. record { sorted = order-sorted w; distinct = order-distinct w; nodes = order-listed w };

@@ -1,113 +1,135 @@
 -- What the checks of a list and of a count target say: 13 and 14 at the first place, 16 and 19.
 use Prim.Native.Nat.{ℕ, _^_, _≤_, _<_}
-use mathlib.Core.Path.{_≡_, refl}
-use mathlib.Core.Bool.{true, false, and-false}
-use mathlib.Core.List.{List}
+use mathlib.Core.Path.{_≡_, refl, sym, subst}
+use mathlib.Core.Logic.{_⊎_, inl, inr}
+use mathlib.Core.Bool.{Bool, true, false, and-false}
+use mathlib.Core.List.{List, [], _∷_}
 use native.Mathlib.Omega.{arith}
 use native.Mathlib.Decide.{decLt}
 use lib.ListN.{length, getD}
 use lib.Dec.{leb, ltb}
 use borrow.Author.Tests.{lt-ltb, le-ltb, le-leb, lt-leb, eq-eqb, ne-eqb, ltb-true, ltb-false, leb-true, leb-false}
-use Rattle.diagram.specs.Diagram.{size, vars, root}
+use Rattle.diagram.specs.Diagram.{size, vars}
 use Rattle.diagram.specs.Verdict.{accepted, refused, row, first}
-use Rattle.diagram.proofs.Tests.{by-test, by-eq, not-both}
+use Rattle.diagram.proofs.Tests.{by-eq}
+use Rattle.diagram.proofs.Outcomes.{same-refusal, same-counts, never-both}
 use Rattle.diagram.proofs.Count.{first-is, first-least, first-passes}
-use Rattle.approximation.specs.Cut.{listed, listOf, between, underCountOf, overCountOf}
+use Rattle.approximation.specs.Cut.{listOf, between, underCountOf, overCountOf}
+use Rattle.approximation.specs.Demand2.{Each, FirstPlace, ListVerdict}
 
 -- ---- a list
 
--- The first pointer that names no node; the first terminal in a list without the root, all of whose pointers name nodes.
-pub record Outside (w list : List ℕ) (i : ℕ) : Type 0 where
-  pub place : i < length list
-  pub here : size w ≤ getD list i 0
-  pub before : (j : ℕ) → j < i → getD list j 0 < size w
+-- Every pointer names a node; every pointer names a non-terminal.
+abbrev Inside : List ℕ → List ℕ → Type 0
+Inside w list = Each list (λ p. p < size w)
 
-pub record Ending (w list : List ℕ) (i : ℕ) : Type 0 where
-  pub inside : (j : ℕ) → j < length list → getD list j 0 < size w
-  pub rootless : listed list (root w) ≡ false
-  pub place : i < length list
-  pub here : getD list i 0 < 2
-  pub before : (j : ℕ) → j < i → 2 ≤ getD list j 0
-
--- All pointers name nodes, and no terminal is listed unless the root is.
-pub record Listable (w list : List ℕ) : Type 0 where
-  pub inside : (j : ℕ) → j < length list → getD list j 0 < size w
-  pub nodes : listed list (root w) ≡ false → (j : ℕ) → j < length list → 2 ≤ getD list j 0
+abbrev Nodes : List ℕ → List ℕ → Type 0
+Nodes w list = Each list (λ p. (2 ≤ p) × (p < size w))
 
 module _ (w list : List ℕ) where
-  abbrev out : ℕ
-  out = first (λ i. leb (size w) (getD list i 0)) 0 (length list)
+  abbrev beyond : ℕ → Bool
+  beyond i = leb (size w) (getD list i 0)
 
-  abbrev end : ℕ
-  end = first (λ i. ltb (getD list i 0) 2) 0 (length list)
+  abbrev terminal : ℕ → Bool
+  terminal i = ltb (getD list i 0) 2
 
-  out-none : ((j : ℕ) → j < length list → getD list j 0 < size w) → out ≡ length list
-  out-none inside = first-is (λ i. leb (size w) (getD list i 0)) 0 (length list) (length list) (omega arith) (omega arith)
+  out-none : Inside w list → first beyond 0 (length list) ≡ length list
+  out-none inside = first-is beyond 0 (length list) (length list) (omega arith) (omega arith)
       (λ j l h. lt-leb (size w) (getD list j 0) (inside j h)) (λ h. absurd (omega arith))
 
-  pub outside-refused : (i : ℕ) → Outside w list i → listOf w list ≡ refused 13 i
+  outside-refused : (i : ℕ) → FirstPlace list (λ p. size w ≤ p) i → listOf w list ≡ refused 13 i
   unfolding listOf row
   outside-refused i o =
       let place = o .place in
-      let at : out ≡ i = first-is (λ i. leb (size w) (getD list i 0)) 0 (length list) i (omega arith) (omega arith)
-      (λ j l h. lt-leb (size w) (getD list j 0) (o .before j h)) (λ h. le-leb (size w) (getD list i 0) (o .here)) in
+      let at : first beyond 0 (length list) ≡ i = first-is beyond 0 (length list) i (omega arith) (omega arith)
+      (λ j l h. lt-leb (size w) (getD list j 0) (let b = o .before j h in omega arith)) (λ h. le-leb (size w) (getD list i 0) (o .here)) in
       rw (at, lt-ltb i (length list) place) refl
 
-  pub ending-refused : (i : ℕ) → Ending w list i → listOf w list ≡ refused 14 i
+  terminal-refused : (i : ℕ) → Inside w list → FirstPlace list (λ p. p < 2) i → listOf w list ≡ refused 14 i
   unfolding listOf row
-  ending-refused i e =
+  terminal-refused i inside e =
       let place = e .place in
-      let at : end ≡ i = first-is (λ i. ltb (getD list i 0) 2) 0 (length list) i (omega arith) (omega arith)
-      (λ j l h. le-ltb (getD list j 0) 2 (e .before j h)) (λ h. lt-ltb (getD list i 0) 2 (e .here)) in
-      rw (out-none (e .inside), at, le-ltb (length list) (length list) (omega arith), e .rootless, lt-ltb i (length list) place) refl
+      let at : first terminal 0 (length list) ≡ i = first-is terminal 0 (length list) i (omega arith) (omega arith)
+      (λ j l h. le-ltb (getD list j 0) 2 (let b = e .before j h in omega arith)) (λ h. lt-ltb (getD list i 0) 2 (e .here)) in
+      rw (out-none inside, at, le-ltb (length list) (length list) (omega arith), lt-ltb i (length list) place) refl
 
-  pub listable-accepted : Listable w list → listOf w list ≡ accepted (size w) (vars w)
+  nodes-accepted : Nodes w list → listOf w list ≡ accepted (size w) (vars w)
   unfolding listOf row
-  listable-accepted a =
-      rw (out-none (a .inside), le-ltb (length list) (length list) (omega arith))
-      (by-test (listed list (root w))
-      (λ e. rw e refl)
-      (λ e.
-      let at : end ≡ length list = first-is (λ i. ltb (getD list i 0) 2) 0 (length list) (length list) (omega arith) (omega arith)
-      (λ j l h. le-ltb (getD list j 0) 2 (a .nodes e j h)) (λ h. absurd (omega arith)) in
-      rw (e, at, le-ltb (length list) (length list) (omega arith)) refl))
+  nodes-accepted nodes =
+      let at : first terminal 0 (length list) ≡ length list = first-is terminal 0 (length list) (length list) (omega arith) (omega arith)
+      (λ j l h. le-ltb (getD list j 0) 2 (nodes j h .0)) (λ h. absurd (omega arith)) in
+      rw (out-none (λ j h. nodes j h .1), at, le-ltb (length list) (length list) (omega arith)) refl
 
   -- One of the three holds.
-  pub by-list : {C : Type 0} → ((i : ℕ) → Outside w list i → C) → ((i : ℕ) → Ending w list i → C) → (Listable w list → C) → C
-  by-list {C} thirteen fourteen fine = elim (decLt out (length list)) [
-    | yes h ↦ thirteen out (record {
+  by-list : {C : Type 0} → ((i : ℕ) → FirstPlace list (λ p. size w ≤ p) i → C)
+      → ((i : ℕ) → Inside w list → FirstPlace list (λ p. p < 2) i → C) → (Nodes w list → C) → C
+  by-list {C} thirteen fourteen fine = elim (decLt (first beyond 0 (length list)) (length list)) [
+    | yes h ↦ thirteen (first beyond 0 (length list)) (record {
       place = h;
-      here = leb-true (size w) (getD list out 0) (first-passes (λ i. leb (size w) (getD list i 0)) 0 (length list) (omega arith));
-      before = λ j l. leb-false (size w) (getD list j 0) (first-least (λ i. leb (size w) (getD list i 0)) 0 (length list) j (omega arith) l);
+      here = leb-true (size w) (getD list (first beyond 0 (length list)) 0) (first-passes beyond 0 (length list) (omega arith));
+      before = λ j l p. let b = leb-false (size w) (getD list j 0) (first-least beyond 0 (length list) j (omega arith) l) in omega arith;
     })
-    | no h ↦ rest (λ j l. leb-false (size w) (getD list j 0)
-        (first-least (λ i. leb (size w) (getD list i 0)) 0 (length list) j (omega arith) (omega arith)))
+    | no h ↦ rest (λ j l. leb-false (size w) (getD list j 0) (first-least beyond 0 (length list) j (omega arith) (omega arith)))
   ]
     where
-      rest : ((j : ℕ) → j < length list → getD list j 0 < size w) → C
-      rest inside = by-test (listed list (root w))
-          (λ e. fine (record { inside = inside; nodes = λ d. absurd (not-both (listed list (root w)) e d) }))
-          (λ e. elim (decLt end (length list)) [
-            | yes h ↦ fourteen end (record {
-              inside = inside;
-              rootless = e;
-              place = h;
-              here = ltb-true (getD list end 0) 2 (first-passes (λ i. ltb (getD list i 0) 2) 0 (length list) (omega arith));
-              before = λ j l. ltb-false (getD list j 0) 2 (first-least (λ i. ltb (getD list i 0) 2) 0 (length list) j (omega arith) l);
-            })
-            | no h ↦ fine (record {
-              inside = inside;
-              nodes = λ d j l. ltb-false (getD list j 0) 2
-                  (first-least (λ i. ltb (getD list i 0) 2) 0 (length list) j (omega arith) (omega arith));
-            })
-          ])
+      rest : Inside w list → C
+      rest inside = elim (decLt (first terminal 0 (length list)) (length list)) [
+        | yes h ↦ fourteen (first terminal 0 (length list)) inside (record {
+          place = h;
+          here = ltb-true (getD list (first terminal 0 (length list)) 0) 2 (first-passes terminal 0 (length list) (omega arith));
+          before = λ j l p. let b = ltb-false (getD list j 0) 2 (first-least terminal 0 (length list) j (omega arith) l) in omega arith;
+        })
+        | no h ↦ fine (λ j l. (
+          ltb-false (getD list j 0) 2 (first-least terminal 0 (length list) j (omega arith) (omega arith)),
+          inside j l,
+        ))
+      ]
 
   -- So each outcome is given exactly then.
-  pub list-accepted : listOf w list ≡ accepted (size w) (vars w) → Listable w list
-  list-accepted e = by-list
-      (λ i o. let x = outside-refused i o in let z : _≡_ {A = ℕ} 0 1 = cc in absurd (omega arith))
-      (λ i o. let x = ending-refused i o in let z : _≡_ {A = ℕ} 0 1 = cc in absurd (omega arith))
+  pub list-accepted : (n v : ℕ) → listOf w list ≡ accepted n v → Nodes w list
+  list-accepted n v e = by-list
+      (λ i o. absurd (never-both (outside-refused i o) e))
+      (λ i inside o. absurd (never-both (terminal-refused i inside o) e))
       (λ a. a)
+
+  thirteen-is : (i : ℕ) → listOf w list ≡ refused 13 i → FirstPlace list (λ p. size w ≤ p) i
+  thirteen-is i e = by-list
+      (λ j o. subst (FirstPlace list (λ p. size w ≤ p)) (same-refusal (outside-refused j o) e .1) o)
+      (λ j inside o. let s = same-refusal (terminal-refused j inside o) e .0 in absurd (omega arith))
+      (λ a. absurd (never-both e (nodes-accepted a)))
+
+  fourteen-is : (i : ℕ) → listOf w list ≡ refused 14 i → Inside w list × FirstPlace list (λ p. p < 2) i
+  fourteen-is i e = by-list
+      (λ j o. let s = same-refusal (outside-refused j o) e .0 in absurd (omega arith))
+      (λ j inside o. (inside, subst (FirstPlace list (λ p. p < 2)) (same-refusal (terminal-refused j inside o) e .1) o))
+      (λ a. absurd (never-both e (nodes-accepted a)))
+
+  refused-is : (number place : ℕ) → listOf w list ≡ refused number place → (number ≡ 13) ⊎ (number ≡ 14)
+  refused-is number place e = by-list
+      (λ j o. inl (sym (same-refusal (outside-refused j o) e .0)))
+      (λ j inside o. inr (sym (same-refusal (terminal-refused j inside o) e .0)))
+      (λ a. absurd (never-both e (nodes-accepted a)))
+
+none-listed : (list : List ℕ) → (0 < length list → ⊥) → list ≡ []
+none-listed [] h = refl
+none-listed (p ∷ list) h = absurd (h (omega arith))
+
+pub list-verdict : (w list : List ℕ) → ListVerdict w list
+list-verdict w list = record {
+  accepts = λ n v. (
+    (λ e.
+        let nodes = list-accepted w list n v e in
+        let same = same-counts e (nodes-accepted w list nodes) in
+        (nodes, same .0, same .1)),
+    (λ a. rw (a .1, a .2) (nodes-accepted w list (a .0))),
+  );
+  refuses = refused-is w list;
+  thirteen = λ i. (thirteen-is w list i, outside-refused w list i);
+  fourteen = λ i. (fourteen-is w list i, λ a. terminal-refused w list i (a .0) (a .1));
+  constants = λ few e. none-listed list (λ some.
+      let node = list-accepted w list (size w) (vars w) e 0 some in
+      omega arith);
+}
 
 -- ---- a count target
 
@@ -157,22 +179,13 @@ module _ (w : List ℕ) (k : ℕ) where
   -- An acceptance tells that the target is not strictly between 0 and 2^v where the array has two nodes (under), or one
   -- (over), and that it is not above 2^v (over).
   pub under-accepted-open : underCountOf w k ≡ accepted (size w) (vars w) → size w ≡ 2 → 0 < k → k < 2 ^ vars w → ⊥
-  under-accepted-open e n a b =
-      let x = under-refused-19 n a b in
-      let z : _≡_ {A = ℕ} 0 1 = cc in
-      omega arith
+  under-accepted-open e n a b = never-both (under-refused-19 n a b) e
 
   pub over-accepted-open : overCountOf w k ≡ accepted (size w) (vars w) → size w ≡ 1 → 0 < k → k < 2 ^ vars w → ⊥
-  over-accepted-open e n a b =
-      let x = over-refused-19 n a b in
-      let z : _≡_ {A = ℕ} 0 1 = cc in
-      omega arith
+  over-accepted-open e n a b = never-both (over-refused-19 n a b) e
 
   pub over-accepted-most : overCountOf w k ≡ accepted (size w) (vars w) → k ≤ 2 ^ vars w
   over-accepted-most e = elim (decLt (2 ^ vars w) k) [
-    | yes h ↦
-        let x = over-refused-16 h in
-        let z : _≡_ {A = ℕ} 0 1 = cc in
-        absurd (omega arith)
+    | yes h ↦ absurd (never-both (over-refused-16 h) e)
     | no h ↦ omega arith
   ]

@@ -4,11 +4,11 @@
 -- proofs/Send.antt.
 use Prim.Native.Nat.{ℕ, _^_}
 use mathlib.Core.Path.{_≡_}
-use mathlib.Core.Bool.{Bool, true, false, cond, not, _&&_, _||_}
+use mathlib.Core.Bool.{Bool, true, false, cond, _&&_, _||_}
 use mathlib.Core.List.{List, [], _∷_}
 use lib.ListN.{length, getD}
 use lib.Dec.{leb, ltb, eqb}
-use Rattle.diagram.specs.Diagram.{size, vars, root, holds, Accepted}
+use Rattle.diagram.specs.Diagram.{size, vars, holds, Accepted}
 use Rattle.diagram.specs.Valuations.{meets}
 use Rattle.diagram.specs.Verdict.{Outcome, accepted, row, first}
 use Rattle.reduction.specs.Reduce.{reduced}
@@ -36,14 +36,14 @@ underBy w list = cut w (listed list) 0
 abbrev pub overBy : List ℕ → List ℕ → List ℕ
 overBy w list = cut w (listed list) 1
 
--- 13 and 14: the first place of a pointer that names no node; the first place of a terminal, if the root isn't listed.
--- These checks come after those of the words.
+-- 13 and 14: the first place of a pointer that names no node; the first place of a terminal, whether or not the root is
+-- listed (document 02, E10). These checks come after those of the words.
 unfoldable pub listOf : List ℕ → List ℕ → Outcome
 listOf w list =
     let out = first (λ i. leb (size w) (getD list i 0)) 0 (length list) in
     let end = first (λ i. ltb (getD list i 0) 2) 0 (length list) in
     row 13 (ltb out (length list)) out
-    (row 14 (not (listed list (root w)) && ltb end (length list)) end
+    (row 14 (ltb end (length list)) end
     (accepted (size w) (vars w)))
 
 -- 16 and 19: no overapproximation has more than 2^v valuations; from a constant by array length nothing is left to cut.

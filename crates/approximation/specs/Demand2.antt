@@ -2,20 +2,39 @@
 -- answer only for valuations whose path meets a listed node; under makes all of these fail, over makes all of them hold.
 use Prim.Native.Nat.{ℕ, _+_, _≤_, _<_}
 use mathlib.Core.Path.{_≡_}
-use mathlib.Core.Logic.{_↔_}
+use mathlib.Core.Logic.{_↔_, _⊎_}
 use mathlib.Core.Bool.{Bool, true, false, _&&_}
 use mathlib.Core.List.{List, []}
-use lib.ListN.{length}
+use lib.ListN.{length, getD}
 use lib.Dec.{leb, ltb}
 use Rattle.diagram.specs.Diagram.{size, vars, root, holds, Accepted}
 use Rattle.diagram.specs.Valuations.{meets, countOf, weightOf}
-use Rattle.diagram.specs.Verdict.{accepted}
+use Rattle.diagram.specs.Verdict.{accepted, refused}
 use Rattle.reduction.specs.Reduce.{reduce}
 use Rattle.approximation.specs.Constants.{falseOf, trueOf}
-use Rattle.approximation.specs.Cut.{listed, underBy, overBy, underCountOf, overCountOf, Under, Over, send}
+use Rattle.approximation.specs.Cut.{listed, underBy, overBy, listOf, underCountOf, overCountOf, Under, Over, send}
 use Rattle.approximation.specs.Search.{Answer, goesFirst, order, underToSize, overToSize, underToCount, overToCount}
 use Rattle.approximation.specs.Sorted.{Distinct, Sorted}
 use Rattle.approximation.specs.Rules.{UnderSize, OverSize, UnderCount, OverCount}
+
+-- Every pointer of a list has a property; the one at place i has it, and none before it.
+abbrev pub Each : List ℕ → (ℕ → Type 0) → Type 0
+Each list P = (j : ℕ) → j < length list → P (getD list j 0)
+
+pub record FirstPlace (list : List ℕ) (P : ℕ → Type 0) (i : ℕ) : Type 0 where
+  pub place : i < length list
+  pub here : P (getD list i 0)
+  pub before : (j : ℕ) → j < i → P (getD list j 0) → ⊥
+
+-- What refuses a list: a pointer that names no node, then a terminal, each at its first place. Document 02, E10, has taken
+-- 01's exception away: a listed root saves no terminal, also where it is itself the terminal.
+pub record ListVerdict (w list : List ℕ) : Type 0 where
+  pub accepts : (n v : ℕ) → (listOf w list ≡ accepted n v) ↔ (Each list (λ p. (2 ≤ p) × (p < size w)) × (n ≡ size w) × (v ≡ vars w))
+  pub refuses : (number place : ℕ) → listOf w list ≡ refused number place → (number ≡ 13) ⊎ (number ≡ 14)
+  pub thirteen : (i : ℕ) → (listOf w list ≡ refused 13 i) ↔ FirstPlace list (λ p. size w ≤ p) i
+  pub fourteen : (i : ℕ) → (listOf w list ≡ refused 14 i) ↔ (Each list (λ p. p < size w) × FirstPlace list (λ p. p < 2) i)
+  -- so of one or two nodes, whose root is a terminal, only the empty list isn't refused
+  pub constants : size w ≤ 2 → listOf w list ≡ accepted (size w) (vars w) → list ≡ []
 
 -- By a list.
 pub record ByList (w list : List ℕ) : Type 0 where
@@ -29,14 +48,17 @@ pub record ByList (w list : List ℕ) : Type 0 where
   -- reducing changes no word
   pub reduced : (reduce (underBy w list) ≡ underBy w list) × (reduce (overBy w list) ≡ overBy w list)
   -- document 01's way: links to listed nodes are sent to 0 or to 1, then it is reduced; a listed root gives false or true
+  -- (01 had it so with terminals beside it too; such a list is refused 14 now)
   pub sent : listed list (root w) ≡ false
       → (underBy w list ≡ reduce (send (listed list) 0 w)) × (overBy w list ≡ reduce (send (listed list) 1 w))
   pub rooted : listed list (root w) ≡ true → (underBy w list ≡ falseOf (vars w)) × (overBy w list ≡ trueOf (vars w))
   -- repeats are harmless: only members count
   pub members : (others : List ℕ) → ((p : ℕ) → listed list p ≡ listed others p)
       → (underBy w list ≡ underBy w others) × (overBy w list ≡ overBy w others)
-  -- each non-terminal that is listed, the root not among them, is a node less
-  pub smaller : Distinct list → ((p : ℕ) → listed list p ≡ true → (2 ≤ p) × (p < root w))
+  -- of a list that isn't refused: no node is added, and each listed node is a node less, also the root. Under 01's rules
+  -- a constant's root could be listed, and the root was an exception here: false by [0] gave true, in two nodes
+  pub fits : listOf w list ≡ accepted (size w) (vars w) → (size (underBy w list) ≤ size w) × (size (overBy w list) ≤ size w)
+  pub smaller : listOf w list ≡ accepted (size w) (vars w) → Distinct list
       → (size (underBy w list) + length list ≤ size w) × (size (overBy w list) + length list ≤ size w)
 
 -- The priorities: every non-terminal once, smallest weight first, then biggest pointer first. No other list is so.
@@ -46,6 +68,7 @@ pub record Priorities (w list : List ℕ) : Type 0 where
   pub nodes : (p : ℕ) → listed list p ≡ (leb 2 p && ltb p (size w))
 
 pub record Demand2 : Type 0 where
+  pub list-verdict : (w list : List ℕ) → ListVerdict w list
   pub by-list : (w list : List ℕ) → Accepted w → ByList w list
   pub empty : (w : List ℕ) → (underBy w [] ≡ reduce w) × (overBy w [] ≡ reduce w)
   pub priorities : (w : List ℕ) → Priorities w (order w)

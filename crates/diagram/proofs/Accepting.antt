@@ -16,16 +16,14 @@ use Rattle.diagram.specs.declared.verdict.Output.{Output}
 use Rattle.diagram.specs.declared.verdict.Verdict.{Verdict}
 use Rattle.diagram.specs.declared.verdict.Verdict.the-variants.{Accepted, Refused}
 use Rattle.diagram.proofs.Tests.{by-test, and-both, cond-true, cond-false}
+use Rattle.diagram.proofs.Outcomes.{never-both}
 use Rattle.diagram.proofs.Count.{first-least}
 use Rattle.diagram.proofs.Faulty.{ranges-by}
-
-never : (n v k p : ℕ) → refused k p ≡ accepted n v → ⊥
-never n v k p e = let z : _≡_ {A = ℕ} 0 1 = cc in omega arith
 
 -- a row that accepts: its test failed, and the rows below accept
 pub row-passed : (k : ℕ) (t : Bool) (p : ℕ) (below : Outcome) (n v : ℕ) → row k t p below ≡ accepted n v → (t ≡ false) × (below ≡ accepted n v)
 unfolding row
-row-passed k true p below n v e = absurd (never n v k p e)
+row-passed k true p below n v e = absurd (never-both refl e)
 row-passed k false p below n v e = (refl, e)
 
 -- what the lengths tell

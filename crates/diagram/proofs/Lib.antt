@@ -1,6 +1,7 @@
 -- Laws that belong to no one function.
 --     Words       words of a slice that a loop has passed
 --     Tests       by cases on a test
+--     Outcomes    an outcome is one
 --     Count       counting the numbers that pass a test; some number does; the first that does
 --     Reading     the path level by level
 --     Tally       counting the lists of bits that pass a test
@@ -17,6 +18,7 @@
 --     Parents     an acceptance without a search
 pub mod Words
 pub mod Tests
+pub mod Outcomes
 pub mod Count
 pub mod Reading
 pub mod Tally

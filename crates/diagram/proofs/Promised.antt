@@ -10,6 +10,7 @@ use Rattle.diagram.specs.Diagram.{size, vars, Formed, Accepted}
 use Rattle.diagram.specs.Verdict.{Outcome, accepted, refused, row, andThen, roomOf, short, lengthsOf, terminalsOf, rangesFrom, rangesOf, graphOf, contentsOf, verdictOf, cleared, roomAfter}
 use Rattle.diagram.specs.Demand1.{Lent, Smallest, Broken, ByLow, ByHighAlone, NoneBroken, Lost, Demand1}
 use Rattle.diagram.specs.declared.verdict.Output.{Output}
+use Rattle.diagram.proofs.Outcomes.{same-refusal, never-both}
 use Rattle.diagram.proofs.Accepting.{lengths-accepted, lent-accepted, terminals-accepted, ranges-accepted}
 use Rattle.diagram.proofs.Meaning.{refused-11, refused-17, refused-12, verdict-accepted, accepted-verdict, accepted-lengths, accepted-terminals, accepted-ranges}
 
@@ -19,7 +20,7 @@ abbrev Gives : (ℕ → Type 0) → Outcome → Type 0
 Gives P o = (k p : ℕ) → o ≡ refused k p → P k
 
 accepted-gives : (P : ℕ → Type 0) (n v : ℕ) → Gives P (accepted n v)
-accepted-gives P n v k p e = let z : _≡_ {A = ℕ} 0 1 = cc in absurd (omega arith)
+accepted-gives P n v k p e = absurd (never-both e refl)
 
 row-gives : (P : ℕ → Type 0) (k : ℕ) (t : Bool) (p : ℕ) {below : Outcome} → P k → Gives P below → Gives P (row k t p below)
 unfolding row
@@ -118,15 +119,12 @@ module _ (w : List ℕ) (o : Output) (room : ℕ) where
   unfolding verdictOf contentsOf
   formed-verdict f l = rw (accepted-lengths w o room f (l .output-long) (l .room-long), accepted-terminals w f, accepted-ranges w f)
 
-  same-number : {k p j q : ℕ} → verdictOf w o room ≡ refused k p → verdictOf w o room ≡ refused j q → k ≡ j
-  same-number {k} {p} {j} {q} a b = let c : refused k p ≡ refused j q = sym a ∙ b in cc
-
   -- 11, 12 and 17 come from the graph
   from-graph : (k p : ℕ) → 11 ≤ k → verdictOf w o room ≡ refused k p → Formed w × Lent w o room × (graphOf w ≡ refused k p)
   from-graph k p l e =
       by-part
-      (λ j q a d m. let s = same-number d e in absurd (omega arith))
-      (λ j q d m n. let s = same-number d e in absurd (omega arith))
+      (λ j q a d m. let s = same-refusal d e .0 in absurd (omega arith))
+      (λ j q d m n. let s = same-refusal d e .0 in absurd (omega arith))
       (λ f g d. (f, g, sym d ∙ e))
 
   -- so they are given exactly then
@@ -146,8 +144,8 @@ module _ (w : List ℕ) (o : Output) (room : ℕ) where
   refuses-is : (k p : ℕ) → verdictOf w o room ≡ refused k p → Between 1 12 k ⊎ (k ≡ 17)
   refuses-is k p e =
       by-part
-      (λ j q a d m. let s = same-number d e in let i = lengths-give w o room j q a in inl (omega (arith, i .0), omega (arith, i .1)))
-      (λ j q d m n. let s = same-number d e in inl (omega arith, omega arith))
+      (λ j q a d m. let s = same-refusal d e .0 in let i = lengths-give w o room j q a in inl (omega (arith, i .0), omega (arith, i .1)))
+      (λ j q d m n. let s = same-refusal d e .0 in inl (omega arith, omega arith))
       (λ f g d. ⊎-elim (λ i. inl (omega (arith, i .0), omega (arith, i .1))) inr (graph-gives w k p (sym d ∙ e)))
 
 -- ---- the room
@@ -167,18 +165,18 @@ module _ (w : List ℕ) (o : Output) (room : List ℕ) where
   room-kept-is k p e l =
       by-part w o (length room)
       (λ j q a d m. kept-by j q a)
-      (λ j q d m n. let s = same-number w o (length room) d e in absurd (omega arith))
+      (λ j q d m n. let s = same-refusal d e .0 in absurd (omega arith))
       (λ f g d. let i = graph-beyond w k p (sym d ∙ e) in absurd (omega arith))
 
   room-cleared-is : (k p : ℕ) → verdictOf w o (length room) ≡ refused k p → 5 < k → roomAfter w o room ≡ cleared w room
   room-cleared-is k p e l =
       by-outcome (lengthsOf w o (length room)) cleared-by
-      (λ j q a. let s = same-number w o (length room) (lengths-first j q a) e in let i = lengths-give w o (length room) j q a in absurd (omega (arith, i .1)))
+      (λ j q a. let s = same-refusal (lengths-first j q a) e .0 in let i = lengths-give w o (length room) j q a in absurd (omega (arith, i .1)))
 
   room-answered-is : (n v : ℕ) → verdictOf w o (length room) ≡ accepted n v → roomAfter w o room ≡ cleared w room
   room-answered-is n v e =
       by-outcome (lengthsOf w o (length room)) cleared-by
-      (λ j q a. let c : refused j q ≡ accepted n v = sym (lengths-first j q a) ∙ e in let z : _≡_ {A = ℕ} 0 1 = cc in absurd (omega arith))
+      (λ j q a. absurd (never-both (lengths-first j q a) e))
 
 pub demand1 : Demand1
 demand1 =

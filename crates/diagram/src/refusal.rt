@@ -39,7 +39,7 @@ pub const UNREACHABLE: u32 = 12;
 // A listed pointer names no node.
 pub const BAD_POINTER: u32 = 13;
 
-// A terminal is listed and the root isn't.
+// A terminal is listed.
 pub const LISTED_TERMINAL: u32 = 14;
 
 // The weights of the diagram of one node.

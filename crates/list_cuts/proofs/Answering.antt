@@ -21,7 +21,7 @@ use Rattle.reduction.specs.Room.{Copied}
 use Rattle.reduction.proofs.Answering.{copied-front}
 use Rattle.approximation.specs.Cut.{cut, listed, listOf}
 use Rattle.approximation.proofs.Cut.{cut-same}
-use Rattle.approximation.proofs.Listing.{Listable, by-list, outside-refused, ending-refused}
+use Rattle.approximation.proofs.Listing.{list-accepted}
 use Rattle.cuts.proofs.Rooms.{zeros-back, drop-more}
 use Rattle.cuts.proofs.Cutting.{within-most}
 use Rattle.cuts.specs.Marks.{markedIn, Markable, Marked, Cutting, CutIn, CutWithin}
@@ -121,13 +121,6 @@ module _ {w list : List ℕ} {t : ℕ} {r out : List ℕ} {n v : ℕ} (a : Listi
 
 -- ---- the verdicts
 
--- An acceptance of a list has the diagram's own counts.
-listable : (w list : List ℕ) (n v : ℕ) → listOf w list ≡ accepted n v → Listable w list
-listable w list n v e = by-list w list
-    (λ i o. let x = outside-refused w list i o in let z : _≡_ {A = ℕ} 0 1 = cc in absurd (omega arith))
-    (λ i o. let x = ending-refused w list i o in let z : _≡_ {A = ℕ} 0 1 = cc in absurd (omega arith))
-    (λ a. a)
-
 module _ {w : List ℕ} (list : List ℕ) (t : ℕ) {room room′ : List ℕ} (out : List ℕ) {verdict : Verdict} (checked : Checked w (Diagram (length out)) room room′ verdict) where
   abbrev result : List ℕ
   result = cut w (listed list) t
@@ -136,14 +129,6 @@ module _ {w : List ℕ} (list : List ℕ) (t : ℕ) {room room′ : List ℕ} (o
   check-refuses e = builds-refused (cutVerdict w list) result out (checked .left) e (rw (refusal-is checked e) refl)
 
   module _ {n v : ℕ} (e : verdict ≡ Yes n v) where
-    pub list-few : (0 < n) × (n ≤ maxNodes)
-    list-few =
-        let is = admitted checked e .nodes in
-        let f = accepted-ordered w (admitted checked e .accepted) .formed in
-        let few = f .few in
-        let some = f .some in
-        (omega arith, omega arith)
-
     module _ (l : Verdict) (says : (w : List ℕ) → n ≡ size w → v ≡ vars w → said l ≡ listOf w list) where
       -- the check accepts: the verdict is what the list's checks say
       listing-is : cutVerdict w list (length room) (length out) ≡ said l
@@ -156,13 +141,13 @@ module _ {w : List ℕ} (list : List ℕ) (t : ℕ) {room room′ : List ℕ} (o
         pub list-given : t < 2 → Listing w list t room′ out n v
         list-given terminal =
             let given = admitted checked e in
-            let fine = listable w list n′ v′ (sym (says w (given .nodes) (given .variables)) ∙ ap said f) in
+            let nodes = list-accepted w list n′ v′ (sym (says w (given .nodes) (given .variables)) ∙ ap said f) in
             record {
               accepted = given .accepted;
               is-size = given .nodes;
               is-vars = given .variables;
               terminal = terminal;
-              inside = fine .inside;
+              inside = λ j h. nodes j h .1;
               long = lent-fits checked e (roomOf w) (omega arith);
               zero = lent-word checked e (roomOf w) (omega arith);
               output = lent-enough w (length out) (given .lent);

@@ -1,15 +1,13 @@
 -- What the checks of a list say.
-use Prim.Native.Nat.{ℕ, _-_, _≤_, _<_}
+use Prim.Native.Nat.{ℕ, _≤_, _<_}
 use mathlib.Core.Path.{_≡_, refl, sym, ap, _∙_}
-use mathlib.Core.Bool.{Bool, true, false, and-false}
 use mathlib.Core.List.{List}
-use native.Mathlib.Omega.{arith}
 use lib.ListN.{length, getD}
 use lib.Dec.{leb, ltb}
 use borrow.Author.Tests.{lt-ltb, le-ltb}
-use Rattle.diagram.specs.Diagram.{size, vars, root}
-use Rattle.diagram.specs.Verdict.{Outcome, accepted, refused, row, first}
-use Rattle.approximation.specs.Cut.{listed, listOf}
+use Rattle.diagram.specs.Diagram.{size, vars}
+use Rattle.diagram.specs.Verdict.{accepted, refused, row, first}
+use Rattle.approximation.specs.Cut.{listOf}
 
 module _ (w list : List ℕ) {n : ℕ} (is-n : n ≡ size w) {out : ℕ} (is-out : out ≡ first (λ i. leb n (getD list i 0)) 0 (length list)) where
   out-is : first (λ i. leb (size w) (getD list i 0)) 0 (length list) ≡ out
@@ -20,18 +18,10 @@ module _ (w list : List ℕ) {n : ℕ} (is-n : n ≡ size w) {out : ℕ} (is-out
   says-13 h = rw (out-is, lt-ltb out (length list) h) refl
 
   module _ (none : length list ≤ out) {end : ℕ} (is-end : end ≡ first (λ i. ltb (getD list i 0) 2) 0 (length list)) where
-    module _ {b : Bool} {p : ℕ} (is-p : p ≡ n - 1) (is-b : b ≡ listed list p) where
-      rooted : (c : Bool) → b ≡ c → listed list (root w) ≡ c
-      rooted c e = ap (λ (q : ℕ). listed list q) (sym (is-p ∙ ap (λ (k : ℕ). k - 1) is-n)) ∙ sym is-b ∙ e
-
-      pub says-14 : end < length list → b ≡ false → refused 14 end ≡ listOf w list
-      unfolding listOf row
-      says-14 h e = rw (out-is, le-ltb out (length list) none, sym is-end, rooted false e, lt-ltb end (length list) h) refl
-
-      pub says-rooted : {v : ℕ} → v ≡ vars w → b ≡ true → accepted n v ≡ listOf w list
-      unfolding listOf row
-      says-rooted e t = rw (out-is, le-ltb out (length list) none, sym is-end, rooted true t, is-n, e) refl
+    pub says-14 : end < length list → refused 14 end ≡ listOf w list
+    unfolding listOf row
+    says-14 h = rw (out-is, le-ltb out (length list) none, sym is-end, lt-ltb end (length list) h) refl
 
     pub says-fine : {v : ℕ} → v ≡ vars w → length list ≤ end → accepted n v ≡ listOf w list
     unfolding listOf row
-    says-fine e h = rw (out-is, le-ltb out (length list) none, sym is-end, le-ltb end (length list) h, and-false, is-n, e) refl
+    says-fine e h = rw (out-is, le-ltb out (length list) none, sym is-end, le-ltb end (length list) h, is-n, e) refl

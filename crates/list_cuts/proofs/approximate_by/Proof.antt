@@ -1,5 +1,5 @@
 use denote.Ref.{now}
-use Rattle.list_cuts.proofs.Answering.{check-refuses, list-few, list-refuses, list-given, list-answered}
+use Rattle.list_cuts.proofs.Answering.{check-refuses, list-refuses, list-given, list-answered}
 use borrow.Author.Needs.{needs}
 use Rattle.list_cuts.proofs.approximate_by.Statement.{statement}
 use Rattle.list_cuts.proofs.approximate_by.Tie as tie
@@ -20,7 +20,7 @@ returns : tie.Need-returns
 returns c = check-refuses (now (c .before .before .before .before .before .before .before .before .before .before .args .list)) (c .before .before .before .before .before .before .before .before .before .before .args .target .0) (now (c .before .before .before .before .before .before .before .before .before .before .args .output)) (c .before .before .before .before .admit .ensures) (c .enum-told .given .1)
 
 listing-requires : tie.Need-listing-requires
-listing-requires c κs = list-few (now (c .before .before .before .before .before .before .before .before .before .before .before .args .list)) (c .before .before .before .before .before .before .before .before .before .before .before .args .target .0) (now (c .before .before .before .before .before .before .before .before .before .before .before .args .output)) (c .before .before .before .before .before .admit .ensures) (c .before .verdict .given .1)
+listing-requires c κs = search needs
 
 enum-told-2 : tie.Need-enum-told-2
 enum-told-2 c = search needs
