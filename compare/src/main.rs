@@ -51,16 +51,21 @@ fn words(random: &mut Random, most: usize) -> (Vec<u32>, usize, bool) {
 fn list(random: &mut Random, n: usize) -> Vec<u32> {
     let n = n.max(1);
     let len = match random.below(6) {
+        0..=3 if n < 3 => 0,
         0 => 0,
         1..=3 => random.from_to(1, 4),
         4 => random.from_to(1, n),
         _ => random.from_to(1, n.min(40)),
     };
-    // mostly nodes that may be listed
-    let from = if n > 3 { 2 } else { 0 };
-    let to = if n > 3 { n - 2 } else { n - 1 };
-    let mut list: Vec<u32> = (0..len).map(|_| random.from_to(from, to.max(from)) as u32).collect();
-    for _ in 0..random.below(6) / 2 {
+    // mostly nodes that may be listed; of one and two nodes there are none
+    let (from, to) = match n {
+        1 | 2 => (0, n - 1),
+        3 => (2, 2),
+        _ => (2, n - 2),
+    };
+    let mut list: Vec<u32> = (0..len).map(|_| random.from_to(from, to) as u32).collect();
+    // now and then what may not, and the root: one or two, so that a terminal stands beside the root too
+    for _ in 0..random.pick(&[0, 0, 0, 1, 1, 2]) {
         if !list.is_empty() {
             let at = random.below(list.len());
             list[at] = random.pick(&[0, 1, n as u32 - 1, n as u32 - 1, n as u32, u32::MAX, list[0]]);
