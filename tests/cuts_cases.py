@@ -1,11 +1,11 @@
 """Writes crates/cuts_run/stdin and stdout: requests to cut, and their answers.
 
-    python3 tests/cuts_cases.py          has the Rust text answer all that document 01 does not refuse (cargo, and Debian's
+    python3 tests/cuts_cases.py          has the Rust text answer all that the rules don't refuse (cargo, and Debian's
                                          librust-num-bigint-dev, as for bench/run.sh), holds every answer to the reading of 01
                                          below, and writes both files
     python3 tests/cuts_cases.py check    holds the stored files to the reading of 01, without the Rust
 
-Refusals, and what is left in output and room, come from 01 alone; nodes, trials and words from the Rust text
+Refusals, and what is left in output and room, come from the papers alone (docs/RULES.md); nodes, trials and words from the Rust text
 (bench/rust_text/examples/stored_cuts.rs, which says how trials are counted). The reading cuts nodes of dictionaries and
 reduces by recursion; weights come from chances (weights_cases.py)."""
 import glob

@@ -1,5 +1,5 @@
 //! Answers the cuts of standard input with the Rust text, a line for each: nodes, trials, and the words of the answer.
-//! tests/cuts_cases.py writes what crates/cuts_run stores with it, and asks only what document 01 does not refuse.
+//! tests/cuts_cases.py writes what crates/cuts_run stores with it, and asks only what the rules don't refuse.
 //! A request is a line: the letter of the operation (u, o by a list; s, t to a size; c, d to a count; the first of each pair
 //! from below, the other from above), how many words the list or the target has, these words, and the words of the diagram.
 //!

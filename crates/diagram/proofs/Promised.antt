@@ -7,7 +7,7 @@ use mathlib.Core.List.{List}
 use native.Mathlib.Omega.{arith}
 use lib.ListN.{length}
 use Rattle.diagram.specs.Diagram.{size, vars, Formed, Accepted}
-use Rattle.diagram.specs.Verdict.{Outcome, accepted, refused, row, andThen, roomOf, short, lengthsOf, terminalsOf, rangesFrom, rangesOf, graphOf, contentsOf, verdictOf, cleared, roomAfter}
+use Rattle.diagram.specs.Verdict.{Outcome, accepted, refused, row, lengthsOf, terminalsOf, rangesFrom, rangesOf, graphOf, contentsOf, verdictOf, cleared, roomAfter}
 use Rattle.diagram.specs.Demand1.{Lent, Smallest, Broken, ByLow, ByHighAlone, NoneBroken, Lost, Demand1}
 use Rattle.diagram.specs.declared.verdict.Output.{Output}
 use Rattle.diagram.proofs.Outcomes.{same-refusal, never-both}

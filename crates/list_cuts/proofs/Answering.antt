@@ -4,13 +4,11 @@ use mathlib.Core.Path.{_≡_, refl, sym, ap, _∙_}
 use mathlib.Core.Bool.{not, _||_}
 use mathlib.Core.List.{List, _++_}
 use native.Mathlib.Omega.{arith}
-use native.Mathlib.Decide.{decLt}
-use lib.ListN.{length, getD, take, drop, replicate, length-drop, length-append, length-replicate, getD-replicate, take-append-drop}
-use lib.Seq.{getD-take, ext-getD, drop-drop, length-take-le}
+use lib.ListN.{length, take, drop, replicate, take-append-drop}
 use lib.Dec.{eqb}
 use Rattle.diagram.specs.Limits.{maxNodes}
-use Rattle.diagram.specs.Diagram.{size, vars, root, Accepted}
-use Rattle.diagram.specs.Verdict.{accepted, said, most, roomOf, Checked}
+use Rattle.diagram.specs.Diagram.{size, vars}
+use Rattle.diagram.specs.Verdict.{said, most, roomOf, Checked}
 use Rattle.diagram.specs.declared.verdict.Verdict.{Verdict}
 use Rattle.diagram.specs.declared.verdict.Verdict.the-variants.{Accepted as Yes, Refused as No}
 use Rattle.diagram.specs.declared.verdict.Output.the-variants.{Diagram}
