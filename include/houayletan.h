@@ -158,7 +158,7 @@ HouayletanDiagram houayletan_not(const uint32_t *words, size_t words_len, uint32
 
 /* Cuts by a list of node pointers: links to listed nodes go to 0 (under) or to 1 (over), then the diagram is reduced. A
  * listed root gives false or true. Repeats are harmless, the empty list reduces. Refusals: the diagram's own, then 13 and 14:
- * a terminal is never listed, also where it is the root, so of one or two nodes only the empty list is taken. */
+ * a terminal may not be listed, also where it is the root, so of one or two nodes only the empty list is taken. */
 HouayletanDiagram houayletan_underapproximate(const uint32_t *words, size_t words_len, const uint32_t *list, size_t list_len,
                                               uint32_t *room, size_t room_len, uint32_t *output, size_t output_len);
 HouayletanDiagram houayletan_overapproximate(const uint32_t *words, size_t words_len, const uint32_t *list, size_t list_len,
