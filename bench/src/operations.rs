@@ -2,7 +2,7 @@
 use crate::limits::{COUNT_WORDS, ROOM_PER_NODE};
 use crate::ours;
 use num_bigint::BigUint;
-use rust_text::Bdd;
+use rust_text::{Bdd, BddPointer};
 use std::hint::black_box;
 
 /// What the caller lends to ours, made once. The room is zero at the start and left zero by every call; the output is
@@ -18,10 +18,15 @@ impl Lent {
     }
 }
 
-/// A diagram in both forms, with the targets of the cuts.
+/// Of the non-terminals but the root, one in so many is in the list that a diagram is cut by: few enough to leave most of it.
+const LISTED_ONE_IN: usize = 64;
+
+/// A diagram in both forms, with the list and the targets of the cuts.
 pub struct Case {
     pub words: Vec<u32>,
     pub bdd: Bdd,
+    pub list: Vec<u32>,
+    pub pointers: Vec<BddPointer>,
     pub half_count: BigUint,
     pub under_count: BigUint,
     /// Half of the valuations that the diagram doesn't hold for, besides its own.
@@ -33,7 +38,9 @@ impl Case {
         let bdd = Bdd::from_words(&words);
         let count = if operation.targets { bdd.exact_cardinality() } else { BigUint::from(1u32) };
         let half_over = (&count + (BigUint::from(1u32) << words[0])) / 2u32;
-        Case { words, bdd, half_count: &count / 2u32, under_count: count - 1u32, half_over }
+        let list: Vec<u32> = (2..words.len() as u32 / 3 - 1).step_by(LISTED_ONE_IN).collect();
+        let pointers = list.iter().map(|p| BddPointer::from_index(*p as usize)).collect();
+        Case { words, bdd, list, pointers, half_count: &count / 2u32, under_count: count - 1u32, half_over }
     }
     pub fn nodes(&self) -> usize {
         self.words.len() / 3
@@ -57,7 +64,7 @@ pub struct Operation {
     pub compare: fn(&Case, &mut Lent),
 }
 
-pub const OPERATIONS: [Operation; 12] = [
+pub const OPERATIONS: [Operation; 14] = [
     Operation {
         name: "validate",
         targets: false,
@@ -126,6 +133,34 @@ pub const OPERATIONS: [Operation; 12] = [
             let (room, output) = c.lent(lent, 3);
             let made = ours::reduce(&c.words, room, output);
             assert_eq!(&output[..3 * made.nodes], c.bdd.and(&c.bdd).to_words());
+        },
+    },
+    Operation {
+        name: "underapproximate",
+        targets: false,
+        rust: |c| _ = black_box(c.bdd.underapproximate(&c.pointers)),
+        ours: Some(|c, lent| {
+            let (room, output) = c.lent(lent, 3);
+            _ = black_box(ours::underapproximate(&c.words, &c.list, room, output));
+        }),
+        compare: |c, lent| {
+            let (room, output) = c.lent(lent, 3);
+            let made = ours::underapproximate(&c.words, &c.list, room, output);
+            assert_eq!(&output[..3 * made.nodes], c.bdd.underapproximate(&c.pointers).to_words());
+        },
+    },
+    Operation {
+        name: "overapproximate",
+        targets: false,
+        rust: |c| _ = black_box(c.bdd.overapproximate(&c.pointers)),
+        ours: Some(|c, lent| {
+            let (room, output) = c.lent(lent, 3);
+            _ = black_box(ours::overapproximate(&c.words, &c.list, room, output));
+        }),
+        compare: |c, lent| {
+            let (room, output) = c.lent(lent, 3);
+            let made = ours::overapproximate(&c.words, &c.list, room, output);
+            assert_eq!(&output[..3 * made.nodes], c.bdd.overapproximate(&c.pointers).to_words());
         },
     },
     Operation {

@@ -40,6 +40,8 @@ pub struct Natural {
 }
 
 extern "C" {
+    fn houayletan_underapproximate(words: *const u32, words_len: usize, list: *const u32, list_len: usize, room: *mut u32, room_len: usize, output: *mut u32, output_len: usize) -> Diagram;
+    fn houayletan_overapproximate(words: *const u32, words_len: usize, list: *const u32, list_len: usize, room: *mut u32, room_len: usize, output: *mut u32, output_len: usize) -> Diagram;
     fn houayletan_underapproximate_to_size(words: *const u32, words_len: usize, target: u32, room: *mut u32, room_len: usize, output: *mut u32, output_len: usize) -> Approximation;
     fn houayletan_overapproximate_to_size(words: *const u32, words_len: usize, target: u32, room: *mut u32, room_len: usize, output: *mut u32, output_len: usize) -> Approximation;
     fn houayletan_underapproximate_to_cardinality(words: *const u32, words_len: usize, target: Natural, room: *mut u32, room_len: usize, output: *mut u32, output_len: usize) -> Approximation;
@@ -81,6 +83,16 @@ pub fn node_valuation_weights(words: &[u32], room: &mut [u32], output: &mut [u32
 pub fn reduce(words: &[u32], room: &mut [u32], output: &mut [u32]) -> Diagram {
     let (out, out_len) = (output.as_mut_ptr(), output.len());
     unsafe { houayletan_reduce(words.as_ptr(), words.len(), room.as_mut_ptr(), room.len(), out, out_len) }
+}
+
+pub fn underapproximate(words: &[u32], list: &[u32], room: &mut [u32], output: &mut [u32]) -> Diagram {
+    let (out, out_len) = (output.as_mut_ptr(), output.len());
+    unsafe { houayletan_underapproximate(words.as_ptr(), words.len(), list.as_ptr(), list.len(), room.as_mut_ptr(), room.len(), out, out_len) }
+}
+
+pub fn overapproximate(words: &[u32], list: &[u32], room: &mut [u32], output: &mut [u32]) -> Diagram {
+    let (out, out_len) = (output.as_mut_ptr(), output.len());
+    unsafe { houayletan_overapproximate(words.as_ptr(), words.len(), list.as_ptr(), list.len(), room.as_mut_ptr(), room.len(), out, out_len) }
 }
 
 pub fn underapproximate_to_size(words: &[u32], target: u32, room: &mut [u32], output: &mut [u32]) -> Approximation {
