@@ -42,6 +42,8 @@
  *   13   a listed pointer is past the nodes                             the first such place in the list, from 0
  *   14   a terminal is listed                                           the first terminal's place in the list, from 0
  *   15   weights of the one-node diagram                                0
+ *   18   a size target that no answer can meet: 0; for an overapproximation also 1, where the diagram holds for some valuation
+ *                                                                       0
  *   16   a count target above 2^v for an overapproximation              0
  *   19   a count target strictly between 0 and 2^v: under on two nodes, over on one
  *                                                                       0
@@ -164,8 +166,9 @@ HouayletanDiagram houayletan_underapproximate(const uint32_t *words, size_t word
 HouayletanDiagram houayletan_overapproximate(const uint32_t *words, size_t words_len, const uint32_t *list, size_t list_len,
                                              uint32_t *room, size_t room_len, uint32_t *output, size_t output_len);
 
-/* Cuts to at most target nodes, the nodes of least weight first. A diagram that has no more than target nodes comes out as
- * it is. Targets 0 and 1 give false (under) or true (over, two nodes). Refusals: the diagram's own. */
+/* Cuts to at most target nodes, the nodes of least weight first; no answer has more. A diagram that has no more than target
+ * nodes comes out as it is. Any other gives false (under) or true (over) for target 2, and false for target 1: from above only
+ * where the diagram holds for no valuation, whatever its array. Refusals: the diagram's own, then 18. */
 HouayletanApproximation houayletan_underapproximate_to_size(const uint32_t *words, size_t words_len, uint32_t target,
                                                             uint32_t *room, size_t room_len, uint32_t *output, size_t output_len);
 HouayletanApproximation houayletan_overapproximate_to_size(const uint32_t *words, size_t words_len, uint32_t target,

@@ -57,6 +57,17 @@ static inline int compare_counts(const uint32_t *a, const uint32_t *b) {
     return 0;
 }
 
+/* Whether accepted words hold for some valuation: which nodes lead to node 1, from the last variable to the first. */
+static inline bool holds_somewhere(const uint32_t *words, size_t n) {
+    bool leads[HOUAYLETAN_NODES] = {false, true};
+    for (uint32_t var = words[0]; var-- > 0;) {
+        for (size_t p = 2; p < n; p++) {
+            if (words[3 * p] == var) leads[p] = leads[words[3 * p + 1]] || leads[words[3 * p + 2]];
+        }
+    }
+    return leads[n - 1];
+}
+
 /* The other rows, for accepted words. */
 static inline Refused reading_argument(const Operation *o, const Request *q) {
     size_t n = q->words_len / 3;
@@ -68,6 +79,10 @@ static inline Refused reading_argument(const Operation *o, const Request *q) {
         for (size_t i = 0; i < q->list_len; i++) {
             if (q->list[i] < 2) return (Refused){14, i};
         }
+    }
+    if (o->argument == SIZE_TARGET) {
+        if (q->target[0] == 0) return (Refused){18, 0};
+        if (q->target[0] == 1 && o->name[0] == 'o' && holds_somewhere(q->words, n)) return (Refused){18, 0};
     }
     if (o->argument == COUNT_TARGET) {
         bool over = o->name[0] == 'o';

@@ -133,7 +133,7 @@ static size_t any_list(size_t n) {
 static void any_target(const Operation *o, size_t n, uint32_t v, uint32_t *target) {
     memset(target, 0, COUNT_WORDS * sizeof target[0]);
     if (o->argument == SIZE_TARGET) {
-        target[0] = one_in(10) ? (uint32_t)next() : (uint32_t)below(n + 3);
+        target[0] = one_in(10) ? (uint32_t)next() : (uint32_t)below(one_in(10) ? 3 : n + 3);
     } else if (o->argument == COUNT_TARGET) {
         uint32_t bits = one_in(6) ? COUNT_BITS : (v > VARS ? VARS : v) + (uint32_t)one_in(8);
         bits -= (uint32_t)below(1 + (one_in(2) ? bits : bits < 4 ? bits : 4));
@@ -169,7 +169,7 @@ static const char *wrong_result(const Operation *o, const Request *q, const Repl
     bool under = strncmp(o->name, "under", 5) == 0, over = strncmp(o->name, "over", 4) == 0;
     if (under && way > 0) return "an underapproximation holds for more";
     if (over && way < 0) return "an overapproximation holds for less";
-    if (o->argument == SIZE_TARGET && q->target[0] >= 2 && r->value[0] > q->target[0]) return "the result is over its target size";
+    if (o->argument == SIZE_TARGET && r->value[0] > q->target[0]) return "the result is over its target size";
     if (o->argument == COUNT_TARGET && under && compare_counts(after, q->target) > 0) return "the result's count is over its target";
     if (o->argument == COUNT_TARGET && over && compare_counts(after, q->target) < 0) return "the result's count is under its target";
     if (strcmp(o->name, "reduce") == 0 && way != 0) return "the reduced diagram holds for others";

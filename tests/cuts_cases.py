@@ -1,12 +1,13 @@
 """Writes crates/cuts_run/stdin and stdout: requests to cut, and their answers.
 
     python3 tests/cuts_cases.py          has the Rust text answer all that the rules don't refuse (cargo, and Debian's
-                                         librust-num-bigint-dev, as for bench/run.sh), holds every answer to the reading of 01
+                                         librust-num-bigint-dev, as for bench/run.sh), holds every answer to the reading
                                          below, and writes both files
-    python3 tests/cuts_cases.py check    holds the stored files to the reading of 01, without the Rust
+    python3 tests/cuts_cases.py check    holds the stored files to the reading, without the Rust
 
 Refusals, and what is left in output and room, come from the papers alone (docs/RULES.md); nodes, trials and words from the Rust text
-(bench/rust_text/examples/stored_cuts.rs, which says how trials are counted). The reading cuts nodes of dictionaries and
+(bench/rust_text/examples/stored_cuts.rs, which says how trials are counted), but for over to size 1: there 02, E5, departs from the Rust, which must
+then be seen to answer true, and the answer is the reading's. The reading cuts nodes of dictionaries and
 reduces by recursion; weights come from chances (weights_cases.py)."""
 import glob
 import os
@@ -24,6 +25,7 @@ HERE = os.path.dirname(os.path.abspath(__file__))
 FOLDER = os.path.join(HERE, '..', 'crates', 'cuts_run')
 BENCH = os.path.join(HERE, '..', 'bench')
 SINGLE, BOTH = [1, 0, 0, 1, 1, 1, 0, 1, 1], [2, 0, 0, 2, 1, 1, 1, 1, 1, 0, 2, 2]   # true, in three nodes and in four
+NONE = [1, 0, 0, 1, 1, 1, 0, 0, 0]                      # false, in three nodes
 MARKED, FILLED = 7, 9                                   # the words of room and output beforehand
 LETTERS = 'uostcd'
 
@@ -144,6 +146,8 @@ def cuts(letter, target, words):
         return cut(ns, set(target), 'uo'.index(letter)), 0
     if letter == 's':
         return under_to_size(ns, target[0])
+    if letter == 't' and target == [1]:                 # where it isn't refused; 02, E5
+        return constant(words[0], 0), 0
     if letter == 't':
         found, trials = under_to_size(negated(ns), target[0])
         return negated(found), trials
@@ -165,11 +169,14 @@ def count_words(k):
 
 
 def refusal(letter, target, words, room, lent):
-    """The check's verdict, and then 13 and 14, or 16 and 19."""
+    """The check's verdict, and then 13 and 14, or 18, or 16 and 19."""
     said = verdict(words, room, ('diagram', lent))
-    if said[0] == 'refused' or letter in 'st':
+    if said[0] == 'refused':
         return said
     _, n, v = said
+    if letter in 'st':
+        least = 2 if letter == 't' and count(nodes(words)) else 1
+        return ('refused', 18, 0) if target[0] < least else said
     if letter in 'uo':
         outside = [i for i, p in enumerate(target) if p >= n]
         terminal = [i for i, p in enumerate(target) if p < 2]
@@ -187,7 +194,7 @@ def refusal(letter, target, words, room, lent):
 
 
 def worked():
-    """C3 to C12 of 01, its cases that are only run (by [0, 4] as 02, E10, has it), and others settled by hand: a request, and its
+    """C3 to C12 of 01, its cases that are only run (by [0, 4] as 02, E10, has it), those of 02, E5, and others settled by hand: a request, and its
     answer's nodes after the terminals, its count, its trials (None: not said); or the refusal."""
     yield 'u', [2], D, [(1, 0, 1), (0, 0, 2)], 2, 0
     yield 'u', [3], D, [(2, 0, 1), (0, 2, 0)], 2, 0
@@ -227,8 +234,17 @@ def worked():
             yield letter, [2, 1], words, 14, 1
     yield 's', [3], BOTH, [], 4, 2                      # the last cut counts, though the list was tried before
     yield 't', [2], [0, 0, 0], None, 0, 0               # the early rules look at the negation's array
-    yield 't', [1], [0, 0, 0], [], 1, 0
-    yield 't', [0], [0, 0, 0], [], 1, 0
+    # 02, E5: no answer has no nodes; one node is an answer from above only to what holds for no valuation, whatever its array
+    for words in ([0, 0, 0], terminals(0), NONE, SINGLE, D, deep(0), deep(1)):
+        for letter in 'st':
+            yield letter, [0], words, 18, 0
+    for words in ([0, 0, 0], terminals(0), NONE, SINGLE, D, deep(0), deep(1)):
+        yield 's', [1], words, None, 0, 0
+    for words in ([0, 0, 0], [3, 0, 0], NONE, deep(0)):
+        yield 't', [1], words, None, 0, 0
+    for words in (terminals(0), terminals(3), SINGLE, D, deep(1)):
+        yield 't', [1], words, 18, 0
+    yield 't', [2], NONE, [], 2, 0                      # two nodes are asked for: by array length, as the Rust has it
     yield 's', [2], SINGLE, None, 0, 0                  # true, but not by array length
     yield 'c', count_words(1), SINGLE, None, 0, 1
     yield 'c', count_words(0), terminals(1) + [0, 0, 0], None, 0, 0
@@ -236,6 +252,11 @@ def worked():
     yield 'd', count_words(2), terminals(0), 16, 0
     yield 'd', count_words(1), [0, 0, 0], [], 1, 0
     yield 'd', count_words(4), [3, 0, 0], 19, 0
+
+
+def deep(link):
+    """Every variable tested, the last one's high link to a terminal: as deep as an array can be, and false where it is to 0."""
+    return terminals(MAX_VARS) + [MAX_VARS - 1, 0, link] + flat((MAX_VARS - i, i, i) for i in range(2, MAX_VARS + 1))
 
 
 def exact(letter, target, words, room=0, output=0):
@@ -268,6 +289,14 @@ def by_hand():
             yield exact(letter, target, D, room, output)
             yield exact(letter, target, [0, 0, 0], room, output)
         yield exact(letter, [4294967295] * len(target), [MAX_VARS + 1, 0, 0])   # whatever is asked for
+    for letter in 'st':                                 # the diagram's own before 18
+        for t in (0, 1):
+            for words in broken:
+                yield exact(letter, [t], words, 1, 1)
+            for words in (D, [0, 0, 0], NONE):
+                yield exact(letter, [t], words, 0, -1)
+                yield exact(letter, [t], words, -1, 0)
+    yield 't', [1], [9] * 3 * (MAX_NODES + 1), ROOM * MAX_NODES, 3 * MAX_NODES
     yield 'u', [2], [9] * 3 * (MAX_NODES + 1), ROOM * MAX_NODES, 3 * MAX_NODES  # 3, at one node more than the most
     # places in the list; 13 and 14, whether or not the root is listed
     yield exact('u', [2], terminals(0), 2)
@@ -277,7 +306,7 @@ def by_hand():
         yield exact('o', target, D, 1, 1)
     for t in (0, 1, 2, 3, 4, 4294967295):
         for letter in 'st':
-            for words in ([0, 0, 0], terminals(0), [MAX_VARS, 0, 0], terminals(MAX_VARS), SINGLE, BOTH, D):
+            for words in ([0, 0, 0], terminals(0), [MAX_VARS, 0, 0], terminals(MAX_VARS), NONE, SINGLE, BOTH, D, deep(0), deep(1)):
                 yield exact(letter, [t], words)
     for v in (0, 1, 3, MAX_VARS):                       # counts of constants, by array length and in longer arrays
         for letter in 'cd':
@@ -397,6 +426,11 @@ def by_rust(asked):
         yield size, trials, words
 
 
+def departs(letter, target):
+    """Over to size 1: the Rust gives true, also from false."""
+    return letter == 't' and target == [1]
+
+
 def hold_to_paper():
     for letter, target, words, *said in worked():
         if isinstance(said[0], int):
@@ -417,9 +451,13 @@ def main():
     check = sys.argv[1:] == ['check']
     answers = readings if check else list(by_rust(asked))
     assert len(answers) == len(asked)
+    departures = 0
     for case, one, reading in zip(asked, answers, readings):
+        if departs(*case[:2]) and not check:
+            departures += 1
+            reading = 2, 0, terminals(case[2][0])
         assert one == reading, case
-    found = iter(answers)
+    found = iter(readings)
     stdin = ''.join(line for line, _ in made)
     stdout = ''.join(answer(case, next(found) if refusal(*case)[0] == 'accepted' else None) for _, case in made)
     for name, text in (('stdin', stdin), ('stdout', stdout)):
@@ -429,7 +467,7 @@ def main():
         else:
             open(path, 'w').write(text)
     letters = {x: sum(case[0] == x for case in asked) for x in LETTERS}
-    print(f'{len(made)} requests, {len(asked)} of them answered: {letters}; {len(stdin)} and {len(stdout)} bytes')
+    print(f'{len(made)} requests, {len(asked)} of them answered: {letters}; {departures} in which the Rust answers otherwise; {len(stdin)} and {len(stdout)} bytes')
 
 
 if __name__ == '__main__':

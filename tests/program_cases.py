@@ -25,6 +25,7 @@ Reads a block file on standard input and writes it cut to fit to standard output
 keep only adds cases, suppress only loses them. Numbers are decimal but for hex, with no zeros in front.
 """
 FALSE, TRUE = [3, 0, 0], [3, 0, 0, 3, 1, 1]
+NONE = TRUE + [1, 0, 0]                                 # false, in three nodes
 # The longest word that the program looks at: as many digits as a count may have.
 WORD = 10 * COUNT
 
@@ -57,9 +58,7 @@ def shrunk(direction, kind, target, data):
     old, new = count(nodes(words)), count(made)
     most = 'at least' if counted and direction == 'keep' else 'at most'
     lines = ['target %s %d cases (hex %x)' % (most, target, target) if counted else 'target %s %d nodes' % (most, target)]
-    if (new < target if most == 'at least' else new > target) if counted else len(made) > target:
-        assert not counted
-        lines.append('target not met: %d nodes' % len(made))
+    assert (new >= target if most == 'at least' else new <= target) if counted else len(made) <= target
     lines += ['nodes %d to %d' % (len(words) // 3, len(made)), 'cases %s to %s' % (twice(old), twice(new)),
               ('added ' if direction == 'keep' else 'lost ') + twice(new - old if direction == 'keep' else old - new), 'trials %d' % trials]
     return file_of(flat(made)), ('\n'.join(lines) + '\n').encode()
@@ -90,6 +89,9 @@ def broken():
     for number, words in diagrams.items():
         yield number, 'keep', 'size', 4, file_of(words)
     yield 16, 'keep', 'cases', 9, d
+    yield 18, 'keep', 'size', 1, d
+    yield 18, 'keep', 'size', 0, file_of(FALSE)
+    yield 18, 'suppress', 'size', 0, file_of(NONE)
     yield 19, 'suppress', 'cases', 4, file_of(TRUE)
     yield 19, 'keep', 'hex', 4, file_of(FALSE)
     yield 21, 'keep', 'size', 4, b''
@@ -112,7 +114,8 @@ def asked():
     requests += [(a, 'size', 40, file_of(chain(n))) for a in ('keep', 'suppress') for n in (50, 100, FILE_NODES)]
     requests += [('keep', b, 2 ** 64, file_of(chain(FILE_NODES))) for b in ('cases', 'hex')]
     requests += [(a, b, t, file_of(wide())) for a in ('keep', 'suppress') for b in ('cases', 'hex') for t in (2 ** (MAX_VARS - 2) + 1, 2 ** (MAX_VARS - 1) + 2 ** 128 + 7, 2 ** MAX_VARS)]
-    requests += [('keep', 'size', 1, file_of(FALSE)), ('keep', 'size', 0, file_of(FALSE)), ('suppress', 'size', 0, file_of(FALSE))]
+    requests += [(a, 'size', t, file_of(words)) for a in ('keep', 'suppress') for t in (0, 1, 2) for words in (FALSE, TRUE, NONE)]
+    requests += [(a, 'size', t, file_of(TRUE + [2, 0, 1, 1, 0, 1])) for a in ('keep', 'suppress') for t in (0, 1)]     # 12 before 18
     seen = set()
     for number, *request in broken():
         seen.add(number)

@@ -76,6 +76,7 @@ fn list(random: &mut Random, n: usize) -> Vec<u32> {
 
 fn size_target(random: &mut Random, n: usize) -> u32 {
     match random.below(10) {
+        // the smallest: some refused, one of them answered otherwise than by the Rust
         0 => random.below(4) as u32,
         1 => random.pick(&[n as u32, n as u32 + 1, (n as u32).saturating_sub(1), u32::MAX, 1 << 31]),
         2 => random.word(),

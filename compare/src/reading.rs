@@ -99,6 +99,12 @@ pub fn check_list(n: usize, list: &[u32]) -> Result<(), Refused> {
     }
 }
 
+/// Row 18, by the count: no answer has no nodes, and one node is false, which is above nothing that holds somewhere.
+pub fn check_size(over: bool, target: u32, count: &BigUint) -> Result<(), Refused> {
+    let least = if over && *count > BigUint::default() { 2 } else { 1 };
+    if target < least { Err((18, 0)) } else { Ok(()) }
+}
+
 /// Rows 16 and 19.
 pub fn check_count(n: usize, v: usize, over: bool, target: &BigUint) -> Result<(), Refused> {
     let all = BigUint::from(1u32) << v;

@@ -53,6 +53,14 @@ fn held_to_listed_root(request: &Request, list: &[u32]) {
     }
 }
 
+/// A size of 0, and from above of 1, made 01 and makes the Rust answer a constant: false from below, true from above, also from
+/// false. 02 E5 refuses them, but for over to 1 of what holds for no valuation, which gives false.
+fn held_to_small_size(request: &Request, target: u32) {
+    let (bdd, over) = (Bdd::from_words(&request.words), request.operation() == OverapproximateToSize);
+    let answer = if over { bdd.overapproximate_to_size(target as usize) } else { bdd.underapproximate_to_size(target as usize) };
+    assert_eq!(answer.to_words(), reading::constant(request.words[0], over), "a cut to {target} of {:?}", request.words);
+}
+
 pub fn expected(request: &Request) -> Reply {
     let refuse = |(number, place)| Reply { number, place, nodes: 0, vars: 0, values: vec![0; values_of(request)], written: vec![] };
     let words = &request.words;
@@ -70,6 +78,8 @@ pub fn expected(request: &Request) -> Reply {
     let later = match (request.operation(), &request.argument) {
         (NodeValuationWeights, _) if n == 1 => Err((15, 0)),
         (_, Argument::List(list)) => reading::check_list(n, list),
+        (UnderapproximateToSize, Argument::Size(t)) => reading::check_size(false, *t, &count(words)),
+        (OverapproximateToSize, Argument::Size(t)) => reading::check_size(true, *t, &count(words)),
         (UnderapproximateToCardinality, _) => reading::check_count(n, v, false, &target),
         (OverapproximateToCardinality, _) => reading::check_count(n, v, true, &target),
         _ => Ok(()),
@@ -77,6 +87,9 @@ pub fn expected(request: &Request) -> Reply {
     if let Err(refused) = later {
         if let (14, Argument::List(list)) = (refused.0, &request.argument) {
             held_to_listed_root(request, list);
+        }
+        if let (18, Argument::Size(t)) = (refused.0, &request.argument) {
+            held_to_small_size(request, *t);
         }
         return refuse(refused);
     }
@@ -129,6 +142,10 @@ pub fn expected(request: &Request) -> Reply {
         (Overapproximate, Argument::List(list)) => by_list(bdd.overapproximate(&pointers(list)), list, 1),
         (UnderapproximateToSize, Argument::Size(t)) => {
             to_target(bdd.underapproximate_to_size(*t as usize), reading::under_to_size(words, *t as usize, &weights))
+        }
+        (OverapproximateToSize, Argument::Size(1)) => {
+            held_to_small_size(request, 1);
+            (vec![1, 0], reading::constant(v as u32, false))
         }
         (OverapproximateToSize, Argument::Size(t)) => {
             to_target(bdd.overapproximate_to_size(*t as usize), reading::over_to_size(words, *t as usize, &weights))

@@ -226,7 +226,7 @@ int main(void) {
     answer("size_per_variable", asks(D, LEN(D)), 0, 0);
     expect(output[0] == 1 && output[1] == 1 && output[2] == 1, "D's sizes", "size_per_variable");
 
-    /* Cuts of D: C3 to C12 of document 01, and lists that are refused. */
+    /* Cuts of D: C3 to C12 of document 01, and lists and targets that are refused. */
     static const uint32_t C3[] = {3, 0, 0, 3, 1, 1, 1, 0, 1, 0, 0, 2}, C4[] = {3, 0, 0, 3, 1, 1, 2, 0, 1, 0, 2, 0};
     static const uint32_t C5[] = {3, 0, 0, 3, 1, 1, 2, 0, 1, 0, 2, 1};
     static const struct {
@@ -255,10 +255,13 @@ int main(void) {
         {"underapproximate_to_size", 0, {4}, 0, 0, C4, LEN(C4), 2},
         {"underapproximate_to_size", 0, {3}, 0, 0, FALSE3, LEN(FALSE3), 2},
         {"underapproximate_to_size", 0, {5}, 0, 0, D, LEN(D), 0},
-        {"underapproximate_to_size", 0, {0}, 0, 0, FALSE3, LEN(FALSE3), 0},
+        {"underapproximate_to_size", 0, {0}, 18, 0, NULL, 0, 0},
+        {"underapproximate_to_size", 0, {1}, 0, 0, FALSE3, LEN(FALSE3), 0},
         {"underapproximate_to_size", 0, {2}, 0, 0, FALSE3, LEN(FALSE3), 0},
         {"overapproximate_to_size", 0, {4}, 0, 0, C5, LEN(C5), 2},
-        {"overapproximate_to_size", 0, {1}, 0, 0, TRUE3, LEN(TRUE3), 0},
+        {"overapproximate_to_size", 0, {0}, 18, 0, NULL, 0, 0},
+        {"overapproximate_to_size", 0, {1}, 18, 0, NULL, 0, 0},
+        {"overapproximate_to_size", 0, {2}, 0, 0, TRUE3, LEN(TRUE3), 0},
         {"overapproximate_to_size", 0, {UINT32_MAX}, 0, 0, D, LEN(D), 0},
         {"underapproximate_to_cardinality", 0, {4}, 0, 0, C4, LEN(C4), 1},
         {"underapproximate_to_cardinality", 0, {1}, 0, 0, FALSE3, LEN(FALSE3), 1},
@@ -309,8 +312,20 @@ int main(void) {
         {"underapproximate_to_size", 9, {1, 0, 0, 1, 1, 1, 0, 1, 1}, 0, {2}, 0, 0, 3, {1, 0, 0}, 0},
         /* overapproximation looks at the negation's array */
         {"overapproximate_to_size", 3, {0, 0, 0}, 0, {2}, 0, 0, 3, {0, 0, 0}, 0},
-        {"overapproximate_to_size", 3, {0, 0, 0}, 0, {1}, 0, 0, 6, {0, 0, 0, 0, 1, 1}, 0},
-        {"overapproximate_to_size", 3, {0, 0, 0}, 0, {0}, 0, 0, 6, {0, 0, 0, 0, 1, 1}, 0},
+        {"overapproximate_to_size", 9, {1, 0, 0, 1, 1, 1, 0, 0, 0}, 0, {2}, 0, 0, 6, {1, 0, 0, 1, 1, 1}, 0},
+        /* one node is an answer from above to what holds for no valuation, whatever its array; none is an answer to nothing; the
+         * diagram's own come first */
+        {"overapproximate_to_size", 3, {0, 0, 0}, 0, {1}, 0, 0, 3, {0, 0, 0}, 0},
+        {"overapproximate_to_size", 9, {1, 0, 0, 1, 1, 1, 0, 0, 0}, 0, {1}, 0, 0, 3, {1, 0, 0}, 0},
+        {"overapproximate_to_size", 12, {2, 0, 0, 2, 1, 1, 1, 0, 0, 0, 2, 0}, 0, {1}, 0, 0, 3, {2, 0, 0}, 0},
+        {"overapproximate_to_size", 12, {2, 0, 0, 2, 1, 1, 1, 0, 1, 0, 2, 0}, 0, {1}, 18, 0, 0, {0}, 0},
+        {"overapproximate_to_size", 6, {0, 0, 0, 0, 1, 1}, 0, {1}, 18, 0, 0, {0}, 0},
+        {"overapproximate_to_size", 3, {0, 0, 0}, 0, {0}, 18, 0, 0, {0}, 0},
+        {"underapproximate_to_size", 3, {0, 0, 0}, 0, {0}, 18, 0, 0, {0}, 0},
+        {"underapproximate_to_size", 6, {0, 0, 0, 0, 1, 1}, 0, {1}, 0, 0, 3, {0, 0, 0}, 0},
+        {"overapproximate_to_size", 12, {2, 0, 0, 2, 1, 1, 1, 0, 1, 1, 0, 1}, 0, {0}, 12, 2, 0, {0}, 0},
+        {"overapproximate_to_size", 12, {2, 0, 0, 2, 1, 1, 1, 0, 1, 1, 0, 1}, 0, {1}, 12, 2, 0, {0}, 0},
+        {"underapproximate_to_size", 12, {2, 0, 0, 2, 1, 1, 1, 0, 1, 1, 0, 1}, 0, {0}, 12, 2, 0, {0}, 0},
         /* a count of 0 gives one node; above 2^v only overapproximation refuses; constants go by the array's length */
         {"underapproximate_to_cardinality", 9, {1, 0, 0, 1, 1, 1, 0, 0, 0}, 0, {0}, 0, 0, 3, {1, 0, 0}, 0},
         {"underapproximate_to_cardinality", 6, {0, 0, 0, 0, 1, 1}, 0, {2}, 0, 0, 6, {0, 0, 0, 0, 1, 1}, 0},

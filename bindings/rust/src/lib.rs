@@ -284,26 +284,34 @@ fn cut(words: &[u32], write: impl FnOnce(&mut [u32], &mut [u32]) -> lent::Approx
     Ok(Cut { words, trials })
 }
 
-/// Holds for fewer valuations and has at most `target` nodes, where that is 2 or more; the nodes of least weight go first. A
-/// diagram of no more than `target` nodes comes out as it is; targets 0 and 1 give false. Refusals: the diagram's own.
+/// Holds for fewer valuations and has at most `target` nodes; the nodes of least weight go first. A diagram of no more than
+/// `target` nodes comes out as it is; any other gives false for targets 1 and 2. Refusals: the diagram's own, then 18 for
+/// target 0.
 ///
 /// ```
 /// let words = [3, 0, 0, 3, 1, 1, 2, 0, 1, 1, 2, 1, 0, 2, 3];
 /// let cut = houayletan::underapproximate_to_size(&words, 4)?;
 /// assert_eq!((cut.words, cut.trials), (vec![3, 0, 0, 3, 1, 1, 2, 0, 1, 0, 2, 0], 2));
+/// assert_eq!(houayletan::underapproximate_to_size(&words, 1)?.words, [3, 0, 0]);
+/// assert_eq!(houayletan::underapproximate_to_size(&words, 0).unwrap_err().number, 18);
 /// # Ok::<(), houayletan::Refusal>(())
 /// ```
 pub fn underapproximate_to_size(words: &[u32], target: u32) -> Result<Cut, Refusal> {
     cut(words, |room, output| lent::underapproximate_to_size(words, target, room, output))
 }
 
-/// Holds for more valuations and has at most `target` nodes, where that is 2 or more: the negation is cut and negated back.
-/// Targets 0 and 1 give true. Refusals: the diagram's own.
+/// Holds for more valuations and has at most `target` nodes: the negation is cut and negated back. A diagram of no more than
+/// `target` nodes comes out as it is; any other gives true for target 2 and false for target 1. Refusals: the diagram's own,
+/// then 18 for target 0, and for target 1 where the diagram holds for some valuation.
 ///
 /// ```
 /// let words = [3, 0, 0, 3, 1, 1, 2, 0, 1, 1, 2, 1, 0, 2, 3];
 /// let cut = houayletan::overapproximate_to_size(&words, 4)?;
 /// assert_eq!((cut.words, cut.trials), (vec![3, 0, 0, 3, 1, 1, 2, 0, 1, 0, 2, 1], 2));
+/// // false, in three nodes
+/// assert_eq!(houayletan::overapproximate_to_size(&[1, 0, 0, 1, 1, 1, 0, 0, 0], 1)?.words, [1, 0, 0]);
+/// let refusal = houayletan::overapproximate_to_size(&words, 1).unwrap_err();
+/// assert_eq!(refusal.to_string(), "refused 18 at 0: no answer has so few nodes; 2 are always enough");
 /// # Ok::<(), houayletan::Refusal>(())
 /// ```
 pub fn overapproximate_to_size(words: &[u32], target: u32) -> Result<Cut, Refusal> {
@@ -361,7 +369,7 @@ mod tests {
     #[test]
     fn every_number_has_a_sentence() {
         assert_eq!(Refusal { number: 3, place: 0 }.sentence().replace(',', ""), format!("there are more than {MOST_NODES} nodes"));
-        for number in (1..=17).chain([19]) {
+        for number in 1..=19 {
             let refusal = Refusal { number, place: 7 };
             assert!(!refusal.sentence().contains("no table"), "{number}");
             assert!(refusal.to_string().starts_with(&format!("refused {number} at 7: ")));

@@ -18,7 +18,7 @@ fn in_threes(n: usize) -> String {
 /// ```
 #[derive(Clone, Copy, Debug, Eq, Hash, PartialEq)]
 pub struct Refusal {
-    /// 1 to 17 or 19.
+    /// 1 to 19.
     pub number: u32,
     /// A node, a place in the list of a cut, or 0.
     pub place: usize,
@@ -46,6 +46,7 @@ impl Refusal {
             15 => "the one-node diagram has no weights".into(),
             16 => "the count to reach is above the number of all valuations".into(),
             17 => format!("node {place} has a high child that is not at a larger variable"),
+            18 => "no answer has so few nodes; 2 are always enough".into(),
             19 => "a constant can't be cut to a count between 0 and the number of all valuations".into(),
             number => format!("number {number} is in no table"),
         }

@@ -22,6 +22,7 @@ use Rattle.approximation.proofs.Cut.{hits, cut-root-under, cut-root-ove
 use Rattle.approximation.proofs.Members.{each-listed, count-listed, order-sorted, order-distinct, order-listed, order-unique}
 use Rattle.approximation.proofs.Listing.{list-accepted, list-verdict, under-accepted-open, over-accepted-open, over-accepted-most}
 use Rattle.approximation.proofs.Rules.{under-size, over-size, under-count, over-count}
+use Rattle.approximation.proofs.Sizing.{under-accepted-some, over-accepted-some, over-accepted-least, size-verdict}
 use Rattle.approximation.proofs.Targets.{to-size-under, to-size-fits, over-to-size-over, over-to-size-fits, to-count-under, to-count-fits, over-to-count-over, over-to-count-fits}
 
 module _ (w list : List ℕ) (o : Ordered w) where
@@ -84,11 +85,12 @@ demand2 = record {
   empty = λ w. (empty-list w 0, empty-list w 1);
   priorities = λ w. record { sorted = order-sorted w; distinct = order-distinct w; nodes = order-listed w };
   no-others = λ w list p. order-unique w list (p .sorted) (p .distinct) (p .nodes);
-  size-under = to-size-under;
-  size-over = over-to-size-over;
-  size-fits = λ w t a two. (to-size-fits w t a two, over-to-size-fits w t a two);
-  under-size = under-size;
-  over-size = over-size;
+  size-verdict = size-verdict;
+  size-under = λ w t a e. (to-size-under w t a, to-size-fits w t a (under-accepted-some w t e));
+  size-over = λ w t a e.
+      (over-to-size-over w t a (over-accepted-some w t e), over-to-size-fits w t a (over-accepted-some w t e));
+  under-size = λ w t e. under-size w t (under-accepted-some w t e);
+  over-size = λ w t a e. over-size w t a (over-accepted-least w t e);
   count-under = λ w k a e.
       (to-count-under w k a (under-accepted-open w k e), to-count-fits w k a (under-accepted-open w k e));
   count-over = λ w k a e. (

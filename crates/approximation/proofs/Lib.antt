@@ -6,6 +6,7 @@
 --     Sort       sorting by halves
 --     Members    the priorities are each non-terminal once, in order
 --     Listing    what refuses a list or a count target, and what an acceptance tells
+--     Sizing     what refuses a size target
 --     Search     the searches obey their rules
 --     Targets    answers to a target: inclusion, and the target met
 --     Rules      the answers are what document 01's sentences say, and nothing else is
@@ -18,6 +19,7 @@ pub mod Cut
 pub mod Sort
 pub mod Members
 pub mod Listing
+pub mod Sizing
 pub mod Search
 pub mod Targets
 pub mod Rules

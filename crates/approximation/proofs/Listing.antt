@@ -1,6 +1,6 @@
 -- What the checks of a list and of a count target say: 13 and 14 at the first place, 16 and 19.
 use Prim.Native.Nat.{ℕ, _^_, _≤_, _<_}
-use mathlib.Core.Path.{_≡_, refl, sym, subst}
+use mathlib.Core.Path.{_≡_, refl, sym, subst, _∙_}
 use mathlib.Core.Logic.{_⊎_, inl, inr}
 use mathlib.Core.Bool.{Bool, true, false, and-false}
 use mathlib.Core.List.{List, [], _∷_}
@@ -10,7 +10,7 @@ use lib.ListN.{length, getD}
 use lib.Dec.{leb, ltb}
 use borrow.Author.Tests.{lt-ltb, le-ltb, le-leb, lt-leb, eq-eqb, ne-eqb, ltb-true, ltb-false, leb-true, leb-false}
 use Rattle.diagram.specs.Diagram.{size, vars}
-use Rattle.diagram.specs.Verdict.{accepted, refused, row, first}
+use Rattle.diagram.specs.Verdict.{Outcome, accepted, refused, row, first}
 use Rattle.diagram.proofs.Tests.{by-eq}
 use Rattle.diagram.proofs.Outcomes.{same-refusal, same-counts, never-both}
 use Rattle.diagram.proofs.Count.{first-is, first-least, first-passes}
@@ -133,6 +133,11 @@ list-verdict w list = record {
 
 -- ---- a count target
 
+row-own : (number : ℕ) (test : Bool) (place : ℕ) (below : Outcome) {n v : ℕ} → row number test place below ≡ accepted n v → row number test place below ≡ below
+unfolding row
+row-own number true place below e = absurd (never-both refl e)
+row-own number false place below e = refl
+
 module _ (w : List ℕ) (k : ℕ) where
   between-yes : 0 < k → k < 2 ^ vars w → between w k ≡ true
   unfolding between
@@ -176,7 +181,16 @@ module _ (w : List ℕ) (k : ℕ) where
       (λ n. rw (outside (open-target n)) refl)
       (λ n. rw (ne-eqb (size w) 1 n, and-false (between w k)) refl))
 
-  -- An acceptance tells that the target is not strictly between 0 and 2^v where the array has two nodes (under), or one
+  -- An acceptance has the diagram's own counts.
+  pub under-count-own : {n v : ℕ} → underCountOf w k ≡ accepted n v → underCountOf w k ≡ accepted (size w) (vars w)
+  unfolding underCountOf
+  under-count-own e = row-own _ _ _ _ e
+
+  pub over-count-own : {n v : ℕ} → overCountOf w k ≡ accepted n v → overCountOf w k ≡ accepted (size w) (vars w)
+  unfolding overCountOf
+  over-count-own e = let f = row-own _ _ _ _ e in f ∙ row-own _ _ _ _ (sym f ∙ e)
+
+  -- It tells that the target is not strictly between 0 and 2^v where the array has two nodes (under), or one
   -- (over), and that it is not above 2^v (over).
   pub under-accepted-open : underCountOf w k ≡ accepted (size w) (vars w) → size w ≡ 2 → 0 < k → k < 2 ^ vars w → ⊥
   under-accepted-open e n a b = never-both (under-refused-19 n a b) e

@@ -19,7 +19,7 @@ use Rattle.approximation.specs.Constants.{falseOf, trueOf}
 use Rattle.approximation.specs.Search.{Answer, answer, underToSize, back, overToSize, underToCount, overToCount}
 use Rattle.approximation.specs.Rules.{SizeRules, CountRules, ByNegation, UnderSize, OverSize, UnderCount, OverCount}
 use Rattle.approximation.proofs.Search.{size-by-rules, size-rules-only, count-by-rules, count-rules-only}
-use Rattle.approximation.proofs.Targets.{to-size-none, to-size-same, to-size-search, to-count-none, to-count-same, to-count-search, Open, search-many, opposite, over-count-same, over-count-negates, opposite-open}
+use Rattle.approximation.proofs.Targets.{to-size-none, to-size-same, to-size-search, over-size-one, over-size-negates, to-count-none, to-count-same, to-count-search, Open, search-many, opposite, over-count-same, over-count-negates, opposite-open}
 
 -- ---- from below, to a size
 
@@ -36,27 +36,30 @@ module _ (w : List ℕ) (t : ℕ) where
     to-size-only a rules = size-rules-only w t rules (size w - t) (omega arith) ∙ sym (to-size-search w t low high)
 
   -- t is one of these
-  by-target : (P : Type 0) → (t ≤ 1 → P) → (t ≡ 2 → P) → (2 < t → size w ≤ t → P) → (2 < t → t < size w → P) → P
-  by-target P none two same search = elim (decLt 1 t) [
-    | no h ↦ none (omega arith)
+  by-target : (P : Type 0) → 1 ≤ t → (t ≡ 1 → P) → (t ≡ 2 → P) → (2 < t → size w ≤ t → P) → (2 < t → t < size w → P) → P
+  by-target P some one two same search = elim (decLt 1 t) [
+    | no h ↦ one (omega arith)
     | yes h ↦ by-eq t 2 two (λ ne. elim (decLt t (size w)) [
       | yes l ↦ search (omega arith) l
       | no l ↦ same (omega arith) (omega arith)
     ])
   ]
 
-  under-size-is : UnderSize w t (underToSize w t)
-  under-size-is = record { none = to-size-none w t; two = to-size-two; same = to-size-same w t; search = to-size-rules }
+  to-size-one : t ≡ 1 → underToSize w t ≡ answer (falseOf (vars w)) 0
+  to-size-one e = to-size-none w t (omega arith)
 
-  under-size-only : (a : Answer) → UnderSize w t a → a ≡ underToSize w t
-  under-size-only a s = by-target (a ≡ underToSize w t)
-      (λ h. s .none h ∙ sym (to-size-none w t h))
+  under-size-is : UnderSize w t (underToSize w t)
+  under-size-is = record { one = to-size-one; two = to-size-two; same = to-size-same w t; search = to-size-rules }
+
+  under-size-only : 1 ≤ t → (a : Answer) → UnderSize w t a → a ≡ underToSize w t
+  under-size-only some a s = by-target (a ≡ underToSize w t) some
+      (λ e. s .one e ∙ sym (to-size-one e))
       (λ e. s .two e ∙ sym (to-size-two e))
       (λ l h. s .same l h ∙ sym (to-size-same w t l h))
       (λ l h. to-size-only l h a (s .search l h))
 
-pub under-size : (w : List ℕ) (t : ℕ) (a : Answer) → UnderSize w t a ↔ (a ≡ underToSize w t)
-under-size w t a = (under-size-only w t a, λ e. rw e (under-size-is w t))
+pub under-size : (w : List ℕ) (t : ℕ) → 1 ≤ t → (a : Answer) → UnderSize w t a ↔ (a ≡ underToSize w t)
+under-size w t some a = (under-size-only w t some a, λ e. rw e (under-size-is w t))
 
 -- ---- by negation
 
@@ -102,24 +105,23 @@ module _ (w : List ℕ) (a : Accepted w) where
 -- ---- from above, to a size
 
 module _ (w : List ℕ) (t : ℕ) (a : Accepted w) where
-  over-is : overToSize w t ≡ back (underToSize (negated w) t)
-  unfolding overToSize
-  over-is = refl
+  over-is : 2 ≤ t → overToSize w t ≡ back (underToSize (negated w) t)
+  over-is h = over-size-negates w t a h
 
-  over-none : t ≤ 1 → overToSize w t ≡ answer (trueOf (vars w)) 0
-  over-none h = over-is ∙ ap back (to-size-none (negated w) t h) ∙ false-back w a
+  over-one : t ≡ 1 → overToSize w t ≡ answer (falseOf (vars w)) 0
+  over-one e = over-size-one w t a (omega arith)
 
   over-two : t ≡ 2 → overToSize w t ≡ answer (cond (eqb (size w) 1) (falseOf (vars w)) (trueOf (vars w))) 0
   over-two e = by-eq (size w) 1
-      (λ one. over-is ∙ ap back (to-size-two (negated w) t e)
+      (λ one. over-is (omega arith) ∙ ap back (to-size-two (negated w) t e)
       ∙ rw (eq-eqb (size (negated w)) 2 (one-two w a one), eq-eqb (size w) 1 one) (true-back w a))
-      (λ ne. over-is ∙ ap back (to-size-two (negated w) t e)
+      (λ ne. over-is (omega arith) ∙ ap back (to-size-two (negated w) t e)
       ∙ rw (ne-eqb (size (negated w)) 2 (λ two. ne (negated-is-two w a two)), ne-eqb (size w) 1 ne) (false-back w a))
 
   over-same : 2 < t → size w ≤ t → overToSize w t ≡ answer w 0
   over-same l h =
       let most = negated-most w a in
-      over-is ∙ ap back (to-size-same (negated w) t l (omega arith)) ∙ itself-back w a
+      over-is (omega arith) ∙ ap back (to-size-same (negated w) t l (omega arith)) ∙ itself-back w a
 
   abbrev Rules : Answer → Type 0
   Rules = SizeRules (negated w) t 0 (size w - t) 0
@@ -129,27 +131,27 @@ module _ (w : List ℕ) (t : ℕ) (a : Accepted w) where
     same = same-size w a (omega arith)
 
     over-search : ByNegation Rules (overToSize w t)
-    over-search = rw (over-is, sym same)
+    over-search = rw (over-is (omega arith), sym same)
         (back-by (SizeRules (negated w) t 0 (size (negated w) - t) 0) (underToSize (negated w) t) (to-size-rules (negated w) t low (rw same high)))
 
     over-only : (b : Answer) → ByNegation Rules b → b ≡ overToSize w t
     over-only b n =
         back-only Rules (underToSize (negated w) t)
         (λ c r. to-size-only (negated w) t low (rw same high) c (rw same r)) b n
-        ∙ sym over-is
+        ∙ sym (over-is (omega arith))
 
   over-size-is : OverSize w t (overToSize w t)
-  over-size-is = record { none = over-none; two = over-two; same = over-same; search = over-search }
+  over-size-is = record { one = over-one; two = over-two; same = over-same; search = over-search }
 
-  over-size-only : (b : Answer) → OverSize w t b → b ≡ overToSize w t
-  over-size-only b s = by-target w t (b ≡ overToSize w t)
-      (λ h. s .none h ∙ sym (over-none h))
+  over-size-only : 1 ≤ t → (b : Answer) → OverSize w t b → b ≡ overToSize w t
+  over-size-only some b s = by-target w t (b ≡ overToSize w t) some
+      (λ e. s .one e ∙ sym (over-one e))
       (λ e. s .two e ∙ sym (over-two e))
       (λ l h. s .same l h ∙ sym (over-same l h))
       (λ l h. over-only l h b (s .search l h))
 
-pub over-size : (w : List ℕ) (t : ℕ) → Accepted w → (a : Answer) → OverSize w t a ↔ (a ≡ overToSize w t)
-over-size w t accepted a = (over-size-only w t accepted a, λ e. rw e (over-size-is w t accepted))
+pub over-size : (w : List ℕ) (t : ℕ) → Accepted w → 1 ≤ t → (a : Answer) → OverSize w t a ↔ (a ≡ overToSize w t)
+over-size w t accepted some a = (over-size-only w t accepted some a, λ e. rw e (over-size-is w t accepted))
 
 -- ---- from below, to a count
 

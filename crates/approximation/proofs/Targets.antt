@@ -1,6 +1,7 @@
 -- The answers to a target: the early ones and the searches; inclusion, and the target met.
 use Prim.Native.Nat.{ℕ, zero, suc, _-_, _^_, _≤_, _<_}
 use mathlib.Core.Path.{_≡_, refl, sym, ap, _∙_}
+use mathlib.Core.Logic.{_⊎_, inl, inr}
 use mathlib.Core.Bool.{Bool, true, false, cond, not}
 use mathlib.Core.List.{List, [], _∷_}
 use native.Mathlib.Omega.{arith}
@@ -18,6 +19,7 @@ use Rattle.approximation.specs.Cut.{Under, Over}
 use Rattle.approximation.specs.Search.{Answer, answer, cutFirst, sizeSearch, underToSize, back, overToSize, countSearch, underToCount, overToCount}
 use Rattle.approximation.proofs.Constants.{false-holds, one-holds, two-holds, false-accepted, true-accepted}
 use Rattle.negation.proofs.Meaning.{negated-vars, negated-is-two, negated-holds, negated-count, negated-accepted, negated-most}
+use Rattle.approximation.proofs.Sizing.{none-nowhere}
 use Rattle.approximation.proofs.Search.{first-under, first-size, size-by-rules, by-size-rules, false-count, count-by-rules, by-count-rules}
 
 -- ---- underapproximations to a size
@@ -73,6 +75,14 @@ false-under w o = record {
   implies = λ bs l h. absurd (not-both false (sym (false-holds (vars w) bs) ∙ h) refl);
 }
 
+-- False is above what holds for no valuation.
+false-over : (w : List ℕ) → Accepted w → countOf w ≡ 0 → Over w (falseOf (vars w))
+false-over w a none = record {
+  accepted = false-accepted (vars w) (a .formed .variables);
+  variables = refl;
+  implied = λ bs l h. absurd (not-both (holds w bs) h (none-nowhere w none bs l));
+}
+
 true-under : (w : List ℕ) → Ordered w → size w ≡ 2 → Under w (trueOf (vars w))
 true-under w o n = record {
   accepted = true-accepted (vars w) (o .formed .variables);
@@ -104,9 +114,9 @@ module _ (w : List ℕ) (t : ℕ) (a : Accepted w) where
       (λ h. itself-under w a)
       (search-by (Under w) (λ c h. first-under w ordered c))
 
-  -- For t ≥ 2 the answer has at most t nodes.
-  pub to-size-fits : 2 ≤ t → size (underToSize w t .words) ≤ t
-  to-size-fits two = by-to-size w t (λ x. size (x .words) ≤ t)
+  -- The answer has at most t nodes.
+  pub to-size-fits : 1 ≤ t → size (underToSize w t .words) ≤ t
+  to-size-fits some = by-to-size w t (λ x. size (x .words) ≤ t)
       (λ h. omega arith)
       (λ e n. omega arith)
       (λ h. h)
@@ -134,17 +144,36 @@ unfolding back
 back-words a = refl
 
 module _ (w : List ℕ) (t : ℕ) (a : Accepted w) where
-  pub over-to-size-over : Over w (overToSize w t .words)
+  pub over-size-one : t ≤ 1 → overToSize w t ≡ answer (falseOf (vars w)) 0
   unfolding overToSize
-  over-to-size-over = rw (back-words (underToSize (negated w) t))
-      (over-by-negation w (underToSize (negated w) t .words) a (to-size-under (negated w) t (negated-accepted w a)))
+  over-size-one h = rw (le-leb t 1 h) refl
 
-  pub over-to-size-fits : 2 ≤ t → size (overToSize w t .words) ≤ t
+  pub over-size-negates : 2 ≤ t → overToSize w t ≡ back (underToSize (negated w) t)
   unfolding overToSize
-  over-to-size-fits two =
-      let fits = to-size-fits (negated w) t (negated-accepted w a) two in
-      let most = negated-most (underToSize (negated w) t .words) (to-size-under (negated w) t (negated-accepted w a) .accepted) in
-      rw (back-words (underToSize (negated w) t)) (omega arith)
+  over-size-negates h = rw (lt-leb t 1 (omega arith)) refl
+
+  -- A target that isn't refused: the answer is on the right side, and has at most t nodes.
+  module _ (fine : (2 ≤ t) ⊎ ((t ≡ 1) × (countOf w ≡ 0))) where
+    by-over-size : (P : Answer → Type 0) → (t ≡ 1 → countOf w ≡ 0 → P (answer (falseOf (vars w)) 0)) → (2 ≤ t → P (back (underToSize (negated w) t)))
+        → P (overToSize w t)
+    by-over-size P one many = elim fine [
+      | inl h ↦ rw (over-size-negates h) (many h)
+      | inr h ↦ rw (over-size-one (omega (arith, h .0))) (one (h .0) (h .1))
+    ]
+
+    pub over-to-size-over : Over w (overToSize w t .words)
+    over-to-size-over = by-over-size (λ x. Over w (x .words))
+        (λ one none. false-over w a none)
+        (λ h. rw (back-words (underToSize (negated w) t))
+        (over-by-negation w (underToSize (negated w) t .words) a (to-size-under (negated w) t (negated-accepted w a))))
+
+    pub over-to-size-fits : size (overToSize w t .words) ≤ t
+    over-to-size-fits = by-over-size (λ x. size (x .words) ≤ t)
+        (λ one none. omega arith)
+        (λ h.
+        (let fits = to-size-fits (negated w) t (negated-accepted w a) (omega arith) in
+        let most = negated-most (underToSize (negated w) t .words) (to-size-under (negated w) t (negated-accepted w a) .accepted) in
+        rw (back-words (underToSize (negated w) t)) (omega arith)))
 
 -- ---- counts
 

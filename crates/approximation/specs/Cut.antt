@@ -9,7 +9,7 @@ use mathlib.Core.List.{List, [], _∷_}
 use lib.ListN.{length, getD}
 use lib.Dec.{leb, ltb, eqb}
 use Rattle.diagram.specs.Diagram.{size, vars, holds, Accepted}
-use Rattle.diagram.specs.Valuations.{meets}
+use Rattle.diagram.specs.Valuations.{meets, countOf}
 use Rattle.diagram.specs.Verdict.{Outcome, accepted, row, first}
 use Rattle.reduction.specs.Reduce.{reduced}
 use Rattle.approximation.specs.Links.{relinked}
@@ -45,6 +45,18 @@ listOf w list =
     row 13 (ltb out (length list)) out
     (row 14 (ltb end (length list)) end
     (accepted (size w) (vars w)))
+
+-- 18: no diagram has no nodes; and one node alone is false, so from above it is an answer only where the diagram holds for
+-- no valuation, whatever its array (document 02, E5).
+unfoldable pub underSizeOf : List ℕ → ℕ → Outcome
+underSizeOf w t =
+    row 18 (eqb t 0) 0
+    (accepted (size w) (vars w))
+
+unfoldable pub overSizeOf : List ℕ → ℕ → Outcome
+overSizeOf w t =
+    row 18 (eqb t 0 || (eqb t 1 && ltb 0 (countOf w))) 0
+    (accepted (size w) (vars w))
 
 -- 16 and 19: no overapproximation has more than 2^v valuations; from a constant by array length nothing is left to cut.
 unfoldable pub between : List ℕ → ℕ → Bool

@@ -12,7 +12,7 @@ use Rattle.diagram.specs.Valuations.{meets, countOf, weightOf}
 use Rattle.diagram.specs.Verdict.{accepted, refused}
 use Rattle.reduction.specs.Reduce.{reduce}
 use Rattle.approximation.specs.Constants.{falseOf, trueOf}
-use Rattle.approximation.specs.Cut.{listed, underBy, overBy, listOf, underCountOf, overCountOf, Under, Over, send}
+use Rattle.approximation.specs.Cut.{listed, underBy, overBy, listOf, underSizeOf, overSizeOf, underCountOf, overCountOf, Under, Over, send}
 use Rattle.approximation.specs.Search.{Answer, goesFirst, order, underToSize, overToSize, underToCount, overToCount}
 use Rattle.approximation.specs.Sorted.{Distinct, Sorted}
 use Rattle.approximation.specs.Rules.{UnderSize, OverSize, UnderCount, OverCount}
@@ -61,6 +61,21 @@ pub record ByList (w list : List ℕ) : Type 0 where
   pub smaller : listOf w list ≡ accepted (size w) (vars w) → Distinct list
       → (size (underBy w list) + length list ≤ size w) × (size (overBy w list) + length list ≤ size w)
 
+-- A diagram that holds for no valuation.
+abbrev pub Nowhere : List ℕ → Type 0
+Nowhere w = (bs : List Bool) → length bs ≡ vars w → holds w bs ≡ false
+
+-- What refuses a size, with its one number: no nodes at all, and from above one node, where the diagram holds for some
+-- valuation.
+pub record SizeVerdict (w : List ℕ) (t : ℕ) : Type 0 where
+  pub under-accepts : (n v : ℕ) → (underSizeOf w t ≡ accepted n v) ↔ ((1 ≤ t) × (n ≡ size w) × (v ≡ vars w))
+  pub over-accepts : (n v : ℕ) → (overSizeOf w t ≡ accepted n v) ↔ (((2 ≤ t) ⊎ ((t ≡ 1) × Nowhere w)) × (n ≡ size w) × (v ≡ vars w))
+  pub under-refuses : (number place : ℕ) → underSizeOf w t ≡ refused number place → (number ≡ 18) × (place ≡ 0)
+  pub over-refuses : (number place : ℕ) → overSizeOf w t ≡ refused number place → (number ≡ 18) × (place ≡ 0)
+  -- no answer is missed: where there is one on the right side with at most t nodes, the size isn't refused
+  pub under-found : (answer : List ℕ) → Under w answer → size answer ≤ t → underSizeOf w t ≡ accepted (size w) (vars w)
+  pub over-found : (answer : List ℕ) → Over w answer → size answer ≤ t → overSizeOf w t ≡ accepted (size w) (vars w)
+
 -- The priorities: every non-terminal once, smallest weight first, then biggest pointer first. No other list is so.
 pub record Priorities (w list : List ℕ) : Type 0 where
   pub sorted : Sorted (goesFirst (weightOf w)) list
@@ -73,12 +88,17 @@ pub record Demand2 : Type 0 where
   pub empty : (w : List ℕ) → (underBy w [] ≡ reduce w) × (overBy w [] ≡ reduce w)
   pub priorities : (w : List ℕ) → Priorities w (order w)
   pub no-others : (w list : List ℕ) → Priorities w list → list ≡ order w
-  -- to a size: on the right side; at most t nodes for t ≥ 2; the answer and its trials are what 01's sentences say, and no other
-  pub size-under : (w : List ℕ) (t : ℕ) → Accepted w → Under w (underToSize w t .words)
-  pub size-over : (w : List ℕ) (t : ℕ) → Accepted w → Over w (overToSize w t .words)
-  pub size-fits : (w : List ℕ) (t : ℕ) → Accepted w → 2 ≤ t → (size (underToSize w t .words) ≤ t) × (size (overToSize w t .words) ≤ t)
-  pub under-size : (w : List ℕ) (t : ℕ) (a : Answer) → UnderSize w t a ↔ (a ≡ underToSize w t)
-  pub over-size : (w : List ℕ) (t : ℕ) → Accepted w → (a : Answer) → OverSize w t a ↔ (a ≡ overToSize w t)
+  -- to a size that is not refused: on the right side, with at most t nodes; the answer and its trials are what the
+  -- sentences of Rules.antt say, and no other
+  pub size-verdict : (w : List ℕ) (t : ℕ) → SizeVerdict w t
+  pub size-under : (w : List ℕ) (t : ℕ) → Accepted w → underSizeOf w t ≡ accepted (size w) (vars w)
+      → Under w (underToSize w t .words) × (size (underToSize w t .words) ≤ t)
+  pub size-over : (w : List ℕ) (t : ℕ) → Accepted w → overSizeOf w t ≡ accepted (size w) (vars w)
+      → Over w (overToSize w t .words) × (size (overToSize w t .words) ≤ t)
+  pub under-size : (w : List ℕ) (t : ℕ) → underSizeOf w t ≡ accepted (size w) (vars w)
+      → (a : Answer) → UnderSize w t a ↔ (a ≡ underToSize w t)
+  pub over-size : (w : List ℕ) (t : ℕ) → Accepted w → overSizeOf w t ≡ accepted (size w) (vars w)
+      → (a : Answer) → OverSize w t a ↔ (a ≡ overToSize w t)
   -- to a count that is not refused, likewise: at most k valuations from below, at least k from above
   pub count-under : (w : List ℕ) (k : ℕ) → Accepted w → underCountOf w k ≡ accepted (size w) (vars w)
       → Under w (underToCount w k .words) × (countOf (underToCount w k .words) ≤ k)

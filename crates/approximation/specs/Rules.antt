@@ -1,5 +1,5 @@
--- Document 01's "The evening's cut", sentence by sentence, with no fuel: which answer the rules lead to. That they lead to the
--- answers of Search.antt and to no other is in Demand2.antt.
+-- Document 01's "The evening's cut", sentence by sentence, with no fuel: which answer the rules lead to, where a target isn't
+-- refused (18, 16 and 19: Cut.antt). That they lead to the answers of Search.antt and to no other is in Demand2.antt.
 use Prim.Native.Nat.{ℕ, suc, _-_, _^_, _≤_, _<_}
 use mathlib.Core.Path.{_≡_}
 use mathlib.Core.Bool.{cond}
@@ -45,18 +45,18 @@ pub record ByNegation (Rules : Answer → Type 0) (a : Answer) : Type 0 where
 
 -- ---- the targets: what is answered for each; an early answer makes no cut
 
--- From below to size t: t ≤ 1 gives false; t = 2 gives true if the array has two nodes, else false; t ≥ n gives the input
+-- From below to size t: t = 1 gives false; t = 2 gives true if the array has two nodes, else false; t ≥ n gives the input
 -- words as they stand; otherwise the search.
 pub record UnderSize (w : List ℕ) (t : ℕ) (a : Answer) : Type 0 where
-  pub none : t ≤ 1 → a ≡ answer (falseOf (vars w)) 0
+  pub one : t ≡ 1 → a ≡ answer (falseOf (vars w)) 0
   pub two : t ≡ 2 → a ≡ answer (cond (eqb (size w) 2) (trueOf (vars w)) (falseOf (vars w))) 0
   pub same : 2 < t → size w ≤ t → a ≡ answer w 0
   pub search : 2 < t → t < size w → SizeRules w t 0 (size w - t) 0 a
 
--- From above: t ≤ 1 gives true, also from false; t = 2 gives false if the array has one node, else true; t ≥ n gives the
--- input words as they stand; otherwise the search over the negation.
+-- From above: t = 1 gives false (document 02, E5; 01 had true there); t = 2 gives false if the array has one node, else
+-- true; t ≥ n gives the input words as they stand; otherwise the search over the negation.
 pub record OverSize (w : List ℕ) (t : ℕ) (a : Answer) : Type 0 where
-  pub none : t ≤ 1 → a ≡ answer (trueOf (vars w)) 0
+  pub one : t ≡ 1 → a ≡ answer (falseOf (vars w)) 0
   pub two : t ≡ 2 → a ≡ answer (cond (eqb (size w) 1) (falseOf (vars w)) (trueOf (vars w))) 0
   pub same : 2 < t → size w ≤ t → a ≡ answer w 0
   pub search : 2 < t → t < size w → ByNegation (SizeRules (negated w) t 0 (size w - t) 0) a

@@ -7,7 +7,6 @@
 //        decimal one of all words, and after it its two lowest words as one number
 //     6  read one block, as 0: the first two bytes are its number and the nodes that block 0 stated
 //     7  the line of a refusal: the filling is its number, the length its place
-//     8  the line of a target that is not met: the filling is the target, the length the nodes
 // Both files are made by tests/blocks_cases.py, from a reading of the rules in force that shares nothing with this code.
 use block_file::read::read_file;
 use block_file::write::write_file;
@@ -23,12 +22,9 @@ use cases::words_of;
 use diagram::node::word;
 use libc::STDOUT_FILENO;
 use messages::refusal::write_refusal;
-use messages::summary::write_missed;
 use naturals::Natural;
-use naturals::zero;
 use report::lines::REPORT;
 use report::weigh::report;
-use request::Target;
 use text::parse::parse_decimal;
 use text::parse::parse_hexadecimal;
 use text::parse::parse_natural;
@@ -172,18 +168,6 @@ fn refusal_case(number: u32, place: usize) {
     show(&lines, end);
 }
 
-fn missed_case(size: u32, after: usize) {
-    let mut lines = blank_lines();
-    let target = Target {
-        keep: false,
-        counted: false,
-        size,
-        count: zero(),
-    };
-    let end = write_missed(&mut lines, 0, target, after);
-    show(&lines, end);
-}
-
 // A number's text and a line feed, or `none`.
 fn say_text(valid: bool, text: &[u8], end: usize) {
     if valid {
@@ -250,9 +234,6 @@ fn run_bytes(kind: u32, bytes: &[u8], lent: usize, filling: u32) {
     }
     if kind == 7 {
         refusal_case(filling, lent);
-    }
-    if kind == 8 {
-        missed_case(filling, lent);
     }
 }
 

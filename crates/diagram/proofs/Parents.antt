@@ -105,7 +105,7 @@ plain-accepted w r n k lost en formed s all e l =
         omega arith
 
 -- And only then: in an accepted array every node is above its children and every node but the root is some node's child.
-reach-inside : (w : List ℕ) → Formed w → {p : ℕ} → Reach w (root w) p → p < size w
+pub reach-inside : (w : List ℕ) → Formed w → {p : ℕ} → Reach w (root w) p → p < size w
 reach-inside w formed start = omega (arith, formed .some)
 reach-inside w formed (by-low {p = q} x two) = formed .ranges q two (reach-inside w formed x) .low
 reach-inside w formed (by-high {p = q} x two) = formed .ranges q two (reach-inside w formed x) .high

@@ -48,5 +48,8 @@ pub const WEIGHTS_OF_FALSE: u32 = 15;
 // The target count of an overapproximation is above 2^v.
 pub const COUNT_TOO_LARGE: u32 = 16;
 
+// No answer to a size target has so few nodes.
+pub const SIZE_TOO_SMALL: u32 = 18;
+
 // The target count lies strictly between 0 and 2^v, and the diagram is a constant that can't be cut to it.
 pub const NOTHING_TO_CUT: u32 = 19;

@@ -5,7 +5,7 @@ use mathlib.Core.Bool.{Bool, true, false, cond}
 use mathlib.Core.List.{List, [], _∷_, _++_}
 use native.Mathlib.Omega.{arith}
 use lib.ListN.{length, length-append}
-use lib.Dec.{ltb, eqb}
+use lib.Dec.{eqb}
 use Rattle.diagram.specs.Limits.{maxVariables}
 use Rattle.writing.specs.Writing.{bytes}
 use Rattle.blocks.specs.Block.{maxStored}
@@ -13,7 +13,7 @@ use Rattle.text.specs.Digits.{decimalDigits, hexadecimalDigits, decimal, hexade
 use Rattle.text.proofs.Numerals.{decimal-length, hexadecimal-length}
 use Rattle.report.specs.Report.{refusedAt, feed}
 use Rattle.request.specs.Request.{Aim, nodes, cases}
-use Rattle.messages.specs.Texts.{subject, ofNode, moreThan, phrase, refusalText, twice, targetText, missedText, sizesText, countsText, changeText, trialsText}
+use Rattle.messages.specs.Texts.{subject, ofNode, moreThan, phrase, refusalText, twice, targetText, sizesText, countsText, changeText, trialsText}
 
 of-both : (k : ℕ) (b : Bool) (x y : List ℕ) → length x ≤ k → length y ≤ k → length (cond b x y) ≤ k
 of-both k true x y h g = h
@@ -40,13 +40,14 @@ phrase-length number =
     (of-both (longestSentence + decimalDigits) (eqb number 12) _ _ (omega arith)
     (of-both (longestSentence + decimalDigits) (eqb number 16) _ _ (omega arith)
     (of-both (longestSentence + decimalDigits) (eqb number 17) _ _ (omega arith)
+    (of-both (longestSentence + decimalDigits) (eqb number 18) _ _ (omega arith)
     (of-both (longestSentence + decimalDigits) (eqb number 19) _ _ (omega arith)
     (of-both (longestSentence + decimalDigits) (eqb number 21) _ _ (omega arith)
     (of-both (longestSentence + decimalDigits) (eqb number 22) _ _ (omega arith)
     (of-both (longestSentence + decimalDigits) (eqb number 23) _ _ (omega arith)
     (of-both (longestSentence + decimalDigits) (eqb number 24) _ _ (omega arith)
     (of-both (longestSentence + decimalDigits) (eqb number 25) _ _ (omega (arith, more-length maxStored (bytes " nodes")))
-    (omega arith))))))))))))))))
+    (omega arith)))))))))))))))))
 
 subject-length : (number place : ℕ) → length (subject number place) ≤ 6 + decimalDigits
 unfolding subject
@@ -67,12 +68,6 @@ unfolding targetText
 target-length keep (nodes t) = simp length-append (omega (arith, decimal-length t))
 target-length true (cases k) = simp length-append (omega (arith, twice-length (bytes "target at least ") k (bytes " cases (hex ")))
 target-length false (cases k) = simp length-append (omega (arith, twice-length (bytes "target at most ") k (bytes " cases (hex ")))
-
-pub missed-length : (aim : Aim) (after : ℕ) → length (missedText aim after) ≤ 23 + decimalDigits
-unfolding missedText
-missed-length (nodes t) after =
-    of-both (23 + decimalDigits) (ltb t after) (bytes "target not met: " ++ decimal after ++ bytes " nodes\n") [] (simp length-append (omega (arith, decimal-length after))) (omega arith)
-missed-length (cases k) after = omega arith
 
 pub sizes-length : (before after : ℕ) → length (sizesText before after) ≤ 11 + 2 * decimalDigits
 unfolding sizesText

@@ -3,7 +3,7 @@ use Prim.Native.Nat.{ℕ, _+_, _-_, _*_}
 use mathlib.Core.Bool.{Bool, true, false, cond, _&&_, _||_}
 use mathlib.Core.List.{List, [], _∷_, _++_}
 use lib.ListN.{length}
-use lib.Dec.{leb, ltb, eqb}
+use lib.Dec.{leb, eqb}
 use Rattle.diagram.specs.Limits.{maxVariables}
 use Rattle.writing.specs.Writing.{bytes}
 use Rattle.blocks.specs.Block.{maxStored}
@@ -47,13 +47,14 @@ phrase number =
     (cond (eqb number 12) (bytes "can't be reached from the root")
     (cond (eqb number 16) (bytes "the count to reach is above the number of all valuations")
     (cond (eqb number 17) (bytes "has a high child that is not at a larger variable")
+    (cond (eqb number 18) (bytes "no answer has so few nodes; 2 are always enough")
     (cond (eqb number 19) (bytes "a constant can't be cut to a count between 0 and the number of all valuations")
     (cond (eqb number 21) (bytes "a block is short or missing, or bytes stand after the last one")
     (cond (eqb number 22) (bytes "a check sum is wrong")
     (cond (eqb number 23) (bytes "a block number, a node count or the order of blocks is wrong")
     (cond (eqb number 24) (bytes "unused bytes are not zero")
     (cond (eqb number 25) (moreThan maxStored (bytes " nodes"))
-    (bytes "the input is refused"))))))))))))))))
+    (bytes "the input is refused")))))))))))))))))
 
 unfoldable pub refusalText : ℕ → ℕ → List ℕ
 refusalText number place = refusedAt number place ++ bytes ": " ++ subject number place ++ phrase number ++ feed
@@ -69,11 +70,6 @@ targetText keep (nodes t) = bytes "target at most " ++ decimal t ++ bytes " node
 targetText true (cases k) = twice (bytes "target at least ") k (bytes " cases (hex ") ++ feed
 targetText false (cases k) = twice (bytes "target at most ") k (bytes " cases (hex ") ++ feed
 
--- A number of cases is always met (`cases-kept` and `cases-left` of crates/shrinking/specs/Supervised.antt), so only nodes are compared.
-unfoldable pub missedText : Aim → ℕ → List ℕ
-missedText (nodes t) after = cond (ltb t after) (bytes "target not met: " ++ decimal after ++ bytes " nodes\n") []
-missedText (cases k) after = []
-
 unfoldable pub sizesText : ℕ → ℕ → List ℕ
 sizesText before after = bytes "nodes " ++ decimal before ++ (bytes " to " ++ decimal after) ++ feed
 
@@ -87,10 +83,10 @@ changeText false before after = twice (bytes "lost ") (before - after) (bytes " 
 unfoldable pub trialsText : ℕ → List ℕ
 trialsText trials = bytes "trials " ++ decimal trials ++ feed
 
--- No summary is longer (proofs/Fitting.antt): its words, eight numbers in decimal and four in hexadecimal, each with all the digits that
+-- No summary is longer (proofs/Fitting.antt): its words, seven numbers in decimal and four in hexadecimal, each with all the digits that
 -- there may be. The code has the same number in src/summary.rt.
 abbrev pub summaryWords : ℕ
-summaryWords = length (bytes "target at least  cases (hex )\ntarget not met:  nodes\nnodes  to \ncases  (hex ) to  (hex )\nadded  (hex )\ntrials \n")
+summaryWords = length (bytes "target at least  cases (hex )\nnodes  to \ncases  (hex ) to  (hex )\nadded  (hex )\ntrials \n")
 
 abbrev pub longestSummary : ℕ
-longestSummary = summaryWords + 8 * decimalDigits + 4 * hexadecimalDigits
+longestSummary = summaryWords + 7 * decimalDigits + 4 * hexadecimalDigits

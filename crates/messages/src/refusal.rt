@@ -77,6 +77,7 @@ fn write_phrase(out: &mut [u8], at: usize, number: u32) -> usize
             at,
             b"has a high child that is not at a larger variable",
         ),
+        18 => write(out, at, b"no answer has so few nodes; 2 are always enough"),
         19 => write(
             out,
             at,

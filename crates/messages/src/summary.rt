@@ -15,13 +15,13 @@ ghost use Rattle.naturals.specs.Natural.{value};
 ghost use Rattle.writing.specs.Writing.{Wrote};
 ghost use Rattle.report.specs.Report.{feed};
 ghost use Rattle.request.specs.Request.{nodes, cases, aimOf};
-ghost use Rattle.messages.specs.Texts.{twice, targetText, missedText, sizesText, countsText, changeText, trialsText};
+ghost use Rattle.messages.specs.Texts.{twice, targetText, sizesText, countsText, changeText, trialsText};
 
-// The longest summary (`longestSummary` of specs/Texts.antt, where the words stand that these bytes are): its words, eight numbers in
+// The longest summary (`longestSummary` of specs/Texts.antt, where the words stand that these bytes are): its words, seven numbers in
 // decimal and four in hexadecimal.
-const WORDS: usize = 111;
+const WORDS: usize = 88;
 
-pub const SUMMARY: usize = WORDS + 8 * DECIMAL + 4 * HEXADECIMAL;
+pub const SUMMARY: usize = WORDS + 7 * DECIMAL + 4 * HEXADECIMAL;
 
 // `added 26 (hex 1a)`
 fn write_twice(out: &mut [u8], at: usize, label: &[u8], a: Natural, middle: &[u8]) -> usize
@@ -66,20 +66,6 @@ pub fn write_target(out: &mut [u8], target: Target) -> usize
         return write_cases_target(out, target.keep, count);
     }
     write_nodes_target(out, target.keep, target.size)
-}
-
-// `target not met: 2 nodes`
-pub fn write_missed(out: &mut [u8], at: usize, target: Target, after: usize) -> usize
-    ensures { λ r. ⌜ Wrote (missedText (aimOf target) after) (now (out .entry)) at (now (out .exit)) r ⌝ }
-{
-    if target.counted {
-        return at;
-    }
-    if after <= target.size as usize {
-        return at;
-    }
-    let next = write_number(out, at, b"target not met: ", after as u64);
-    write(out, next, b" nodes\n")
 }
 
 // `nodes 5 to 4`

@@ -18,7 +18,7 @@ use Rattle.block_file.proofs.Storing.{file-length, is-written}
 use Rattle.block_file.proofs.Enough.{front-enough}
 use Rattle.writing.specs.Writing.{Wrote}
 use Rattle.writing.proofs.Laws.{wrote-length, wrote-fits, wrote-place}
-use Rattle.messages.proofs.Fitting.{refusal-length, target-length, missed-length, sizes-length, counts-length, change-length, trials-length}
+use Rattle.messages.proofs.Fitting.{refusal-length, target-length, sizes-length, counts-length, change-length, trials-length}
 use Rattle.request.specs.Request.{Aim, Meaning, help, unknown, which, cut}
 use Rattle.shrinking.specs.Shrinking.{Done, told, refused, shrunk, ifStored, storing, wanted, wantedVerdict, ifCut, diagramDone, ifRead, blank, looks, done, summary, fileBytes, textBytes, fileBuffer, textBuffer, Shrinks}
 use Rattle.report.specs.Report.{roomLent}
@@ -30,7 +30,6 @@ summary-length keep aim w a trials =
     (omega (
       arith,
       target-length keep aim,
-      missed-length aim (size a),
       sizes-length (size w) (size a),
       counts-length (countOf w) (countOf a),
       change-length keep (countOf w) (countOf a),

@@ -13,8 +13,6 @@ use Rattle.diagram.specs.Valuations.{countOf}
 use Rattle.diagram.specs.Verdict.{Outcome, accepted, refused as rejected, verdictOf}
 use Rattle.diagram.specs.declared.verdict.Output.the-variants.{Diagram}
 use Rattle.approximation.specs.Cut.{Under, Over}
-use Rattle.approximation.specs.Demand2.{Demand2}
-use Rattle.approximation.proofs.Demand2.{demand2}
 use Rattle.writing.specs.Writing.{bytes}
 use Rattle.writing.proofs.Laws.{by-le}
 use Rattle.naturals.specs.Natural.{limit}
@@ -26,7 +24,7 @@ use Rattle.block_file.proofs.Returning.{written-reads}
 use Rattle.request.specs.Request.{alike, Aim, nodes, cases, Meaning, help, unknown, which, cut, ifNumber, aimed, requestOf}
 use Rattle.shrinking.specs.Shrinking.{ifStored, storing, wanted, wantedVerdict, ifCut, diagramDone, ifRead, blank, done, fileBytes, fileBuffer}
 use Rattle.shrinking.specs.Supervised.{output, ReadsAs, Supervised}
-use Rattle.shrinking.proofs.Wanting.{then-first, under-is, over-is, admitted, keep-over, suppress-under}
+use Rattle.shrinking.proofs.Wanting.{keep-nodes, keep-cases, keep-over, suppress-nodes, suppress-cases, suppress-under}
 use Rattle.shrinking.proofs.Fitting.{file-fits, text-fits, never-short, front-is-enough, no-file, no-input}
 use Rattle.report.specs.Report.{roomLent}
 
@@ -155,18 +153,6 @@ module _ (w : List ℕ) (lent n : ℕ) (small : (k : ℕ) → getD w k 0 < 2 ^ 3
   suppresses-by to-which = inl refl
   suppresses-by (to-cut aim) = file-reads w lent n small e (Under w) false aim (λ m v g. (let o = suppress-under w roomLent maxStoredWords aim g in (o, o .accepted)))
 
-cases-kept : (w : List ℕ) (k room lent n v : ℕ) → wantedVerdict true (cases k) w room lent ≡ accepted n v → k ≤ countOf (wanted true (cases k) w .words)
-unfolding wanted wantedVerdict
-cases-kept w k room lent n v e =
-    let h = over-is w k (then-first (verdictOf w (Diagram lent) room) _ e .3) in
-    demand2 .count-over w k (admitted true (cases k) w room lent e .2 .accepted) h .1
-
-cases-left : (w : List ℕ) (k room lent n v : ℕ) → wantedVerdict false (cases k) w room lent ≡ accepted n v → countOf (wanted false (cases k) w .words) ≤ k
-unfolding wanted wantedVerdict
-cases-left w k room lent n v e =
-    let h = under-is w k (then-first (verdictOf w (Diagram lent) room) _ e .3) in
-    demand2 .count-under w k (admitted false (cases k) w room lent e .2 .accepted) h .1
-
 pub supervised : Supervised
 supervised =
     record {
@@ -174,8 +160,10 @@ supervised =
       suppresses = λ w kind text count lent n small e. suppresses-by w lent n small e (turns-suppress count kind text);
       no-file = no-file;
       no-input = no-input;
-      cases-kept = cases-kept;
-      cases-left = cases-left;
+      nodes-kept = λ w t room lent n v e. keep-nodes w room lent t e .1;
+      nodes-left = λ w t room lent n v e. suppress-nodes w room lent t e .1;
+      cases-kept = λ w k room lent n v e. keep-cases w room lent k e .1;
+      cases-left = λ w k room lent n v e. suppress-cases w room lent k e .1;
       file-fits = file-fits;
       text-fits = text-fits;
       never-short = never-short;

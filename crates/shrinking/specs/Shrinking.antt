@@ -7,17 +7,16 @@ use mathlib.Core.List.{List, [], _++_}
 use lib.ListN.{length, take, drop, replicate}
 use Rattle.diagram.specs.Diagram.{size}
 use Rattle.diagram.specs.Valuations.{countOf}
-use Rattle.diagram.specs.Verdict.{Outcome, accepted, refused as rejected, verdictFor}
+use Rattle.diagram.specs.Verdict.{Outcome, accepted, refused as rejected}
 use Rattle.diagram.specs.declared.verdict.Verdict.{Verdict}
-use Rattle.diagram.specs.declared.verdict.Output.the-variants.{Diagram}
 use Rattle.approximation.specs.Search.{Answer, underToSize, overToSize, underToCount, overToCount}
-use Rattle.targets.specs.Targets.{underCountVerdict, overCountVerdict, Meets}
+use Rattle.targets.specs.Targets.{underSizeVerdict, overSizeVerdict, underCountVerdict, overCountVerdict, Meets}
 use Rattle.blocks.specs.Block.{blockBytes, maxStored, maxStoredWords, Outcome as Stored, nodes as stored, refused as unread}
 use Rattle.block_file.specs.File.{blockCount, Reading, reading, readFile, writeOutcome, fileOf}
 use Rattle.writing.specs.Writing.{Wrote}
 use Rattle.report.specs.Report.{roomLent}
 use Rattle.request.specs.Request.{Aim, nodes, cases, Meaning, help, unknown, which, cut}
-use Rattle.messages.specs.Texts.{helpText, unknownText, whichText, refusalText, targetText, missedText, sizesText, countsText, changeText, trialsText, longestSummary}
+use Rattle.messages.specs.Texts.{helpText, unknownText, whichText, refusalText, targetText, sizesText, countsText, changeText, trialsText, longestSummary}
 
 -- ---- the one cut that is meant: keep goes over, suppress goes under
 
@@ -28,7 +27,8 @@ wanted true (cases k) w = overToCount w k
 wanted false (cases k) w = underToCount w k
 
 unfoldable pub wantedVerdict : Bool → Aim → List ℕ → ℕ → ℕ → Outcome
-wantedVerdict keep (nodes t) w = verdictFor Diagram w
+wantedVerdict true (nodes t) w = overSizeVerdict w t
+wantedVerdict false (nodes t) w = underSizeVerdict w t
 wantedVerdict true (cases k) w = overCountVerdict w k
 wantedVerdict false (cases k) w = underCountVerdict w k
 
@@ -87,7 +87,6 @@ looks (cut keep aim) = true
 unfoldable pub summary : Bool → Aim → List ℕ → List ℕ → ℕ → List ℕ
 summary keep aim w a trials =
     targetText keep aim
-    ++ missedText aim (size a)
     ++ sizesText (size w) (size a)
     ++ (countsText (countOf w) (countOf a) ++ changeText keep (countOf w) (countOf a))
     ++ trialsText trials

@@ -35,7 +35,9 @@ pub record Supervised : Type 0 where
   -- words that ask for no cut write no byte of a file, whatever the input is
   pub no-file : (m : Meaning) (s : List ℕ) (lent : ℕ) → looks m ≡ false → fileBytes (done m s lent) ≡ []
   pub no-input : (m : Meaning) (s t : List ℕ) (lent : ℕ) → looks m ≡ false → done m s lent ≡ done m t lent
-  -- a number of cases is met by every cut (and a number of nodes from 2 on: `size-fits` of Demand2)
+  -- a number of nodes and a number of cases are met by every cut that isn't refused
+  pub nodes-kept : (w : List ℕ) (t room lent n v : ℕ) → wantedVerdict true (nodes t) w room lent ≡ accepted n v → size (wanted true (nodes t) w .words) ≤ t
+  pub nodes-left : (w : List ℕ) (t room lent n v : ℕ) → wantedVerdict false (nodes t) w room lent ≡ accepted n v → size (wanted false (nodes t) w .words) ≤ t
   pub cases-kept : (w : List ℕ) (k room lent n v : ℕ) → wantedVerdict true (cases k) w room lent ≡ accepted n v → k ≤ countOf (wanted true (cases k) w .words)
   pub cases-left : (w : List ℕ) (k room lent n v : ℕ) → wantedVerdict false (cases k) w room lent ≡ accepted n v → countOf (wanted false (cases k) w .words) ≤ k
   -- both answers fit the buffers of the program, and the writer's 4 does not come up there

@@ -4,7 +4,6 @@ use counts::exact_cardinality;
 use diagram::limits::ROOM_PER_NODE;
 use messages::summary::write_change;
 use messages::summary::write_counts;
-use messages::summary::write_missed;
 use messages::summary::write_sizes;
 use messages::summary::write_target;
 use messages::summary::write_trials;
@@ -54,8 +53,7 @@ pub(crate) fn write_summary(
     ensures { λ r. ⌜ Wrote (summary (target .keep) (aimOf target) (now (words .entry)) (now (answer .entry)) trials) (now (out .entry)) 0 (now (out .exit)) r ⌝ }
 {
     let aimed = write_target(out, target);
-    let missed = write_missed(out, aimed, target, answer.len() / 3);
-    let sizes = write_sizes(out, missed, words.len() / 3, answer.len() / 3);
+    let sizes = write_sizes(out, aimed, words.len() / 3, answer.len() / 3);
     let counts = write_middle(out, sizes, target.keep, words, answer);
     write_trials(out, counts, trials)
 }

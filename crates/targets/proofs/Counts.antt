@@ -1,16 +1,15 @@
 -- Cutting to a count: what the searches are given, and overapproximating by negation.
 use Prim.Native.Nat.{ℕ, _-_, _*_, _^_, _≤_, _<_, max}
 use mathlib.Core.Path.{_≡_, refl, sym, ap, _∙_}
-use mathlib.Core.Bool.{Bool, true, false, _&&_}
+use mathlib.Core.Bool.{Bool, true, false}
 use mathlib.Core.List.{List}
 use native.Mathlib.Omega.{arith}
 use lib.ListN.{length, take, drop}
-use lib.Dec.{ltb, eqb}
 use Rattle.naturals.specs.Natural.{value}
 use Rattle.diagram.specs.Limits.{maxNodes, maxVariables}
 use Rattle.diagram.specs.Diagram.{size, vars, Accepted}
 use Rattle.diagram.specs.Valuations.{countOf}
-use Rattle.diagram.specs.Verdict.{accepted, said, row, most, Checked}
+use Rattle.diagram.specs.Verdict.{accepted, said, most, Checked}
 use Rattle.diagram.specs.declared.verdict.Verdict.{Verdict}
 use Rattle.diagram.specs.declared.verdict.Verdict.the-variants.{Accepted as Yes, Refused as No}
 use Rattle.diagram.specs.declared.verdict.Output.the-variants.{Diagram}
@@ -20,9 +19,9 @@ use Rattle.room_map.specs.Map.{countsTo, searchTo}
 use Rattle.negation.specs.Negation.{negated, Ready}
 use Rattle.negation.proofs.Words.{negated-true}
 use Rattle.negation.proofs.Meaning.{negated-vars, negated-is-two, negated-accepted, negated-count}
-use Rattle.approximation.specs.Cut.{between, underCountOf, overCountOf, Under}
+use Rattle.approximation.specs.Cut.{overCountOf, Under}
 use Rattle.approximation.specs.Search.{back, underToCount, overToCount}
-use Rattle.approximation.proofs.Listing.{under-open-accepted, over-accepted-open, over-accepted-most}
+use Rattle.approximation.proofs.Listing.{under-open-accepted, under-count-own, over-count-own, over-accepted-open, over-accepted-most}
 use Rattle.approximation.proofs.Targets.{Open, opposite, one-count, to-count-none, over-count-same, over-count-negates, to-count-under}
 use Rattle.cuts.proofs.Rooms.{drop-more}
 use Rattle.recounts.specs.Kept.{Turnable, Turned}
@@ -32,7 +31,7 @@ use Rattle.trials.specs.Answers.{Constant, Keeping, Kept, Returned}
 use Rattle.trials.proofs.Early.{searching-ordered, searching-few, searching-keeps, searching-kept, falsely}
 use Rattle.count_search.specs.Rounds.{Counted, Aiming, Above}
 use Rattle.count_search.proofs.Aims.{counted-searches, counted-found}
-use Rattle.told.specs.Told.{toldOf}
+use Rattle.told.specs.Told.{countToldOf}
 use Rattle.targets.specs.Hits.{toCount, countVerdict, ToCount, remaining, Targeting, Counting, Lacking, Mirroring, Hit}
 use Rattle.targets.proofs.Hitting.{Flipped, most-same, targeting-searches, negation-hits, meets-refused, meets-hit, check-targets}
 
@@ -246,27 +245,9 @@ module _ {w r out : List ℕ} {k n v : ℕ} (a : Counting true w r out k n v) wh
 -- ---- the verdicts
 
 -- An acceptance of a target has the diagram's own counts.
-under-own : (w : List ℕ) (k : ℕ) {n v : ℕ} → underCountOf w k ≡ accepted n v → underCountOf w k ≡ accepted (size w) (vars w)
-unfolding underCountOf row
-under-own w k e = own (between w k && eqb (size w) 2) e
-  where
-    own : (b : Bool) {n v : ℕ} → row 19 b 0 (accepted (size w) (vars w)) ≡ accepted n v → row 19 b 0 (accepted (size w) (vars w)) ≡ accepted (size w) (vars w)
-    own true e = let z : _≡_ {A = ℕ} 0 1 = cc in absurd (omega arith)
-    own false e = refl
-
-over-own : (w : List ℕ) (k : ℕ) {n v : ℕ} → overCountOf w k ≡ accepted n v → overCountOf w k ≡ accepted (size w) (vars w)
-unfolding overCountOf row
-over-own w k e = own (ltb (2 ^ vars w) k) (between w k && eqb (size w) 1) e
-  where
-    own : (c b : Bool) {n v : ℕ} → row 16 c 0 (row 19 b 0 (accepted (size w) (vars w))) ≡ accepted n v
-        → row 16 c 0 (row 19 b 0 (accepted (size w) (vars w))) ≡ accepted (size w) (vars w)
-    own true b e = let z : _≡_ {A = ℕ} 0 1 = cc in absurd (omega arith)
-    own false true e = let z : _≡_ {A = ℕ} 0 1 = cc in absurd (omega arith)
-    own false false e = refl
-
-told-own : (above : Bool) (w : List ℕ) (k : ℕ) {n v : ℕ} → toldOf above w k ≡ accepted n v → toldOf above w k ≡ accepted (size w) (vars w)
-told-own true w k e = over-own w k e
-told-own false w k e = under-own w k e
+told-own : (above : Bool) (w : List ℕ) (k : ℕ) {n v : ℕ} → countToldOf above w k ≡ accepted n v → countToldOf above w k ≡ accepted (size w) (vars w)
+told-own true w k e = over-count-own w k e
+told-own false w k e = under-count-own w k e
 
 module _ (above : Bool) {w : List ℕ} (k : ℕ) {room room′ : List ℕ} (out : List ℕ) {verdict : Verdict} (checked : Checked w (Diagram (length out)) room room′ verdict) where
   pub check-refuses : {i p : ℕ} → verdict ≡ No i p → ToCount above w k room room′ out out verdict 0 0
@@ -276,7 +257,7 @@ module _ (above : Bool) {w : List ℕ} (k : ℕ) {room room′ : List ℕ} (out 
     pub open-few : v ≤ maxVariables
     open-few = let is = admitted checked e .variables in let few = admitted checked e .accepted .formed .variables in omega arith
 
-    module _ (l : Verdict) (says : (w : List ℕ) → n ≡ size w → v ≡ vars w → said l ≡ toldOf above w k) where
+    module _ (l : Verdict) (says : (w : List ℕ) → n ≡ size w → v ≡ vars w → said l ≡ countToldOf above w k) where
       -- the check accepts: the verdict is what is told of the target
       told-is : countVerdict above w k (length room) (length out) ≡ said l
       told-is = rw (verdict-is checked e) (sym (says w (admitted checked e .nodes) (admitted checked e .variables)))

@@ -2,18 +2,17 @@
 use Prim.Native.Nat.{ℕ, _+_, _-_, _*_, _≤_, max, min}
 use mathlib.Core.Path.{_≡_, refl, sym, ap, _∙_}
 use mathlib.Core.List.{List, _++_}
-use mathlib.Core.Bool.{Bool}
 use native.Mathlib.Omega.{arith}
 use lib.ListN.{length, take, drop, replicate}
 use lib.Seq.{take-append-seam}
 use Rattle.diagram.specs.Limits.{maxNodes}
 use Rattle.diagram.specs.Diagram.{size, Accepted, Ordered}
-use Rattle.diagram.specs.Verdict.{Outcome, accepted, refused, most, roomOf, roomAfter, verdictFor, Checked}
+use Rattle.diagram.specs.Verdict.{Outcome, accepted, refused, most, roomOf, roomAfter, Checked}
 use Rattle.diagram.specs.declared.verdict.Verdict.{Verdict}
 use Rattle.diagram.specs.declared.verdict.Verdict.the-variants.{Accepted as Yes, Refused as No}
 use Rattle.diagram.specs.declared.verdict.Output.the-variants.{Diagram}
 use Rattle.diagram.proofs.Reading.{accepted-ordered}
-use Rattle.diagram.proofs.Entering.{refusal-is, verdict-is, admitted, lent-fits, lent-word, lent-enough, builds-refused, builds-accepted}
+use Rattle.diagram.proofs.Entering.{admitted, lent-fits, lent-word, lent-enough, builds-refused, builds-accepted}
 use Rattle.room_map.specs.Map.{answerFrom, searchTo}
 use Rattle.negation.specs.Negation.{negated, over, Ready}
 use Rattle.negation.proofs.Meaning.{negated-vars, negated-accepted, negated-twice, negated-most}
@@ -23,7 +22,7 @@ use Rattle.cuts.proofs.Rooms.{zeros-back}
 use Rattle.trials.specs.Trials.{Searching, Found}
 use Rattle.trials.specs.Answers.{answerIn, Giving, Given, Returning, Returned}
 use Rattle.targets.specs.Targets.{Meets}
-use Rattle.targets.specs.Hits.{toSize, ToSize, Targeting, Hit}
+use Rattle.targets.specs.Hits.{Targeting, Hit}
 
 -- The negation stands at the front of a list.
 pub record Flipped (w : List ℕ) (made : ℕ) (flipped : List ℕ) : Type 0 where
@@ -205,9 +204,6 @@ module _ (outcome : ℕ → ℕ → Outcome) (b : Answer) {w room room′ : List
   }
 
 module _ {w room room′ : List ℕ} (out : List ℕ) {verdict : Verdict} (checked : Checked w (Diagram (length out)) room room′ verdict) where
-  pub size-refuses : {k p : ℕ} → verdict ≡ No k p → (above : Bool) (t : ℕ) → ToSize above w t room room′ out out verdict 0 0
-  size-refuses e above t = meets-refused (verdictFor Diagram w) (toSize above w t) out (checked .left) e (refusal-is checked e)
-
   module _ {n v : ℕ} (e : verdict ≡ Yes n v) where
     pub check-targets : Targeting w room′ out n v
     check-targets =
@@ -220,7 +216,3 @@ module _ {w room room′ : List ℕ} (out : List ℕ) {verdict : Verdict} (check
           zero = lent-word checked e (roomOf w) (omega arith);
           output = lent-enough w (length out) (given .lent);
         }
-
-    pub size-meets : (above : Bool) (t : ℕ) {room″ out′ : List ℕ} {k trials : ℕ} → Hit (toSize above w t) room′ room″ out out′ k trials
-        → ToSize above w t room room″ out out′ (Yes n v) k trials
-    size-meets above t h = meets-hit (verdictFor Diagram w) (toSize above w t) out (checked .left) refl (verdict-is checked e) h

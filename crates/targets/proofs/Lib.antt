@@ -1,6 +1,6 @@
 -- Laws of cutting to a target.
 --     Hitting    from what a search finds to what is answered
---     Sizes      overapproximating to a size
+--     Sizes      cutting to a size, and what is promised of every call
 --     Counts     cutting to a count
 pub mod Hitting
 pub mod Sizes

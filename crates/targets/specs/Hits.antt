@@ -15,7 +15,7 @@ use Rattle.approximation.specs.Cut.{underCountOf, overCountOf}
 use Rattle.approximation.specs.Search.{Answer, underToSize, overToSize, underToCount, overToCount}
 use Rattle.recounts.specs.Kept.{Whole}
 use Rattle.trials.specs.Trials.{Searching}
-use Rattle.told.specs.Told.{toldOf}
+use Rattle.told.specs.Told.{sizeToldOf, countToldOf}
 use Rattle.targets.specs.Targets.{Meets}
 
 abbrev pub toSize : Bool → List ℕ → ℕ → Answer
@@ -25,11 +25,14 @@ abbrev pub toCount : Bool → List ℕ → ℕ → Answer
 toCount above w k = cond above (overToCount w k) (underToCount w k)
 
 -- What is promised either way.
+abbrev pub sizeVerdict : Bool → List ℕ → ℕ → ℕ → ℕ → Outcome
+sizeVerdict above w t room lent = andThen (verdictFor Diagram w room lent) (sizeToldOf above w t)
+
 abbrev pub countVerdict : Bool → List ℕ → ℕ → ℕ → ℕ → Outcome
-countVerdict above w k room lent = andThen (verdictFor Diagram w room lent) (toldOf above w k)
+countVerdict above w k room lent = andThen (verdictFor Diagram w room lent) (countToldOf above w k)
 
 abbrev pub ToSize : (above : Bool) (w : List ℕ) (t : ℕ) (room room′ out out′ : List ℕ) → Verdict → ℕ → ℕ → Type 0
-ToSize above w t = Meets (verdictFor Diagram w) (toSize above w t) w
+ToSize above w t = Meets (sizeVerdict above w t) (toSize above w t) w
 
 abbrev pub ToCount : (above : Bool) (w : List ℕ) (k : ℕ) (room room′ out out′ : List ℕ) → Verdict → ℕ → ℕ → Type 0
 ToCount above w k = Meets (countVerdict above w k) (toCount above w k) w
@@ -53,7 +56,7 @@ pub record Hit (a : Answer) (r after out out′ : List ℕ) (k trial-count : ℕ
 -- With a count target that is not refused.
 pub record Counting (above : Bool) (w r out : List ℕ) (k n v : ℕ) : Type 0 where
   pub targeting : Targeting w r out n v
-  pub target : toldOf above w k ≡ accepted (size w) (vars w)
+  pub target : countToldOf above w k ≡ accepted (size w) (vars w)
 
 -- How many of all valuations a target k leaves.
 abbrev pub remaining : List ℕ → ℕ → ℕ

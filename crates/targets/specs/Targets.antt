@@ -1,15 +1,21 @@
 -- What cutting to a target answers (document 01, "The evening's cut").
-use Prim.Native.Nat.{ℕ}
+use Prim.Native.Nat.{ℕ, _*_, _≤_}
 use mathlib.Core.Path.{_≡_}
 use mathlib.Core.List.{List}
-use lib.ListN.{length}
-use Rattle.diagram.specs.Verdict.{Outcome, andThen, verdictFor, ifAccepted, Builds}
+use lib.ListN.{length, take}
+use Rattle.diagram.specs.Verdict.{Outcome, accepted, said, andThen, verdictFor, ifAccepted, Builds}
 use Rattle.diagram.specs.declared.verdict.Verdict.{Verdict}
 use Rattle.diagram.specs.declared.verdict.Output.the-variants.{Diagram}
-use Rattle.approximation.specs.Cut.{underCountOf, overCountOf}
+use Rattle.approximation.specs.Cut.{underSizeOf, overSizeOf, underCountOf, overCountOf, Under, Over}
 use Rattle.approximation.specs.Search.{Answer, underToSize, overToSize, underToCount, overToCount}
 
--- For a count target 16 and 19 come after the check for a diagram as output.
+-- After the check for a diagram as output come 18 for a size target, 16 and 19 for a count target.
+abbrev pub underSizeVerdict : List ℕ → ℕ → ℕ → ℕ → Outcome
+underSizeVerdict w t room lent = andThen (verdictFor Diagram w room lent) (underSizeOf w t)
+
+abbrev pub overSizeVerdict : List ℕ → ℕ → ℕ → ℕ → Outcome
+overSizeVerdict w t room lent = andThen (verdictFor Diagram w room lent) (overSizeOf w t)
+
 abbrev pub underCountVerdict : List ℕ → ℕ → ℕ → ℕ → Outcome
 underCountVerdict w k room lent = andThen (verdictFor Diagram w room lent) (underCountOf w k)
 
@@ -23,13 +29,21 @@ pub record Meets (outcome : ℕ → ℕ → Outcome) (a : Answer) (w room room�
 
 -- To a size t, and to a count k.
 abbrev pub UnderToSize : (w : List ℕ) (t : ℕ) (room room′ out out′ : List ℕ) → Verdict → ℕ → ℕ → Type 0
-UnderToSize w t = Meets (verdictFor Diagram w) (underToSize w t) w
+UnderToSize w t = Meets (underSizeVerdict w t) (underToSize w t) w
 
 abbrev pub OverToSize : (w : List ℕ) (t : ℕ) (room room′ out out′ : List ℕ) → Verdict → ℕ → ℕ → Type 0
-OverToSize w t = Meets (verdictFor Diagram w) (overToSize w t) w
+OverToSize w t = Meets (overSizeVerdict w t) (overToSize w t) w
 
 abbrev pub UnderToCount : (w : List ℕ) (k : ℕ) (room room′ out out′ : List ℕ) → Verdict → ℕ → ℕ → Type 0
 UnderToCount w k = Meets (underCountVerdict w k) (underToCount w k) w
 
 abbrev pub OverToCount : (w : List ℕ) (k : ℕ) (room room′ out out′ : List ℕ) → Verdict → ℕ → ℕ → Type 0
 OverToCount w k = Meets (overCountVerdict w k) (overToCount w k) w
+
+-- What is promised of every call to a size, whatever is offered (`sized` of proofs/Sizes.antt): no more nodes than the target
+-- stand in the output, and where the call isn't refused they are a diagram on the right side.
+pub record Sized : Type 0 where
+  pub under : {w : List ℕ} {t : ℕ} {room room′ out out′ : List ℕ} {r : Verdict} {count trials : ℕ} → UnderToSize w t room room′ out out′ r count trials
+      → (count ≤ t) × ((n v : ℕ) → said r ≡ accepted n v → Under w (take (3 * count) out′))
+  pub over : {w : List ℕ} {t : ℕ} {room room′ out out′ : List ℕ} {r : Verdict} {count trials : ℕ} → OverToSize w t room room′ out out′ r count trials
+      → (count ≤ t) × ((n v : ℕ) → said r ≡ accepted n v → Over w (take (3 * count) out′))

@@ -17,7 +17,7 @@ use naturals::is_zero;
 use naturals::power_of_two;
 use negation::negate;
 use recounts::turning::turn;
-use told::tell;
+use told::count::tell;
 use trials::answers::Answer;
 use trials::answers::constantly;
 use trials::answers::give;

@@ -7,6 +7,7 @@ use diagram::verdict::Output;
 use diagram::verdict::Verdict;
 use negation::negate;
 use size_search::under_size;
+use told::size::tell;
 use trials::answers::Answer;
 use trials::answers::give;
 use trials::answers::give_back;
@@ -30,7 +31,7 @@ fn under(
     found
 }
 
-// Negate, underapproximate, negate.
+// Negate, underapproximate, negate. One node alone is false, whichever way it is asked for.
 fn over(
     words: &[u32],
     target: u32,
@@ -42,6 +43,9 @@ fn over(
     requires { ⌜ Targeting (now words) (now room) (now output) nodes vars ⌝ }
     ensures { λ r. ⌜ Hit (overToSize (now (words .entry)) target) (now (room .entry)) (now (room .exit)) (now (output .entry)) (now (output .exit)) (r .nodes) (r .trials) ⌝ }
 {
+    if target < 2 {
+        return under(words, target, room, output, nodes, vars);
+    }
     let mut flipped = [0u32; MAX_WORDS];
     let made = negate(words, &mut flipped, nodes, vars);
     let found = under_size(&flipped[..3 * made], room, target, made, vars);
@@ -80,7 +84,8 @@ fn to_size(
 ) -> Approximated
     ensures { λ r. ⌜ ToSize above (now (words .entry)) target (now (room .entry)) (now (room .exit)) (now (output .entry)) (now (output .exit)) (r .verdict) (r .nodes) (r .trials) ⌝ }
 {
-    let verdict = admit(words, room, Output::Diagram(output.len()));
+    let checked = admit(words, room, Output::Diagram(output.len()));
+    let verdict = tell(checked, words, target, above);
     let Verdict::Accepted { nodes, vars } = verdict else {
         return Approximated {
             verdict,
@@ -90,13 +95,13 @@ fn to_size(
     };
     let found = hit(words, target, above, room, output, nodes, vars);
     Approximated {
-        verdict: Verdict::Accepted { nodes, vars },
+        verdict,
         nodes: found.nodes,
         trials: found.trials,
     }
 }
 
-// For a target of two nodes or more the answer has at most so many, and it holds only where the diagram does.
+// The answer has at most so many nodes, and it holds only where the diagram does.
 pub fn underapproximate_to_size(
     words: &[u32],
     target: u32,
@@ -108,7 +113,7 @@ pub fn underapproximate_to_size(
     to_size(words, target, false, room, output)
 }
 
-// For a target of two nodes or more the answer has at most so many, and it holds wherever the diagram does.
+// The answer has at most so many nodes, and it holds wherever the diagram does.
 pub fn overapproximate_to_size(
     words: &[u32],
     target: u32,

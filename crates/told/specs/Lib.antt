@@ -1,3 +1,3 @@
 -- For the code of the checks; no promise to a caller names this.
---     Told    16 and 19, from below or from above
+--     Told    18, and 16 and 19, from below or from above
 pub mod Told

@@ -95,17 +95,23 @@ slice-aggregate-write-14 c = search needs
 write-requires-14 : tie.Need-write-requires-14
 write-requires-14 c κs = search needs
 
+slice-aggregate-write-15 : tie.Need-slice-aggregate-write-15
+slice-aggregate-write-15 c = search needs
+
+write-requires-15 : tie.Need-write-requires-15
+write-requires-15 c κs = search needs
+
 slice-aggregate-write-limit-2 : tie.Need-slice-aggregate-write-limit-2
 slice-aggregate-write-limit-2 c = search needs
 
 write-limit-requires-2 : tie.Need-write-limit-requires-2
 write-limit-requires-2 c κs = search needs
 
-slice-aggregate-write-15 : tie.Need-slice-aggregate-write-15
-slice-aggregate-write-15 c = search needs
+slice-aggregate-write-16 : tie.Need-slice-aggregate-write-16
+slice-aggregate-write-16 c = search needs
 
-write-requires-15 : tie.Need-write-requires-15
-write-requires-15 c κs = search needs
+write-requires-16 : tie.Need-write-requires-16
+write-requires-16 c κs = search needs
 
 same-length : tie.Need-same-length
 same-length c = search needs
@@ -217,14 +223,21 @@ same-length-16 c = search needs
 
 returns-16 : tie.Need-returns-16
 unfolding phrase
-returns-16 c = rw (c .before .before .before .before .before .match .keys16) (c .before .before .write-limit2 .ensures)
+returns-16 c = rw (c .before .before .before .before .before .match .keys16) (c .before .before .write15 .ensures)
 
 same-length-17 : tie.Need-same-length-17
 same-length-17 c = search needs
 
 returns-17 : tie.Need-returns-17
 unfolding phrase
-returns-17 c = simp (ne-eqb (c .before .before .before .before .before .before .before .args .number) 4 (c .before .before .before .before .before .match .rest .0 .0 .0 .0 .0 .0 .0 .0 .0 .0 .0 .0 .0 .0 .0 .1), ne-eqb (c .before .before .before .before .before .before .before .args .number) 6 (c .before .before .before .before .before .match .rest .0 .0 .0 .0 .0 .0 .0 .0 .0 .0 .0 .0 .0 .0 .1), ne-eqb (c .before .before .before .before .before .before .before .args .number) 7 (c .before .before .before .before .before .match .rest .0 .0 .0 .0 .0 .0 .0 .0 .0 .0 .0 .0 .0 .1), ne-eqb (c .before .before .before .before .before .before .before .args .number) 8 (c .before .before .before .before .before .match .rest .0 .0 .0 .0 .0 .0 .0 .0 .0 .0 .0 .0 .1), ne-eqb (c .before .before .before .before .before .before .before .args .number) 9 (c .before .before .before .before .before .match .rest .0 .0 .0 .0 .0 .0 .0 .0 .0 .0 .0 .1), ne-eqb (c .before .before .before .before .before .before .before .args .number) 10 (c .before .before .before .before .before .match .rest .0 .0 .0 .0 .0 .0 .0 .0 .0 .0 .1), ne-eqb (c .before .before .before .before .before .before .before .args .number) 11 (c .before .before .before .before .before .match .rest .0 .0 .0 .0 .0 .0 .0 .0 .0 .1), ne-eqb (c .before .before .before .before .before .before .before .args .number) 12 (c .before .before .before .before .before .match .rest .0 .0 .0 .0 .0 .0 .0 .0 .1), ne-eqb (c .before .before .before .before .before .before .before .args .number) 16 (c .before .before .before .before .before .match .rest .0 .0 .0 .0 .0 .0 .0 .1), ne-eqb (c .before .before .before .before .before .before .before .args .number) 17 (c .before .before .before .before .before .match .rest .0 .0 .0 .0 .0 .0 .1), ne-eqb (c .before .before .before .before .before .before .before .args .number) 19 (c .before .before .before .before .before .match .rest .0 .0 .0 .0 .0 .1), ne-eqb (c .before .before .before .before .before .before .before .args .number) 21 (c .before .before .before .before .before .match .rest .0 .0 .0 .0 .1), ne-eqb (c .before .before .before .before .before .before .before .args .number) 22 (c .before .before .before .before .before .match .rest .0 .0 .0 .1), ne-eqb (c .before .before .before .before .before .before .before .args .number) 23 (c .before .before .before .before .before .match .rest .0 .0 .1), ne-eqb (c .before .before .before .before .before .before .before .args .number) 24 (c .before .before .before .before .before .match .rest .0 .1), ne-eqb (c .before .before .before .before .before .before .before .args .number) 25 (c .before .before .before .before .before .match .rest .1)) (c .before .before .write15 .ensures)
+returns-17 c = rw (c .before .before .before .before .before .match .keys17) (c .before .before .write-limit2 .ensures)
+
+same-length-18 : tie.Need-same-length-18
+same-length-18 c = search needs
+
+returns-18 : tie.Need-returns-18
+unfolding phrase
+returns-18 c = simp (ne-eqb (c .before .before .before .before .before .before .before .args .number) 4 (c .before .before .before .before .before .match .rest .0 .0 .0 .0 .0 .0 .0 .0 .0 .0 .0 .0 .0 .0 .0 .0 .1), ne-eqb (c .before .before .before .before .before .before .before .args .number) 6 (c .before .before .before .before .before .match .rest .0 .0 .0 .0 .0 .0 .0 .0 .0 .0 .0 .0 .0 .0 .0 .1), ne-eqb (c .before .before .before .before .before .before .before .args .number) 7 (c .before .before .before .before .before .match .rest .0 .0 .0 .0 .0 .0 .0 .0 .0 .0 .0 .0 .0 .0 .1), ne-eqb (c .before .before .before .before .before .before .before .args .number) 8 (c .before .before .before .before .before .match .rest .0 .0 .0 .0 .0 .0 .0 .0 .0 .0 .0 .0 .0 .1), ne-eqb (c .before .before .before .before .before .before .before .args .number) 9 (c .before .before .before .before .before .match .rest .0 .0 .0 .0 .0 .0 .0 .0 .0 .0 .0 .0 .1), ne-eqb (c .before .before .before .before .before .before .before .args .number) 10 (c .before .before .before .before .before .match .rest .0 .0 .0 .0 .0 .0 .0 .0 .0 .0 .0 .1), ne-eqb (c .before .before .before .before .before .before .before .args .number) 11 (c .before .before .before .before .before .match .rest .0 .0 .0 .0 .0 .0 .0 .0 .0 .0 .1), ne-eqb (c .before .before .before .before .before .before .before .args .number) 12 (c .before .before .before .before .before .match .rest .0 .0 .0 .0 .0 .0 .0 .0 .0 .1), ne-eqb (c .before .before .before .before .before .before .before .args .number) 16 (c .before .before .before .before .before .match .rest .0 .0 .0 .0 .0 .0 .0 .0 .1), ne-eqb (c .before .before .before .before .before .before .before .args .number) 17 (c .before .before .before .before .before .match .rest .0 .0 .0 .0 .0 .0 .0 .1), ne-eqb (c .before .before .before .before .before .before .before .args .number) 18 (c .before .before .before .before .before .match .rest .0 .0 .0 .0 .0 .0 .1), ne-eqb (c .before .before .before .before .before .before .before .args .number) 19 (c .before .before .before .before .before .match .rest .0 .0 .0 .0 .0 .1), ne-eqb (c .before .before .before .before .before .before .before .args .number) 21 (c .before .before .before .before .before .match .rest .0 .0 .0 .0 .1), ne-eqb (c .before .before .before .before .before .before .before .args .number) 22 (c .before .before .before .before .before .match .rest .0 .0 .0 .1), ne-eqb (c .before .before .before .before .before .before .before .args .number) 23 (c .before .before .before .before .before .match .rest .0 .0 .1), ne-eqb (c .before .before .before .before .before .before .before .args .number) 24 (c .before .before .before .before .before .match .rest .0 .1), ne-eqb (c .before .before .before .before .before .before .before .args .number) 25 (c .before .before .before .before .before .match .rest .1)) (c .before .before .write16 .ensures)
 
 pub write-phrase-spec : {M : Type 1} → statement M
 write-phrase-spec =
@@ -260,10 +273,12 @@ write-phrase-spec =
     write-requires-13
     slice-aggregate-write-14
     write-requires-14
-    slice-aggregate-write-limit-2
-    write-limit-requires-2
     slice-aggregate-write-15
     write-requires-15
+    slice-aggregate-write-limit-2
+    write-limit-requires-2
+    slice-aggregate-write-16
+    write-requires-16
     same-length
     returns
     same-length-2
@@ -297,4 +312,6 @@ write-phrase-spec =
     same-length-16
     returns-16
     same-length-17
-    returns-17)
+    returns-17
+    same-length-18
+    returns-18)

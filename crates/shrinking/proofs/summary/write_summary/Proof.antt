@@ -8,14 +8,11 @@ use Rattle.shrinking.proofs.summary.write_summary.Tie as tie
 write-target-requires : tie.Need-write-target-requires
 write-target-requires c κs = search needs
 
-write-missed-requires : tie.Need-write-missed-requires
-write-missed-requires c κs = search needs
-
 write-sizes-requires : tie.Need-write-sizes-requires
 write-sizes-requires c κs = search needs
 
 write-middle-requires : tie.Need-write-middle-requires
-write-middle-requires c κs = c .before .before .before .before .before .before .before .before .before .before .before .before .before .before .before .before .pre
+write-middle-requires c κs = c .before .before .before .before .before .before .before .before .before .before .before .before .pre
 
 write-trials-requires : tie.Need-write-trials-requires
 write-trials-requires c κs = search needs
@@ -25,14 +22,13 @@ same-length c = search needs
 
 returns : tie.Need-returns
 unfolding summary
-returns c = wrote-then (wrote-then (wrote-then (wrote-then (c .before .before .before .before .before .before .before .before .before .before .before .before .before .before .before .before .before .before .write-target .ensures) (c .before .before .before .before .before .before .before .before .before .before .before .before .before .before .write-missed .ensures)) (c .before .before .before .before .before .before .before .before .before .before .write-sizes .ensures)) (c .before .before .before .before .before .before .write-middle .ensures)) (c .before .before .write-trials .ensures)
+returns c = wrote-then (wrote-then (wrote-then (c .before .before .before .before .before .before .before .before .before .before .before .before .before .before .write-target .ensures) (c .before .before .before .before .before .before .before .before .before .before .write-sizes .ensures)) (c .before .before .before .before .before .before .write-middle .ensures)) (c .before .before .write-trials .ensures)
 
 pub write-summary-spec : {M : Type 1} → statement M
 write-summary-spec =
     tie.close
     (tie.spec
     write-target-requires
-    write-missed-requires
     write-sizes-requires
     write-middle-requires
     write-trials-requires
