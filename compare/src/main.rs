@@ -151,7 +151,7 @@ fn main() {
     // by nodes of the words offered: below each of these
     const SIZES: [usize; 5] = [16, 256, 2048, MOST_NODES, usize::MAX];
     let mut sizes = [0u64; 5];
-    let (mut compared, mut most, mut most_vars, mut most_trials, mut safe) = (0, 0, 0, 0, 0u64);
+    let (mut compared, mut most, mut most_vars, mut most_trials, mut safe, mut departures) = (0, 0, 0, 0, 0u64, 0u64);
     while compared < requests {
         let operation = random.below(OPERATIONS.len());
         let limit = most_nodes(random);
@@ -177,6 +177,7 @@ fn main() {
         families[family][damaged as usize] += 1;
         sizes[SIZES.iter().position(|s| request.words.len() / 3 < *s).unwrap()] += 1;
         if expected.number == 0 {
+            departures += (OPERATIONS[operation].0 == Operation::OverapproximateToSize && matches!(request.argument, Argument::Size(1))) as u64;
             most = most.max(expected.nodes);
             most_vars = most_vars.max(expected.vars);
             most_trials = most_trials.max(if expected.values.len() == 2 { expected.values[1] } else { 0 });
@@ -185,6 +186,7 @@ fn main() {
         }
     }
     println!("seed {seed}: {compared} requests, no difference; {safe} of them by the allocating functions too");
+    println!("over to size 1 of what holds for no valuation, which the Rust answers otherwise: {departures}");
     println!("largest accepted: {most} nodes, {most_vars} variables; most trials {most_trials}");
     println!("nodes offered: {} below 16, {} below 256, {} below 2,048, {} below {MOST_NODES}, {} more", sizes[0], sizes[1], sizes[2], sizes[3], sizes[4]);
     println!("\n| operation | answered | refused |\n|---|--:|--:|");

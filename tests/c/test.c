@@ -335,6 +335,18 @@ int main(void) {
         {"underapproximate_to_cardinality", 6, {3, 0, 0, 3, 1, 1}, 0, {4}, 19, 0, 0, {0}, 0},
         {"overapproximate_to_cardinality", 3, {3, 0, 0}, 0, {4}, 19, 0, 0, {0}, 0},
     };
+    /* The deepest array: false, and with one link to node 1 at its end not. */
+    static uint32_t deepest[3 * (HOUAYLETAN_VARS + 2)] = {HOUAYLETAN_VARS, 0, 0, HOUAYLETAN_VARS, 1, 1, HOUAYLETAN_VARS - 1, 0, 0};
+    static const uint32_t none[] = {HOUAYLETAN_VARS, 0, 0};
+    for (uint32_t p = 3; p < HOUAYLETAN_VARS + 2; p++) deepest[3 * p] = HOUAYLETAN_VARS + 1 - p, deepest[3 * p + 1] = deepest[3 * p + 2] = p - 1;
+    q = asks(deepest, LEN(deepest));
+    q.target[0] = 1;
+    answers_words("overapproximate_to_size", q, none, LEN(none), 0);
+    deepest[8] = 1;
+    q = asks(deepest, LEN(deepest));
+    q.target[0] = 1;
+    answer("overapproximate_to_size", q, 18, 0);
+    answers_words("underapproximate_to_size", q, none, LEN(none), 0);
     for (size_t i = 0; i < LEN(readings); i++) {
         q = asks(readings[i].words, readings[i].len);
         q.list = readings[i].argument, q.list_len = readings[i].list_len;

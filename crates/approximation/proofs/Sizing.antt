@@ -1,13 +1,12 @@
 -- What the check of a size target says: 18.
 use Prim.Native.Nat.{ℕ, zero, suc, _≤_, _<_}
-use mathlib.Core.Path.{_≡_, refl, sym, ap, _∙_}
+use mathlib.Core.Path.{_≡_, refl, sym, _∙_}
 use mathlib.Core.Logic.{_⊎_, inl, inr}
-use mathlib.Core.Bool.{Bool, true, false, cond, _||_, _&&_, and-false}
+use mathlib.Core.Bool.{Bool, true, false, cond, and-false}
 use mathlib.Core.List.{List, [], _∷_}
 use native.Mathlib.Omega.{arith}
-use native.Mathlib.Decide.{decLt}
 use lib.ListN.{length}
-use lib.Dec.{eqb, ltb}
+use lib.Dec.{eqb}
 use borrow.Author.Tests.{lt-ltb, le-ltb, eq-eqb, ne-eqb}
 use Rattle.diagram.specs.Diagram.{size, vars, holds}
 use Rattle.diagram.specs.Valuations.{tally, countOf}
@@ -15,7 +14,7 @@ use Rattle.diagram.specs.Verdict.{accepted, refused, row}
 use Rattle.diagram.proofs.Tests.{by-test, by-eq, not-both}
 use Rattle.diagram.proofs.Tally.{tally-zero, tally-suc, tally-none}
 use Rattle.diagram.proofs.Outcomes.{same-refusal, same-counts, never-both}
-use Rattle.approximation.specs.Cut.{underSizeOf, overSizeOf, Under, Over}
+use Rattle.approximation.specs.Cut.{underSizeOf, overSizeOf, Over}
 use Rattle.approximation.specs.Demand2.{Nowhere, SizeVerdict}
 use Rattle.approximation.proofs.Constants.{one-holds}
 

@@ -1,17 +1,16 @@
 -- How long what is said can be.
 use Prim.Native.Nat.{ℕ, _+_, _-_, _*_, _≤_}
-use mathlib.Core.Path.{_≡_, refl}
 use mathlib.Core.Bool.{Bool, true, false, cond}
-use mathlib.Core.List.{List, [], _∷_, _++_}
+use mathlib.Core.List.{List, [], _++_}
 use native.Mathlib.Omega.{arith}
 use lib.ListN.{length, length-append}
 use lib.Dec.{eqb}
 use Rattle.diagram.specs.Limits.{maxVariables}
 use Rattle.writing.specs.Writing.{bytes}
 use Rattle.blocks.specs.Block.{maxStored}
-use Rattle.text.specs.Digits.{decimalDigits, hexadecimalDigits, decimal, hexadecimal}
+use Rattle.text.specs.Digits.{decimalDigits, hexadecimalDigits, decimal}
 use Rattle.text.proofs.Numerals.{decimal-length, hexadecimal-length}
-use Rattle.report.specs.Report.{refusedAt, feed}
+use Rattle.report.specs.Report.{refusedAt}
 use Rattle.request.specs.Request.{Aim, nodes, cases}
 use Rattle.messages.specs.Texts.{subject, ofNode, moreThan, phrase, refusalText, twice, targetText, sizesText, countsText, changeText, trialsText}
 

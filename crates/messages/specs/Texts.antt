@@ -1,7 +1,7 @@
 -- What `shrink` says on standard error. Texts are lists of bytes.
 use Prim.Native.Nat.{ℕ, _+_, _-_, _*_}
 use mathlib.Core.Bool.{Bool, true, false, cond, _&&_, _||_}
-use mathlib.Core.List.{List, [], _∷_, _++_}
+use mathlib.Core.List.{List, [], _++_}
 use lib.ListN.{length}
 use lib.Dec.{leb, eqb}
 use Rattle.diagram.specs.Limits.{maxVariables}

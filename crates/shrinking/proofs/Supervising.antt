@@ -9,9 +9,7 @@ use lib.ListN.{length, getD, take, drop, List·getD-eq-default}
 use lib.Seq.{take-at}
 use lib.Dec.{eqb}
 use Rattle.diagram.specs.Diagram.{varOf, lowOf, highOf, size, vars, Formed, Accepted}
-use Rattle.diagram.specs.Valuations.{countOf}
-use Rattle.diagram.specs.Verdict.{Outcome, accepted, refused as rejected, verdictOf}
-use Rattle.diagram.specs.declared.verdict.Output.the-variants.{Diagram}
+use Rattle.diagram.specs.Verdict.{Outcome, accepted, refused as rejected}
 use Rattle.approximation.specs.Cut.{Under, Over}
 use Rattle.writing.specs.Writing.{bytes}
 use Rattle.writing.proofs.Laws.{by-le}

@@ -13,7 +13,6 @@ use Rattle.diagram.specs.declared.verdict.Verdict.the-variants.{Accepted as Yes
 use Rattle.diagram.specs.declared.verdict.Output.the-variants.{Diagram}
 use Rattle.diagram.proofs.Meaning.{verdict-accepted}
 use Rattle.diagram.proofs.Outcomes.{never-both}
-use Rattle.negation.specs.Negation.{negated}
 use Rattle.approximation.specs.Cut.{Under, Over, underSizeOf, overSizeOf}
 use Rattle.approximation.specs.Search.{Answer, back, underToSize, overToSize}
 use Rattle.approximation.proofs.Sizing.{under-size-own, over-size-own, size-verdict}

@@ -1,13 +1,13 @@
 -- Whether a diagram holds for some valuation, by its links.
-use Prim.Native.Nat.{ℕ, zero, suc, _-_, _*_, _^_, _≤_, _<_}
-use mathlib.Core.Path.{_≡_, refl, sym, ap, _∙_}
+use Prim.Native.Nat.{ℕ, zero, suc, _-_, _≤_, _<_}
+use mathlib.Core.Path.{_≡_, refl, sym, _∙_}
 use mathlib.Core.Logic.{_≢_}
 use mathlib.Core.Bool.{Bool, true, false, cond}
 use mathlib.Core.List.{List}
 use native.Mathlib.Omega.{arith}
 use native.Mathlib.Decide.{decLt}
 use native.Mathlib.Nat.{le-mul-of-pos-right}
-use lib.ListN.{length, getD, replicate, length-replicate}
+use lib.ListN.{getD, replicate, length-replicate}
 use lib.Pow.{pow-pos}
 use lib.Dec.{ltb, eqb}
 use borrow.Author.Tests.{lt-ltb, le-ltb, eq-eqb, ne-eqb, eqb-true}
@@ -71,9 +71,6 @@ module _ (w : List ℕ) (a : Accepted w) where
         ne-eqb (walk w bs (vars w) (root w)) 1 (walks (vars w) (root w) (omega arith) (λ e. two (omega arith)))
 
   -- ---- a link to node 1: what a reached node is worth, the root is worth
-
-  worth : ℕ → ℕ
-  worth p = worthOf true w p
 
   abbrev gap : ℕ → ℕ → ℕ
   gap p q = doublings true (varOf w q - varOf w p - 1)

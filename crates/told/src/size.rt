@@ -5,7 +5,7 @@ use diagram::node::low_link_of;
 use diagram::refusal::SIZE_TOO_SMALL;
 use diagram::verdict::Verdict;
 ghost use mathlib.Core.Path.{_≡_};
-ghost use Prim.Native.Nat.{ℕ, _-_, _≤_};
+ghost use Prim.Native.Nat.{_-_, _≤_};
 ghost use lib.Dec.{ltb};
 ghost use Rattle.diagram.specs.Limits.{maxNodes};
 ghost use Rattle.diagram.specs.Diagram.{size, Accepted};

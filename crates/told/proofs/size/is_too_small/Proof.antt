@@ -7,13 +7,13 @@ use Rattle.told.proofs.size.is_too_small.Statement.{statement}
 use Rattle.told.proofs.size.is_too_small.Tie as tie
 
 returns : tie.Need-returns
-returns c = (λ a is. small-none (c .before .before .args .above) (now (c .before .before .args .words)) (c .before .before .args .target) (c .if1 .taken))
+returns c = (λ a is. small-none (c .before .before .args .above) (now (c .before .before .args .words)) (c .before .before .args .target) (omega (arith, c .if1 .taken)))
 
 returns-2 : tie.Need-returns-2
-returns-2 c = (λ a is. small-below (c .before .before .before .args .above) (now (c .before .before .before .args .words)) (c .before .before .before .args .target) (c .before .if1 .left) (not-true _ (c .if2 .taken)))
+returns-2 c = (λ a is. small-below (c .before .before .before .args .above) (now (c .before .before .before .args .words)) (c .before .before .before .args .target) (λ none. omega (arith, none, c .before .if1 .left)) (not-true _ (c .if2 .taken)))
 
 returns-3 : tie.Need-returns-3
-returns-3 c = (λ a is. small-many (c .before .before .before .before .args .above) (now (c .before .before .before .before .args .words)) (c .before .before .before .before .args .target) (c .before .before .if1 .left) (c .if3 .taken))
+returns-3 c = (λ a is. small-many (c .before .before .before .before .args .above) (now (c .before .before .before .before .args .words)) (c .before .before .before .before .args .target) (λ none. omega (arith, none, c .before .before .if1 .left)) (c .if3 .taken))
 
 holds-somewhere-requires : tie.Need-holds-somewhere-requires
 holds-somewhere-requires c κs = search needs
