@@ -30,6 +30,6 @@ abbrev pub nodesOf : Outcome → ℕ
 nodesOf (accepted n v) = n
 nodesOf (refused number place) = 0
 
--- What the check of a diagram has said is not without reason: an acceptance is one, with the counts.
+-- What the check has said of w: where that is an acceptance, w is accepted, and these are its counts.
 abbrev pub Passed : List ℕ → Outcome → Type 0
 Passed w o = (n v : ℕ) → o ≡ accepted n v → Accepted w × (n ≡ size w) × (v ≡ vars w)

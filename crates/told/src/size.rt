@@ -95,7 +95,7 @@ fn and_then(verdict: Verdict, next: Verdict) -> Verdict
     }
 }
 
-// 18, after what the check of the diagram says.
+// 18, after what the check of the diagram says: a refusal of it stays, and no node of a refused diagram is looked at.
 pub fn tell(checked: Verdict, words: &[u32], target: u32, above: bool) -> Verdict
     requires { ⌜ Passed (now words) (said checked) ⌝ }
     ensures { λ r. ⌜ said r ≡ andThen (said checked) (sizeToldOf above (now (words .entry)) target) ⌝ }
