@@ -1,35 +1,23 @@
 -- What the check of a size target says: 18.
-use Prim.Native.Nat.{ℕ, zero, suc, _≤_, _<_}
+use Prim.Native.Nat.{ℕ, _≤_, _<_}
 use mathlib.Core.Path.{_≡_, refl, sym, _∙_}
 use mathlib.Core.Logic.{_⊎_, inl, inr}
-use mathlib.Core.Bool.{Bool, true, false, cond, and-false}
-use mathlib.Core.List.{List, [], _∷_}
+use mathlib.Core.Bool.{and-false}
+use mathlib.Core.List.{List}
 use native.Mathlib.Omega.{arith}
-use lib.ListN.{length}
 use lib.Dec.{eqb}
 use borrow.Author.Tests.{lt-ltb, le-ltb, eq-eqb, ne-eqb}
 use Rattle.diagram.specs.Diagram.{size, vars, holds}
-use Rattle.diagram.specs.Valuations.{tally, countOf}
+use Rattle.diagram.specs.Valuations.{countOf}
 use Rattle.diagram.specs.Verdict.{accepted, refused, row}
 use Rattle.diagram.proofs.Tests.{by-test, by-eq, not-both}
-use Rattle.diagram.proofs.Tally.{tally-zero, tally-suc, tally-none}
+use Rattle.diagram.proofs.Tally.{tally-none, tally-nowhere}
 use Rattle.diagram.proofs.Outcomes.{same-refusal, same-counts, never-both}
 use Rattle.approximation.specs.Cut.{underSizeOf, overSizeOf, Over}
 use Rattle.approximation.specs.Demand2.{Nowhere, SizeVerdict}
 use Rattle.approximation.proofs.Constants.{one-holds}
 
 -- ---- a count of none
-
-bit-none : (b : Bool) → _≡_ {A = ℕ} (cond b 1 0) 0 → b ≡ false
-bit-none true e = absurd (omega arith)
-bit-none false e = refl
-
-tally-nowhere : (k : ℕ) (f : List Bool → Bool) → tally k f ≡ 0 → (bs : List Bool) → length bs ≡ k → f bs ≡ false
-tally-nowhere zero f e [] l = bit-none (f []) (sym (tally-zero f) ∙ e)
-tally-nowhere zero f e (b ∷ bs) l = absurd (omega arith)
-tally-nowhere (suc k) f e [] l = absurd (omega arith)
-tally-nowhere (suc k) f e (false ∷ bs) l = tally-nowhere k (λ cs. f (false ∷ cs)) (omega (arith, tally-suc k f)) bs (omega arith)
-tally-nowhere (suc k) f e (true ∷ bs) l = tally-nowhere k (λ cs. f (true ∷ cs)) (omega (arith, tally-suc k f)) bs (omega arith)
 
 pub none-nowhere : (w : List ℕ) → countOf w ≡ 0 → Nowhere w
 none-nowhere w e = tally-nowhere (vars w) (holds w) e

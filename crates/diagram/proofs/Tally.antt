@@ -53,6 +53,18 @@ tally-none (suc k) f h =
     let b = tally-none k (λ bs. f (true ∷ bs)) (λ bs l. h (true ∷ bs) (ap suc l)) in
     omega (arith, tally-suc k f)
 
+bit-none : (b : Bool) → _≡_ {A = ℕ} (cond b 1 0) 0 → b ≡ false
+bit-none true e = absurd (omega arith)
+bit-none false e = refl
+
+-- and a tally of none: no list passes
+pub tally-nowhere : (k : ℕ) (f : List Bool → Bool) → tally k f ≡ 0 → (bs : List Bool) → length bs ≡ k → f bs ≡ false
+tally-nowhere zero f e [] l = bit-none (f []) (sym (tally-zero f) ∙ e)
+tally-nowhere zero f e (b ∷ bs) l = absurd (omega arith)
+tally-nowhere (suc k) f e [] l = absurd (omega arith)
+tally-nowhere (suc k) f e (false ∷ bs) l = tally-nowhere k (λ cs. f (false ∷ cs)) (omega (arith, tally-suc k f)) bs (omega arith)
+tally-nowhere (suc k) f e (true ∷ bs) l = tally-nowhere k (λ cs. f (true ∷ cs)) (omega (arith, tally-suc k f)) bs (omega arith)
+
 one-or-other : (a b : Bool) → cond (a || b) 1 0 ≤ cond a 1 0 + cond b 1 0
 one-or-other true b = omega arith
 one-or-other false b = omega arith
