@@ -41,7 +41,6 @@
  *   12   a non-terminal is unreachable                                  the smallest such node
  *   13   a listed pointer is past the nodes                             the first such place in the list, from 0
  *   14   a terminal is listed                                           the first terminal's place in the list, from 0
- *   15   weights of the one-node diagram                                0
  *   18   a size target that no answer can meet: 0; for an overapproximation also 1, where the diagram holds for some valuation
  *                                                                       0
  *   16   a count target above 2^v for an overapproximation              0
@@ -106,8 +105,13 @@ HouayletanFloat houayletan_cardinality(const uint32_t *words, size_t words_len, 
 /* How many paths lead from the root to node 1, in the array as it stands. Refusals: the diagram's own. */
 HouayletanCount houayletan_exact_clause_cardinality(const uint32_t *words, size_t words_len, uint32_t *room, size_t room_len);
 
-/* For each node, in HOUAYLETAN_COUNT_WORDS words of the output, how many valuations that the diagram holds for have a path
- * that visits it. The output is HOUAYLETAN_WEIGHTS(n) words. Refusals: the diagram's own, then 15. */
+/* How many of the 2^v valuations the diagram holds for, and for each node, in HOUAYLETAN_COUNT_WORDS words of the output, how
+ * many of these have a path that visits it: its weight. The output is HOUAYLETAN_WEIGHTS(n) words. The one-node diagram has
+ * count 0 and one weight of 0. Costs what the weights alone do. Refusals: the diagram's own. */
+HouayletanCount houayletan_count_and_weights(const uint32_t *words, size_t words_len, uint32_t *room, size_t room_len,
+                                             uint32_t *output, size_t output_len);
+
+/* The weights alone. Refusals: the diagram's own. */
 HouayletanVerdict houayletan_node_valuation_weights(const uint32_t *words, size_t words_len, uint32_t *room, size_t room_len,
                                                     uint32_t *output, size_t output_len);
 

@@ -71,7 +71,6 @@ static inline bool holds_somewhere(const uint32_t *words, size_t n) {
 /* The other rows, for accepted words. */
 static inline Refused reading_argument(const Operation *o, const Request *q) {
     size_t n = q->words_len / 3;
-    if (strcmp(o->name, "node_valuation_weights") == 0 && n == 1) return (Refused){15, 0};
     if (o->argument == LIST) {
         for (size_t i = 0; i < q->list_len; i++) {
             if (q->list[i] >= n) return (Refused){13, i};

@@ -7,7 +7,7 @@ import block
 from diagram_cases import D
 from limits import BLOCK, BLOCK_NODES, COUNT, FILE_NODES, MAX_VARS, ROOM
 from reading import nodes, verdict
-from weights_cases import by_chances
+from weights_cases import by_chances, count_of
 
 HERE = os.path.dirname(os.path.abspath(__file__))
 TOP = os.path.join(HERE, '..')
@@ -45,10 +45,8 @@ def report(data):
     judged = verdict(words, ROOM * FILE_NODES, ('weights', COUNT * FILE_NODES))
     if judged[0] == 'refused':
         return 'refused %d at %d\n' % judged[1:]
-    if len(words) == 3:
-        return 'refused 15 at 0\n'
     weights = by_chances(words)
-    lines = ['vars %d' % words[0], 'nodes %d' % answer[1], 'count %x' % weights[1]]
+    lines = ['vars %d' % words[0], 'nodes %d' % answer[1], 'count %x' % count_of(words)]
     lines += ['node %d var %d weight %x' % (p, n[0], weights[p]) for p, n in enumerate(nodes(words))]
     return '\n'.join(lines) + '\n'
 

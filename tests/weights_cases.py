@@ -1,4 +1,5 @@
-"""Writes crates/weights_run/stdin and stdout: the cases of the weights, and what document 01 says of each. Weights come
+"""Writes crates/weights_run/stdin and stdout: the cases of count and weights, and what the rules say of each: first for both
+together, then for the weights alone. The count comes from the same paths and chances as the weights. Weights come
 from all paths where there are few variables, and else from chances: half of what comes to a node goes on by each link,
 so that skipped variables need no factor."""
 import os
@@ -43,6 +44,25 @@ def by_chances(words):
     return [int(comes[p] * ends[p] * 2 ** v) for p in range(n)]
 
 
+def count_of(words):
+    """how many valuations end at node 1: every one that does has visited it"""
+    ns = nodes(words)
+    if len(ns) == 1:
+        return 0
+    if ns[0][0] <= 8:
+        ends = 0
+        for bits in product((0, 1), repeat=ns[0][0]):
+            p = len(ns) - 1
+            while p >= 2:
+                p = ns[p][2 if bits[ns[p][0]] else 1]
+            ends += p == 1
+        return ends
+    chance = {0: Fraction(0), 1: Fraction(1)}
+    for p in sorted(range(2, len(ns)), key=lambda p: -ns[p][0]):
+        chance[p] = (chance[ns[p][1]] + chance[ns[p][2]]) / 2
+    return int(chance[len(ns) - 1] * 2 ** ns[0][0])
+
+
 def weights_of(words):
     weights = by_chances(words)
     if words[0] <= 8:
@@ -52,14 +72,15 @@ def weights_of(words):
 
 def answer(words, room, lent):
     kind, a, b = verdict(words, room, ('weights', lent))
-    if kind == 'accepted' and a == 1:
-        kind, a, b = 'refused', 15, 0
     zero = room_after(words, room, ('weights', lent))
     said = f'accepted nodes {a} vars {b}' if kind == 'accepted' else f'refused {a} at {b}'
-    said += f', room zero {zero} kept {room - zero}'
-    if kind == 'refused':
-        return f'{said}, output kept {lent}\n'
-    return f'{said}, output kept {lent - COUNT * a}, weights ' + ' '.join(f'{x:x}' for x in weights_of(words)) + '\n'
+    left = f', room zero {zero} kept {room - zero}'
+    count, written = 0, f', output kept {lent}'
+    if kind == 'accepted':
+        weights = weights_of(words)
+        count = count_of(words)
+        written = f', output kept {lent - COUNT * a}, weights ' + ' '.join(f'{x:x}' for x in weights)
+    return f'{said}, count {count:x}{left}{written}\n{said}{left}{written}\n'
 
 
 def cases():
@@ -75,11 +96,12 @@ def cases():
     yield exact(D, 0, -1)                               # 4
     yield exact(D, -1, 0)                               # 5
     yield exact(D, -1, -1)                              # 4 comes before 5
-    yield exact([3, 0, 0])                              # 15
+    yield exact([3, 0, 0])                              # the one-node diagram: count 0, one weight of 0
     yield exact([3, 0, 0], 2, 2)
-    yield exact([3, 0, 0], 0, -1)                       # 4 and 5 come before it
+    yield exact([0, 0, 0])
+    yield exact([0, 0, 0], 0, -1)                       # 4 and 5 as of any other
     yield exact([3, 0, 0], -1, 0)
-    yield exact([MAX_VARS + 1, 0, 0])                   # and so does 7
+    yield exact([MAX_VARS + 1, 0, 0])                   # and 7
     for v in (0, 1, 31, 32, MAX_VARS - 1, MAX_VARS):
         yield exact(terminals(v))
     yield exact(terminals(MAX_VARS + 1))

@@ -64,7 +64,7 @@ pub struct Operation {
     pub compare: fn(&Case, &mut Lent),
 }
 
-pub const OPERATIONS: [Operation; 14] = [
+pub const OPERATIONS: [Operation; 15] = [
     Operation {
         name: "validate",
         targets: false,
@@ -117,6 +117,25 @@ pub const OPERATIONS: [Operation; 14] = [
         compare: |c, lent| {
             let (room, output) = c.lent(lent, COUNT_WORDS);
             assert_eq!(ours::node_valuation_weights(&c.words, room, output).number, 0);
+            let ours: Vec<BigUint> = output.chunks(COUNT_WORDS).map(BigUint::from_slice).collect();
+            assert_eq!(ours, c.bdd.node_valuation_weights());
+        },
+    },
+    Operation {
+        name: "count_and_weights",
+        targets: false,
+        rust: |c| {
+            black_box(c.bdd.exact_cardinality());
+            black_box(c.bdd.node_valuation_weights());
+        },
+        ours: Some(|c, lent| {
+            let (room, output) = c.lent(lent, COUNT_WORDS);
+            _ = black_box(ours::count_and_weights(&c.words, room, output));
+        }),
+        compare: |c, lent| {
+            let (room, output) = c.lent(lent, COUNT_WORDS);
+            let counted = ours::count_and_weights(&c.words, room, output);
+            assert_eq!(BigUint::from_slice(&counted.count), c.bdd.exact_cardinality());
             let ours: Vec<BigUint> = output.chunks(COUNT_WORDS).map(BigUint::from_slice).collect();
             assert_eq!(ours, c.bdd.node_valuation_weights());
         },

@@ -52,6 +52,7 @@ extern "C" {
     fn houayletan_cardinality(words: *const u32, words_len: usize, room: *mut u32, room_len: usize) -> Float;
     fn houayletan_exact_clause_cardinality(words: *const u32, words_len: usize, room: *mut u32, room_len: usize) -> Count;
     fn houayletan_node_valuation_weights(words: *const u32, words_len: usize, room: *mut u32, room_len: usize, output: *mut u32, output_len: usize) -> Verdict;
+    fn houayletan_count_and_weights(words: *const u32, words_len: usize, room: *mut u32, room_len: usize, output: *mut u32, output_len: usize) -> Count;
     fn houayletan_reduce(words: *const u32, words_len: usize, room: *mut u32, room_len: usize, output: *mut u32, output_len: usize) -> Diagram;
 }
 
@@ -78,6 +79,11 @@ pub fn exact_clause_cardinality(words: &[u32], room: &mut [u32]) -> Count {
 pub fn node_valuation_weights(words: &[u32], room: &mut [u32], output: &mut [u32]) -> Verdict {
     let (out, out_len) = (output.as_mut_ptr(), output.len());
     unsafe { houayletan_node_valuation_weights(words.as_ptr(), words.len(), room.as_mut_ptr(), room.len(), out, out_len) }
+}
+
+pub fn count_and_weights(words: &[u32], room: &mut [u32], output: &mut [u32]) -> Count {
+    let (out, out_len) = (output.as_mut_ptr(), output.len());
+    unsafe { houayletan_count_and_weights(words.as_ptr(), words.len(), room.as_mut_ptr(), room.len(), out, out_len) }
 }
 
 pub fn reduce(words: &[u32], room: &mut [u32], output: &mut [u32]) -> Diagram {

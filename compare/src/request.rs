@@ -20,6 +20,7 @@ pub enum Operation {
     IsValuation,
     SizePerVariable,
     NodeValuationWeights,
+    CountAndWeights,
     Reduce,
     Not,
     Underapproximate,
@@ -32,7 +33,7 @@ pub enum Operation {
 
 use Operation::*;
 
-pub const OPERATIONS: [(Operation, &str, Output); 20] = [
+pub const OPERATIONS: [(Operation, &str, Output); 21] = [
     (Validate, "validate", Output::Nothing),
     (ExactCardinality, "exact_cardinality", Output::Nothing),
     (ExactClauseCardinality, "exact_clause_cardinality", Output::Nothing),
@@ -45,6 +46,7 @@ pub const OPERATIONS: [(Operation, &str, Output); 20] = [
     (IsValuation, "is_valuation", Output::Nothing),
     (SizePerVariable, "size_per_variable", Output::Variables),
     (NodeValuationWeights, "node_valuation_weights", Output::Weights),
+    (CountAndWeights, "count_and_weights", Output::Weights),
     (Reduce, "reduce", Output::Diagram),
     (Not, "not", Output::Diagram),
     (Underapproximate, "underapproximate", Output::Diagram),
@@ -128,6 +130,10 @@ fn call(request: &Request, w: &[u32], list: &[u32], room: &mut [u32], out: &mut 
         NodeValuationWeights => {
             let verdict = lent::node_valuation_weights(w, room, out);
             (verdict, vec![], COUNT_WORDS * verdict.nodes)
+        }
+        CountAndWeights => {
+            let (verdict, count, _) = counted(lent::count_and_weights(w, room, out));
+            (verdict, count, COUNT_WORDS * verdict.nodes)
         }
         Reduce => diagram(lent::reduce(w, room, out)),
         Cardinality => {

@@ -37,6 +37,9 @@ pub fn held_to(request: &Request, expected: &Reply) -> Result<(), String> {
         ExactCardinality => count(houayletan::exact_cardinality(w)),
         ExactClauseCardinality => count(houayletan::exact_clause_cardinality(w)),
         NodeValuationWeights => houayletan::node_valuation_weights(w).map(|c| (vec![], c.iter().flat_map(|c| c.words()).collect())),
+        CountAndWeights => houayletan::count_and_weights(w).map(|(count, weights)| {
+            (count.words().map(|w| w as u64).to_vec(), weights.iter().flat_map(|c| c.words()).collect())
+        }),
         Reduce => diagram(houayletan::reduce(w)),
         Cardinality => houayletan::cardinality(w).map(|c| (vec![c.to_bits()], vec![])),
         Size => houayletan::size(w).map(|x| (vec![x as u64], vec![])),

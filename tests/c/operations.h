@@ -89,6 +89,10 @@ static void on_node_valuation_weights(const Request *q, Reply *r) {
     r->verdict = houayletan_node_valuation_weights(IN, ROOM, OUT);
     r->written = HOUAYLETAN_WEIGHTS(r->verdict.nodes);
 }
+static void on_count_and_weights(const Request *q, Reply *r) {
+    reply_count(houayletan_count_and_weights(IN, ROOM, OUT), r);
+    r->written = HOUAYLETAN_WEIGHTS(r->verdict.nodes);
+}
 static void on_reduce(const Request *q, Reply *r) { reply_diagram(houayletan_reduce(IN, ROOM, OUT), r); }
 static void on_not(const Request *q, Reply *r) { reply_diagram(houayletan_not(IN, ROOM, OUT), r); }
 static void on_underapproximate(const Request *q, Reply *r) {
@@ -135,6 +139,7 @@ static const Operation operations[] = {
     OPERATION(is_valuation, NO_OUTPUT, NO_ARGUMENT),
     OPERATION(size_per_variable, VARIABLES, NO_ARGUMENT),
     OPERATION(node_valuation_weights, WEIGHTS, NO_ARGUMENT),
+    OPERATION(count_and_weights, WEIGHTS, NO_ARGUMENT),
     OPERATION(reduce, DIAGRAM, NO_ARGUMENT),
     OPERATION(not, DIAGRAM, NO_ARGUMENT),
     OPERATION(underapproximate, DIAGRAM, LIST),

@@ -88,6 +88,20 @@ static void counts(const uint32_t *words, size_t len, uint32_t count, uint32_t p
     expect(answer("cardinality", asks(words, len), 0, 0).value[0] == bits, "the count", "cardinality");
 }
 
+/* Count and weights together, and the weights alone. */
+static void weighs(const uint32_t *words, size_t len, uint32_t count, const uint32_t *weights) {
+    static const char *const names[] = {"count_and_weights", "node_valuation_weights"};
+    for (size_t i = 0; i < LEN(names); i++) {
+        Reply r = answer(names[i], asks(words, len), 0, 0);
+        expect(r.written == HOUAYLETAN_WEIGHTS(len / 3), "a weight for each node", names[i]);
+        for (size_t p = 0; p < len / 3; p++) {
+            size_t at = HOUAYLETAN_WEIGHTS(p);
+            expect(output[at] == weights[p] && all(output, at + 1, HOUAYLETAN_WEIGHTS(p + 1), 0), "the weights", names[i]);
+        }
+        if (i == 0) expect(r.value[0] == count && r.value[1] == 0 && r.value[TOP_WORD] == 0, "the count", names[i]);
+    }
+}
+
 /* Every operation takes and refuses the same words, in the same order. */
 static void refusals(const Operation *o) {
     static const struct {
@@ -155,18 +169,11 @@ int main(void) {
     counts(FALSE3, LEN(FALSE3), 0, 0);
     counts(TRUE3, LEN(TRUE3), 8, 1);
 
-    Reply r = answer("node_valuation_weights", asks(D, LEN(D)), 0, 0);
-    static const uint32_t weights[] = {0, 5, 3, 3, 5};
-    for (size_t p = 0; p < 5; p++) {
-        size_t at = HOUAYLETAN_WEIGHTS(p);
-        expect(output[at] == weights[p] && all(output, at + 1, HOUAYLETAN_WEIGHTS(p + 1), 0), "D's weights", "node_valuation_weights");
-    }
-    Request q = asks(FALSE3, LEN(FALSE3));
-    answer("node_valuation_weights", q, 15, 0);
-    q.output_len = HOUAYLETAN_WEIGHTS(1) - 1;
-    answer("node_valuation_weights", q, 4, 0);
-    answer("node_valuation_weights", asks(TRUE3, LEN(TRUE3)), 0, 0);
-    expect(output[0] == 0 && output[HOUAYLETAN_WEIGHTS(1)] == 8, "true's weights", "node_valuation_weights");
+    static const uint32_t weights[] = {0, 5, 3, 3, 5}, only_false[] = {0}, of_true[] = {0, 8}, of_and[] = {0, 1, 1, 1, 1};
+    weighs(D, LEN(D), 5, weights);
+    weighs(AND3, LEN(AND3), 1, of_and);
+    weighs(FALSE3, LEN(FALSE3), 0, only_false);
+    weighs(TRUE3, LEN(TRUE3), 8, of_true);
 
     static const uint32_t longer[] = {1, 0, 0, 1, 1, 1, 0, 1, 1}; /* true, in three nodes */
     static const uint32_t TRUE1[] = {1, 0, 0, 1, 1, 1};
@@ -185,11 +192,11 @@ int main(void) {
     counts(deep, LEN(deep), 1, 1);
     answers_words("reduce", asks(deep, LEN(deep)), deep, LEN(deep), 0);
     static const uint32_t ALL[] = {VARS, 0, 0, VARS, 1, 1};
-    r = answer("exact_cardinality", asks(ALL, LEN(ALL)), 0, 0);
+    Reply r = answer("exact_cardinality", asks(ALL, LEN(ALL)), 0, 0);
     expect(r.value[VARS / 32] == (uint32_t)1 << VARS % 32 && r.value[0] == 0, "2 to the variables", "exact_cardinality");
 
     /* A room and an output that are longer than asked for keep their rest: seen by answer() in every call. */
-    q = asks(D, LEN(D));
+    Request q = asks(D, LEN(D));
     q.room_len += 3, q.output_len = LEN(D) + 3;
     answer("reduce", q, 0, 0);
 

@@ -146,6 +146,7 @@ asks!(validate, houayletan_validate, Verdict);
 asks!(exact_cardinality, houayletan_exact_cardinality, Counted);
 asks!(exact_clause_cardinality, houayletan_exact_clause_cardinality, Counted);
 asks!(cardinality, houayletan_cardinality, CountedFloat);
+writes!(count_and_weights, houayletan_count_and_weights, Counted);
 writes!(node_valuation_weights, houayletan_node_valuation_weights, Verdict);
 writes!(reduce, houayletan_reduce, Diagram);
 asks!(size, houayletan_size, Amount);

@@ -18,7 +18,7 @@ fn in_threes(n: usize) -> String {
 /// ```
 #[derive(Clone, Copy, Debug, Eq, Hash, PartialEq)]
 pub struct Refusal {
-    /// 1 to 19.
+    /// 1 to 19, but 15.
     pub number: u32,
     /// A node, a place in the list of a cut, or 0.
     pub place: usize,
@@ -43,7 +43,6 @@ impl Refusal {
             12 => format!("node {place} can't be reached from the root"),
             13 => format!("the pointer at place {place} of the list is past the nodes"),
             14 => format!("the pointer at place {place} of the list is a terminal"),
-            15 => "the one-node diagram has no weights".into(),
             16 => "the count to reach is above the number of all valuations".into(),
             17 => format!("node {place} has a high child that is not at a larger variable"),
             18 => "no answer has so few nodes; 2 are always enough".into(),

@@ -5,7 +5,6 @@ use Rattle.diagram.specs.Diagram.{step, walk, holds}
 use Rattle.diagram.specs.Verdict.{row, short, lengthsOf, isTerminal, terminalsOf, first, rangesFrom, rangesOf, any, isChild, reachedIn, reaches, isAbove, isBroken, graphOf, contentsOf, verdictOf}
 use Rattle.diagram.specs.Valuations.{tally, meets}
 use Rattle.counts.specs.Paths.{paths}
-use Rattle.weights.specs.Weighed.{weightsVerdict}
 use Rattle.store.specs.Store.{words, same, find, join, canon}
 use Rattle.reduction.specs.Reduce.{reduced}
 use Rattle.approximation.specs.Links.{table}
@@ -14,5 +13,5 @@ use Rattle.approximation.specs.Cut.{cutHolds, cut, listed, listOf, betwe
 use Rattle.approximation.specs.Search.{goesFirst, insert, sort, order, cutFirst, sizeSearch, underToSize, back, overToSize, covering, countSearch, underToCount, overToCount}
 
 pub nights : Nights
-unfolding row short lengthsOf isTerminal terminalsOf first rangesFrom rangesOf any isChild reachedIn reaches isAbove isBroken graphOf contentsOf verdictOf weightsVerdict paths step walk holds tally meets words same find join canon reduced exchanged exchangedLinks negated table cutHolds cut listed listOf between underCountOf overCountOf goesFirst insert sort order cutFirst sizeSearch underToSize back overToSize covering countSearch underToCount overToCount
+unfolding row short lengthsOf isTerminal terminalsOf first rangesFrom rangesOf any isChild reachedIn reaches isAbove isBroken graphOf contentsOf verdictOf paths step walk holds tally meets words same find join canon reduced exchanged exchangedLinks negated table cutHolds cut listed listOf between underCountOf overCountOf goesFirst insert sort order cutFirst sizeSearch underToSize back overToSize covering countSearch underToCount overToCount
 nights = refl

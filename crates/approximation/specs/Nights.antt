@@ -6,9 +6,8 @@ use Rattle.naturals.specs.Natural.{wordCount}
 use Rattle.diagram.specs.Diagram.{size, vars}
 use Rattle.diagram.specs.Valuations.{countOf, weightOf}
 use Rattle.diagram.specs.Verdict.{Outcome, accepted, refused, andThen, most, roomOf, verdictOf}
-use Rattle.diagram.specs.declared.verdict.Output.the-variants.{Nothing, Diagram}
+use Rattle.diagram.specs.declared.verdict.Output.the-variants.{Nothing, Diagram, Weights}
 use Rattle.counts.specs.Paths.{pathCountOf}
-use Rattle.weights.specs.Weighed.{weightsVerdict}
 use Rattle.approximation.specs.Links.{table}
 use Rattle.approximation.specs.Constants.{falseOf, trueOf}
 use Rattle.approximation.specs.Cut.{underBy, overBy, listOf, underCountOf, overCountOf}
@@ -34,7 +33,7 @@ unless (refused number place) reply = refusal number place
 -- What each request is answered with, where the output and the working room are what document 01 asks for: weights; the number
 -- of paths; a cut by a list, with its count; a cut to a size or to a count, with its trials.
 abbrev pub weights : List ℕ → Reply
-weights w = unless (weightsVerdict w (roomOf w) (wordCount * size w)) (numbers (table (weightOf w) 0 (size w)))
+weights w = unless (verdictOf w (Weights (wordCount * size w)) (roomOf w)) (numbers (table (weightOf w) 0 (size w)))
 
 abbrev pub pathCount : List ℕ → Reply
 pathCount w = unless (verdictOf w Nothing (roomOf w)) (numbers (pathCountOf w ∷ []))

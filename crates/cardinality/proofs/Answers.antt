@@ -5,7 +5,7 @@ use mathlib.Core.Bool.{true, not}
 use mathlib.Core.List.{List, _++_}
 use native.Mathlib.Omega.{arith}
 use native.Mathlib.Nat.{zero-mul}
-use lib.ListN.{length, take, drop, replicate}
+use lib.ListN.{length, take, drop, replicate, length-replicate}
 use lib.Dec.{T}
 use lib.Ieee.{Float, binary64, mul, isNan, nanBits, ofBits}
 use Rattle.diagram.specs.Limits.{maxNodes}
@@ -17,6 +17,7 @@ use Rattle.diagram.specs.declared.verdict.Output.the-variants.{Nothing}
 use Rattle.diagram.proofs.Meaning.{verdict-accepted}
 use Rattle.diagram.proofs.Reading.{layered, root-in, var-most, accepted-ordered}
 use Rattle.diagram.proofs.Entering.{when-refused, when-accepted, admitted, ordered, still-checked, lent-fits, lent-zero, lent-back, checked-as}
+use Rattle.levels.specs.Chains.{Given}
 use Rattle.counts.specs.Worth.{worthOf, doublings}
 use Rattle.counts.proofs.Nodes.{worth-end, total-valuations}
 use Rattle.cardinality.specs.Cardinality.{nought, powerOfTwo, cardinalityOf, CountsFloat, FloatCount}
@@ -27,12 +28,18 @@ use Rattle.cardinality.proofs.Steps.{read-asks, read-back}
 
 -- ---- the whole
 
+pub zeros-own : (r : List ℕ) (k : ℕ) → r ≡ replicate k 0 → r ≡ replicate (length r) 0
+zeros-own r k e = e ∙ ap (λ (n : ℕ). replicate n 0) (sym (ap length e ∙ length-replicate {A = ℕ} k 0))
+
 module _ (w : List ℕ) (n : ℕ) (en : n ≡ size w) (o : Ordered w) where
   -- one node alone is false
   pub alone : n ≡ 1 → {x : Float} → x ≡ nought → x ≡ cardinalityOf w
   alone one e =
       let first : root w ≡ 0 = omega arith in
       e ∙ sym (false-is-nought w o (sym (total-valuations w o) ∙ ap (λ (s : ℕ). s * 2 ^ doublings true (varOf w (root w))) (ap (worthOf true w) first ∙ worth-end w o true 0 (omega arith) (omega arith)) ∙ zero-mul (2 ^ doublings true (varOf w (root w)))))
+
+  pub given : (n ≡ 1 → ⊥) → Given w n
+  given more = record { ordered = o; nodes = en; two = let s = o .formed .some in omega arith }
 
   pub above-few : (above : ℕ) → above ≡ varOf w (n - 1) → above < 1024
   above-few above e =

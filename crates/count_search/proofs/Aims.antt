@@ -1,7 +1,7 @@
 -- The answers to a count target that take no search, and what a search begins with.
 use Prim.Native.Nat.{ℕ, _+_, _-_, _*_, _≤_, _<_, max}
 use mathlib.Core.Path.{_≡_, refl, sym, _∙_}
-use mathlib.Core.Bool.{false}
+use mathlib.Core.Bool.{true, false}
 use mathlib.Core.List.{List}
 use native.Mathlib.Omega.{arith}
 use lib.ListN.{length, take, drop, replicate}
@@ -26,7 +26,8 @@ use Rattle.priorities.specs.Prioritised.{Fits, Prioritised}
 use Rattle.cuts.specs.Marks.{markedIn}
 use Rattle.cuts.proofs.Rooms.{drop-more}
 use Rattle.room_map.specs.Map.{marksTo, linksFrom, countsTo, weightsFrom, weightsTo, searchTo}
-use Rattle.recounts.specs.Kept.{Beginning, Whole, Begun}
+use Rattle.counts.specs.Worth.{Totalling, Totalled}
+use Rattle.counts.proofs.Nodes.{total-valuations}
 use Rattle.recounts.proofs.Counting.{whole-lent, whole-put, whole-behind, whole-stale}
 use Rattle.trials.specs.Trials.{Searching, Preparing, Found}
 use Rattle.trials.specs.First.{Unmarkable, Unmarked}
@@ -38,33 +39,30 @@ use Rattle.count_search.specs.Rounds.{Counted, Taken, Seeking, Aiming, W
 -- ---- the count
 
 module _ {w r : List ℕ} {n v : ℕ} (a : Searching w r n v) where
-  more : (n ≡ 1 → ⊥) → 2 ≤ n
-  more ne = let some = a .accepted .formed .some in let is = a .is-size in omega arith
+  -- the part that is lent: links and counts
+  abbrev counted-part : List ℕ
+  counted-part = midOf (linksFrom n) (countsTo n - linksFrom n) r
 
-  pub counts-begin : (n ≡ 1 → ⊥) → {heads : List ℕ} → heads ≡ replicate chainCount 0 → Beginning w heads r n v
-  counts-begin ne e =
-      let long = a .long in
+  pub counted-inside : countsTo n ≤ length r
+  counted-inside = let long = a .long in let is = a .is-size in omega arith
+
+  pub counts-asks : {heads : List ℕ} → heads ≡ replicate chainCount 0 → Totalling w heads counted-part n v
+  counts-asks e =
+      let long = lent-long (linksFrom n) (countsTo n) r (omega arith) counted-inside in
+      record { ordered = searching-ordered a; nodes = a .is-size; variables = a .is-vars; empty = e; long = omega arith }
+
+  pub counts-done : {heads part words : List ℕ} → length part ≡ length counted-part → Totalled true w heads part words
+      → Counted w heads r (putMid (linksFrom n) (countsTo n - linksFrom n) r part) words
+  counts-done {heads} {part} same t =
       let is = a .is-size in
+      let after = putMid (linksFrom n) (countsTo n - linksFrom n) r part in
       record {
-        given = record { ordered = searching-ordered a; nodes = is; two = more ne };
-        is-vars = a .is-vars;
-        empty = e;
-        long = omega arith;
-      }
-
-  -- false has no valuation
-  pub counted-one : n ≡ 1 → {heads words : List ℕ} → Holds 0 words → Counted w heads r r words
-  counted-one e h =
-      let is = a .is-size in
-      record { count = holds-as (sym (one-count w (sym is ∙ e))) h; kept = refl; beyond = refl; whole = λ two. absurd (omega arith) }
-
-  pub counted-more : (n ≡ 1 → ⊥) → {heads after words : List ℕ} → Begun w heads r after × Holds (countOf w) words → Counted w heads r after words
-  counted-more ne {heads} {after} (x, h) =
-      record {
-        count = h;
-        kept = x .kept;
-        beyond = drop-more (countsTo (size w)) (searchTo (most w)) after r (omega arith) (x .beyond);
-        whole = λ two. x .whole;
+        count = holds-as (total-valuations w (searching-ordered a)) (t .total);
+        kept = part-kept (linksFrom n) (countsTo n) r part (omega arith) counted-inside same;
+        beyond = drop-more (countsTo n) (searchTo (most w)) after r (omega arith) (part-beyond (linksFrom n) (countsTo n) r part (omega arith) counted-inside same);
+        whole = λ two.
+            whole-put (record { ordered = searching-ordered a; nodes = is; two = omega arith }) (countsTo n) r (omega arith) counted-inside same
+            (t .head two) (t .worths two);
       }
 
   module _ {heads b count : List ℕ} (x : Counted w heads r b count) where

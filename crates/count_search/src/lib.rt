@@ -3,6 +3,7 @@
 // answer stands in the working room. The diagram is counted once: weights and rounds go on from that count.
 mod rounds;
 
+use counts::total::total;
 use diagram::lengths::most;
 use diagram::limits::MAX_WORDS;
 use diagram::node::BddPointer;
@@ -10,9 +11,8 @@ use levels::CHAINS;
 use naturals::Natural;
 use naturals::at_most;
 use naturals::is_zero;
-use naturals::zero;
 use priorities::prioritise;
-use recounts::begin;
+use room_map::COUNTS_END;
 use room_map::LINKS;
 use room_map::WEIGHTS_END;
 use rounds::search;
@@ -63,7 +63,7 @@ pub fn seek(
     search(words, heads, &mut sent, room, target, count, nodes, vars)
 }
 
-// How many valuations the diagram has, with what was counted in the room. One node is false, with none.
+// How many valuations the diagram has, with what was counted in the room.
 pub fn count_of(
     words: &[u32],
     heads: &mut [u32],
@@ -74,10 +74,14 @@ pub fn count_of(
     requires { ⌜ Searching (now words) (now room) nodes vars × (now heads ≡ replicate chainCount 0) ⌝ }
     ensures { λ r. ⌜ Counted (now (words .entry)) (now (heads .exit)) (now (room .entry)) (now (room .exit)) (r .words) ⌝ }
 {
-    if nodes == 1 {
-        return zero();
-    }
-    begin(words, heads, room, nodes, vars)
+    total(
+        words,
+        heads,
+        &mut room[LINKS * nodes..COUNTS_END * nodes],
+        nodes,
+        vars,
+        true,
+    )
 }
 
 pub fn under_count(

@@ -10,51 +10,78 @@ use Rattle.naturals.specs.Natural.{Holds, Fitted, value, wordCount}
 use Rattle.naturals.specs.declared.Fit.{Fit}
 use Rattle.naturals.proofs.Answer.{holds-as, fitted-below}
 use Rattle.diagram.specs.Limits.{maxNodes}
-use Rattle.diagram.specs.Diagram.{varOf, size, root, Ordered}
+use Rattle.diagram.specs.Diagram.{varOf, size, vars, root, Ordered}
 use Rattle.diagram.specs.Verdict.{Outcome, accepted, refused, ifAccepted, roomOf, verdictOf, Checked}
 use Rattle.diagram.specs.declared.verdict.Verdict.{Verdict}
 use Rattle.diagram.specs.declared.verdict.Verdict.the-variants.{Accepted as Yes, Refused as No}
 use Rattle.diagram.specs.declared.verdict.Output.the-variants.{Nothing}
 use Rattle.diagram.proofs.Meaning.{verdict-accepted}
 use Rattle.diagram.proofs.Reading.{root-in, accepted-ordered}
-use Rattle.levels.specs.Chains.{Given}
+use Rattle.levels.specs.Chains.{chainCount, Heads, Given}
 use Rattle.counts.specs.Counted.{Counts}
-use Rattle.counts.specs.Table.{num, In}
-use Rattle.counts.specs.Worth.{worthOf, doublings, totalOf, entry, Worths}
+use Rattle.counts.specs.Table.{num}
+use Rattle.counts.specs.Worth.{worthOf, doublings, totalOf, rootOf, Rooted, entry, Worths, Totalling, Totalled}
 use Rattle.counts.proofs.Nodes.{worth-end, total-fits}
-use Rattle.counts.proofs.Descent.{worths-in}
 use Rattle.diagram.proofs.Entering.{when-refused, when-accepted, admitted, ordered, still-checked, lent-fits, lent-zero, lent-back, checked-as}
 
 -- ---- the whole
 
-pub zeros-own : (r : List ℕ) (k : ℕ) → r ≡ replicate k 0 → r ≡ replicate (length r) 0
-zeros-own r k e = e ∙ ap (λ (n : ℕ). replicate n 0) (sym (ap length e ∙ length-replicate {A = ℕ} k 0))
-
-pub zeros-long : (r : List ℕ) (n : ℕ) → r ≡ replicate (entry * n) 0 → n + wordCount * n ≤ length r
+zeros-long : (r : List ℕ) (n : ℕ) → r ≡ replicate (entry * n) 0 → n + wordCount * n ≤ length r
 zeros-long r n e = omega (arith, ap length e, length-replicate {A = ℕ} (entry * n) 0)
 
-module _ (how : Bool) (w : List ℕ) (n : ℕ) (en : n ≡ size w) (o : Ordered w) where
+-- at the root of a table
+pub root-done : {how : Bool} {w table : List ℕ} {base n : ℕ} → Rooted how w base table n → {below : List ℕ} → Holds (num base table (n - 1)) below
+    → {above d : ℕ} → above ≡ varOf w (n - 1) → d ≡ doublings how above → {t : Fit} → Fitted (value below * 2 ^ d) t
+    → Holds (rootOf how w base table n) (t .natural .words)
+root-done {how} {w} {table} {base} {n} a {below} h {above} {d} ea ed fit =
+    let is : value below * 2 ^ d ≡ rootOf how w base table n = rw (h .worth, ed, ea) refl in
+    fitted-below (rw is at fit) (a .fits) .1
+
+module _ {w heads room : List ℕ} {n v : ℕ} (a : Totalling w heads room n v) where
   -- one node alone is worth nothing
-  pub alone : n ≡ 1 → {x : List ℕ} → Holds 0 x → Holds (totalOf how w) x
-  alone one h =
+  pub total-alone : n ≡ 1 → {how : Bool} {heads′ room′ words : List ℕ} → Holds 0 words → Totalled how w heads′ room′ words
+  total-alone one {how} h =
+      let en = a .nodes in
       let first : root w ≡ 0 = omega arith in
-      let none : worthOf how w (root w) ≡ 0 = ap (worthOf how w) first ∙ worth-end w o how 0 (omega arith) (omega arith) in
-      holds-as (sym (ap (λ (s : ℕ). s * 2 ^ doublings how (varOf w (root w))) none ∙ zero-mul (2 ^ doublings how (varOf w (root w))))) h
+      let none : worthOf how w (root w) ≡ 0 = ap (worthOf how w) first ∙ worth-end w (a .ordered) how 0 (omega arith) (omega arith) in
+      record {
+        total = holds-as (sym (ap (λ (s : ℕ). s * 2 ^ doublings how (varOf w (root w))) none ∙ zero-mul (2 ^ doublings how (varOf w (root w))))) h;
+        head = λ two. absurd (omega arith);
+        worths = λ two. absurd (omega arith);
+      }
 
-  pub given : (n ≡ 1 → ⊥) → Given w n
-  given more = record { ordered = o; nodes = en; two = let s = o .formed .some in omega arith }
+  module _ (more : n ≡ 1 → ⊥) where
+    given : Given w n
+    given =
+        let some = a .ordered .formed .some in
+        let en = a .nodes in
+        record { ordered = a .ordered; nodes = en; two = omega arith }
 
-  module _ {r : List ℕ} (f : Worths how w r 0 0) where
-    pub root-place : In n r (n - 1)
-    root-place = let s = o .formed .some in worths-in f en (n - 1) (omega arith)
+    pub total-asks : Given w n × (v ≡ vars w) × (heads ≡ replicate chainCount 0) × (n + wordCount * n ≤ length room)
+    total-asks = (given, a .variables, a .empty, a .long)
 
-    pub total-done : {x : List ℕ} → Holds (num n r (n - 1)) x → (above d : ℕ) → above ≡ varOf w (n - 1) → d ≡ doublings how above
-        → {t : Fit} → Fitted (value x * 2 ^ d) t → Holds (totalOf how w) (t .natural .words)
-    total-done {x} h above d ea ed {t} a =
-        let root-is : n - 1 ≡ root w = ap (λ (k : ℕ). k - 1) en in
-        let noted : num n r (n - 1) ≡ worthOf how w (root w) = ap (λ (k : ℕ). num k r (k - 1)) en ∙ f .right (root w) (root-in w o) (record { level = omega arith; turn = λ e. omega arith }) .worth in
-        let e : value x * 2 ^ d ≡ totalOf how w = rw (h .worth, noted, ed, ea, root-is) in
-        fitted-below (rw e at a) (total-fits w o how) .1
+    module _ {how : Bool} (heads′ : List ℕ) {room′ : List ℕ} (made : Heads w heads′ × Worths how w room′ 0 0) where
+      whole : rootOf how w n room′ n ≡ totalOf how w
+      whole =
+          ap (λ (k : ℕ). rootOf how w k room′ k) (a .nodes)
+          ∙ ap (λ (y : ℕ). y * 2 ^ doublings how (varOf w (root w)))
+          (made .1 .right (root w) (root-in w (a .ordered)) (record { level = omega arith; turn = λ e. omega arith }) .worth)
+
+      pub total-rooted : Rooted how w n room′ n
+      total-rooted =
+          let some = a .ordered .formed .some in
+          let few = a .ordered .formed .few in
+          let en = a .nodes in
+          let long = made .1 .long in
+          record { two = omega arith; few = omega arith; inside = omega arith; fits = rw whole (total-fits w (a .ordered) how) }
+
+      pub total-done : {words : List ℕ} → Holds (rootOf how w n room′ n) words → Totalled how w heads′ room′ words
+      total-done h = record { total = holds-as whole h; head = λ two. made .0; worths = λ two. made .1 }
+
+-- with chains of its own, over a room of zeros
+pub alone-asks : {w room : List ℕ} {n v : ℕ} → n ≡ size w → v ≡ vars w → Ordered w → room ≡ replicate (entry * n) 0
+    → Totalling w (replicate chainCount 0) room n v
+alone-asks {w} {room} {n} en ev o zeros = record { ordered = o; nodes = en; variables = ev; empty = refl; long = zeros-long room n zeros }
 
 -- ---- the answer
 
@@ -72,8 +99,8 @@ module _ {w before after : List ℕ} {v : Verdict} (c : Checked w Nothing before
     pub count-fits : entry * n ≤ length after
     count-fits = lent-fits c e (entry * n) used-fits
 
-    pub count-asks : (n ≡ size w) × Ordered w × (take (entry * n) after ≡ replicate (entry * n) 0)
-    count-asks = (admitted c e .nodes, ordered c e, lent-zero c e (entry * n) used-fits)
+    pub count-asks : (n ≡ size w) × (u ≡ vars w) × Ordered w × (take (entry * n) after ≡ replicate (entry * n) 0)
+    count-asks = (admitted c e .nodes, admitted c e .variables, ordered c e, lent-zero c e (entry * n) used-fits)
 
     pub count-accepted : (t : ℕ) {count part : List ℕ} → Holds t count → part ≡ replicate (length (take (entry * n) after)) 0
         → Counts w t before (part ++ drop (entry * n) after) (Yes n u) count

@@ -4,12 +4,13 @@ use mathlib.Core.Path.{_≡_}
 use mathlib.Core.Logic.{_≢_}
 use mathlib.Core.Bool.{Bool, cond}
 use mathlib.Core.List.{List}
-use lib.ListN.{length, getD}
+use lib.ListN.{length, getD, replicate}
 use Rattle.naturals.specs.Natural.{wordCount, limit, Holds}
-use Rattle.diagram.specs.Diagram.{varOf, size, vars, root}
+use Rattle.diagram.specs.Limits.{maxNodes}
+use Rattle.diagram.specs.Diagram.{varOf, size, vars, root, Ordered}
 use Rattle.diagram.specs.Reading.{eval}
 use Rattle.diagram.specs.Valuations.{tally}
-use Rattle.levels.specs.Chains.{Last, Heads, Given, Node, Known}
+use Rattle.levels.specs.Chains.{chainCount, Last, Heads, Given, Node, Known}
 use Rattle.counts.specs.Paths.{paths}
 use Rattle.counts.specs.Table.{entry as entryOf, num, In}
 
@@ -29,6 +30,16 @@ partOf valuations w p child n = n * 2 ^ doublings valuations (varOf w child - va
 -- All of it: the root's worth, doubled for the variables above the root.
 abbrev pub totalOf : Bool → List ℕ → ℕ
 totalOf valuations w = worthOf valuations w (root w) * 2 ^ doublings valuations (varOf w (root w))
+
+-- The same from a table of worths: what it has at the root of n nodes.
+abbrev pub rootOf : Bool → List ℕ → ℕ → List ℕ → ℕ → ℕ
+rootOf valuations w base table n = num base table (n - 1) * 2 ^ doublings valuations (varOf w (n - 1))
+
+pub record Rooted (valuations : Bool) (w : List ℕ) (base : ℕ) (table : List ℕ) (n : ℕ) : Type 0 where
+  pub two : 2 ≤ n
+  pub few : n ≤ maxNodes
+  pub inside : In base table (n - 1)
+  pub fits : rootOf valuations w base table n < limit
 
 -- The words of the room for each node: a link, and its worth.
 abbrev pub entry : ℕ
@@ -62,3 +73,16 @@ pub record Descending (valuations : Bool) (w heads room : List ℕ) (n c : ℕ) 
 pub record AtDown (valuations : Bool) (w room : List ℕ) (c p : ℕ) : Type 0 where
   pub node : p ≢ 0 → Node w p × (varOf w p ≡ c)
   pub worths : Worths valuations w room c (suc p)
+
+-- What the whole walk asks for and gives: chains and worths, but for one node alone, and the worth of all of it.
+pub record Totalling (w heads room : List ℕ) (n v : ℕ) : Type 0 where
+  pub ordered : Ordered w
+  pub nodes : n ≡ size w
+  pub variables : v ≡ vars w
+  pub empty : heads ≡ replicate chainCount 0
+  pub long : n + wordCount * n ≤ length room
+
+pub record Totalled (valuations : Bool) (w heads room words : List ℕ) : Type 0 where
+  pub total : Holds (totalOf valuations w) words
+  pub head : 2 ≤ size w → Heads w heads
+  pub worths : 2 ≤ size w → Worths valuations w room 0 0

@@ -7,7 +7,6 @@ use diagram::node::BddPointer;
 use diagram::node::BddVariable;
 use diagram::node::high_link_of;
 use diagram::node::low_link_of;
-use levels::CHAINS;
 use levels::head_of;
 use levels::link;
 use levels::next_of;
@@ -105,7 +104,7 @@ fn count_down(
 }
 
 // The chains, and the worths of all nodes by them. `heads` is zero before.
-pub fn link_and_count(
+pub(crate) fn link_and_count(
     words: &[u32],
     heads: &mut [u32],
     room: &mut [u32],
@@ -118,13 +117,4 @@ pub fn link_and_count(
 {
     link(words, heads, room, nodes);
     count_down(words, heads, room, nodes, vars, valuations);
-}
-
-// The worths of all nodes.
-pub(crate) fn count_all(words: &[u32], room: &mut [u32], nodes: usize, vars: u32, valuations: bool)
-    requires { ⌜ Given (now words) nodes × (vars ≡ varsOf (now words)) × (nodes + wordCount * nodes ≤ length (now room)) ⌝ }
-    ensures { λ _. ⌜ Worths valuations (now (words .entry)) (now (room .exit)) 0 0 ⌝ }
-{
-    let mut heads = [0u32; CHAINS];
-    link_and_count(words, &mut heads, room, nodes, vars, valuations);
 }

@@ -42,9 +42,6 @@ pub const BAD_POINTER: u32 = 13;
 // A terminal is listed.
 pub const LISTED_TERMINAL: u32 = 14;
 
-// The weights of the diagram of one node.
-pub const WEIGHTS_OF_FALSE: u32 = 15;
-
 // The target count of an overapproximation is above 2^v.
 pub const COUNT_TOO_LARGE: u32 = 16;
 

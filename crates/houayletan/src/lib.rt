@@ -11,6 +11,7 @@ use counts::exact_clause_cardinality;
 use diagram::room::clear;
 use diagram::validate::validate;
 use diagram::verdict::Verdict;
+use node_weights::count_and_weights;
 use node_weights::node_valuation_weights;
 use reduction::reduce::Reduced;
 use reduction::reduce::reduce;
@@ -24,7 +25,7 @@ ghost use Rattle.diagram.specs.Valuations.{countOf};
 ghost use Rattle.counts.specs.Paths.{pathCountOf};
 ghost use Rattle.counts.specs.Counted.{Counts};
 ghost use Rattle.cardinality.specs.Cardinality.{CountsFloat};
-ghost use Rattle.weights.specs.Weighed.{Weighs};
+ghost use Rattle.weights.specs.Weighed.{Weighs, CountsAndWeighs};
 ghost use Rattle.reduction.specs.Answer.{Reduces};
 ghost use Rattle.houayletan.specs.Flat.{flatOf, Flat, FlatCount, FlatFloat, FlatDiagram};
 
@@ -152,6 +153,18 @@ pub extern "C" fn houayletan_cardinality(words: &[u32], room: &mut [u32]) -> Hou
     ensures { λ r. ⌜ FlatFloat (CountsFloat (now (words .entry)) (now (room .entry)) (now (room .exit))) r ⌝ }
 {
     flat_float(cardinality(words, room))
+}
+
+// How many valuations the diagram holds for, and in the output the weights of its nodes.
+#[no_mangle]
+pub extern "C" fn houayletan_count_and_weights(
+    words: &[u32],
+    room: &mut [u32],
+    output: &mut [u32],
+) -> HouayletanCount
+    ensures { λ r. ⌜ FlatCount (CountsAndWeighs (now (words .entry)) (now (room .entry)) (now (room .exit)) (now (output .entry)) (now (output .exit))) r ⌝ }
+{
+    flat_count(count_and_weights(words, room, output))
 }
 
 // For each node, in the words of a count in the output, how many valuations that the diagram holds for have a path that visits it.

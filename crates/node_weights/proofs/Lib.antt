@@ -1,3 +1,3 @@
--- Laws of the entry point.
---     Answers    what it answers
+-- Laws of the entry points.
+--     Answers    what they answer
 pub mod Answers

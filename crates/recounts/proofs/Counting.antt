@@ -10,36 +10,26 @@ use borrow.Author.Tests.{eq-eqb, ne-eqb}
 use lib.ListN.{length, getD, set, take, drop}
 use lib.Seq.{getD-drop, getD-set-other, drop-set-lt}
 use borrow.Rule.Slice.PartMut.{putMid, midOf}
-use Rattle.naturals.specs.Natural.{value, wordCount, Holds, Fitted}
-use Rattle.naturals.specs.declared.Fit.{Fit}
-use Rattle.naturals.proofs.Answer.{holds-as, fitted-below}
+use Rattle.naturals.specs.Natural.{wordCount, Holds}
+use Rattle.naturals.proofs.Answer.{holds-as}
 use Rattle.diagram.specs.Limits.{maxNodes}
 use Rattle.diagram.specs.Diagram.{varOf, size, vars, root, Ordered}
 use Rattle.diagram.specs.Valuations.{countOf}
 use Rattle.diagram.proofs.Tests.{by-test, by-eq, or-right}
 use Rattle.diagram.proofs.Reading.{layered, at-end, root-in}
 use Rattle.levels.specs.Chains.{Heads, Given}
-use Rattle.counts.specs.Table.{entry, num, Noted}
-use Rattle.counts.specs.Worth.{doublings, totalOf, Worths}
-use Rattle.counts.proofs.Nodes.{total-valuations, total-fits}
-use Rattle.counts.proofs.Parts.{part-word, part-entry, part-kept, part-before, part-beyond, lent-long, lent-word, lent-entry}
+use Rattle.counts.specs.Table.{entry, Noted}
+use Rattle.counts.specs.Worth.{doublings, rootOf, Rooted, Worths}
+use Rattle.counts.proofs.Parts.{part-word, part-entry, lent-long, lent-word, lent-entry}
 use Rattle.approximation.specs.Cut.{cut}
 use Rattle.approximation.proofs.Cut.{cut-same}
 use Rattle.cuts.specs.Marks.{markedIn}
 use Rattle.cuts.proofs.Marking.{set-marks}
 use Rattle.cuts.proofs.Rooms.{drop-more}
 use Rattle.room_map.specs.Map.{linksFrom, countsFrom, countsTo}
-use Rattle.recounts.specs.Kept.{leftOf, rootOf, Stale, Rooted, Renewed, Passing, Recounting, Recounted, Beginning, Whole, Begun}
+use Rattle.recounts.specs.Kept.{leftOf, Stale, Renewed, Passing, Recounting, Recounted, Whole}
 use Rattle.recounts.proofs.Left.{left-cond, left-end, left-none, left-total, left-total-fits}
 use Rattle.recounts.proofs.Passes.{untouched-noted, untouched-marks}
-
--- ---- at the root
-
-pub root-done : {w room : List ℕ} {n : ℕ} → Rooted w room n → {below : List ℕ} → Holds (num (countsFrom n) room (n - 1)) below
-    → {above : ℕ} → above ≡ varOf w (n - 1) → {f : Fit} → Fitted (value below * 2 ^ above) f → Holds (rootOf w room n) (f .natural .words)
-root-done {w} {room} {n} a {below} h {above} e {f} fit =
-    let is : value below * 2 ^ above ≡ rootOf w room n = rw (h .worth, e) refl in
-    fitted-below (rw is at fit) (a .fits) .1
 
 -- ---- a count
 
@@ -93,17 +83,18 @@ module _ {w heads changed room : List ℕ} {n v : ℕ} (a : Recounting w heads c
     right : (q : ℕ) → q < size w → Holds (leftOf w (x .renewing .taken) q) (entry (countsFrom (size w)) after q)
     right q h = x .renewing .done q h (record { level = omega arith; turn = λ e. omega arith }) .0
 
-    root-left : rootOf w after n ≡ leftOf w (x .renewing .taken) (root w) * 2 ^ varOf w (root w)
+    root-left : rootOf true w (countsFrom n) after n ≡ leftOf w (x .renewing .taken) (root w) * 2 ^ varOf w (root w)
+    unfolding doublings
     root-left =
-        ap (λ (k : ℕ). rootOf w after k) (a .given .nodes)
+        ap (λ (k : ℕ). rootOf true w (countsFrom k) after k) (a .given .nodes)
         ∙ ap (λ (y : ℕ). y * 2 ^ varOf w (root w)) (right (root w) (root-in w o) .worth)
 
-    pub recount-root : Rooted w after n
+    pub recount-root : Rooted true w (countsFrom n) after n
     recount-root =
         let e = a .given .nodes in
         let two = a .given .two in
         let long = x .renewing .long in
-        record { some = omega arith; few = recount-few; inside = omega arith; fits = rw root-left (left-total-fits w o (x .renewing .taken)) }
+        record { two = two; few = recount-few; inside = omega arith; fits = rw root-left (left-total-fits w o (x .renewing .taken)) }
 
     recount-kept : {flags : List ℕ} → Stale w heads flags after
     recount-kept = record {
@@ -124,7 +115,7 @@ module _ {w heads changed room : List ℕ} {n v : ℕ} (a : Recounting w heads c
         (cut-same w o (x .renewing .taken) (markedIn (size w) room) 0 (λ q h. sym (x .renewing .marks q h) ∙ untouched-marks (x .untouched) q h))
         ∙ ap (λ (i : ℕ). countOf (cut w (markedIn i room) 0)) (sym (a .given .nodes))
 
-    pub recount-done : {words : List ℕ} → Holds (rootOf w after n) words → {flags : List ℕ} → Recounted w heads room flags after n words
+    pub recount-done : {words : List ℕ} → Holds (rootOf true w (countsFrom n) after n) words → {flags : List ℕ} → Recounted w heads room flags after n words
     recount-done h = record {
       count = holds-as (root-left ∙ left-total w o (x .renewing .taken) ∙ same-cut) h;
       stale = recount-kept;
@@ -168,45 +159,6 @@ module _ {w : List ℕ} {n : ℕ} (given : Given w n) (e : ℕ) (r : List ℕ) (
             rw (part-entry (linksFrom n) e r part (omega arith) inside same (size w) q (omega arith) {place = countsFrom (size w)} (omega arith))
             (x .right q h (record { level = omega arith; turn = λ z. omega arith }));
       }
-
-module _ {w heads room : List ℕ} {n v : ℕ} (a : Beginning w heads room n v) where
-  pub begin-few : n ≤ maxNodes
-  begin-few = let few = a .given .ordered .formed .few in let e = a .given .nodes in omega arith
-
-  pub begin-long : n + wordCount * n ≤ length (midOf (linksFrom n) (countsTo n - linksFrom n) room)
-  begin-long = let e = lent-long (linksFrom n) (countsTo n) room (omega arith) (a .long) in omega arith
-
-  module _ (heads′ : List ℕ) {part : List ℕ} (same : length part ≡ length (midOf (linksFrom n) (countsTo n - linksFrom n) room))
-      (made : Heads w heads′ × Worths true w part 0 0) where
-    pub begun : Begun w heads′ room (putMid (linksFrom n) (countsTo n - linksFrom n) room part)
-    begun =
-        let e = a .given .nodes in
-        let after = putMid (linksFrom n) (countsTo n - linksFrom n) room part in
-        record {
-          kept = part-kept (linksFrom n) (countsTo n) room part (omega arith) (a .long) same;
-          before = λ k h. part-before (linksFrom n) (countsTo n) room part (omega arith) (a .long) same k (omega arith);
-          beyond = ap (λ (i : ℕ). drop (countsTo i) after) (sym e) ∙ part-beyond (linksFrom n) (countsTo n) room part (omega arith) (a .long) same ∙ ap (λ (i : ℕ). drop (countsTo i) room) e;
-          whole = whole-put (a .given) (countsTo n) room (omega arith) (a .long) same (made .0) (made .1);
-        }
-
--- The count of the whole.
-module _ {w heads room after : List ℕ} {n : ℕ} (given : Given w n) (b : Begun w heads room after) where
-  root-worth : rootOf w after n ≡ totalOf true w
-  unfolding doublings
-  root-worth =
-      ap (λ (k : ℕ). rootOf w after k) (given .nodes)
-      ∙ ap (λ (y : ℕ). y * 2 ^ varOf w (root w)) (b .whole .left (root w) (root-in w (given .ordered)) .worth)
-
-  pub begun-root : countsTo n ≤ length room → Rooted w after n
-  begun-root long =
-      let e = given .nodes in
-      let two = given .two in
-      let few = given .ordered .formed .few in
-      let kept = b .kept in
-      record { some = omega arith; few = omega arith; inside = omega arith; fits = rw root-worth (total-fits w (given .ordered) true) }
-
-  pub begun-count : {words : List ℕ} → Holds (rootOf w after n) words → Holds (countOf w) words
-  begun-count h = holds-as (root-worth ∙ total-valuations w (given .ordered)) h
 
 -- Where nothing is marked nothing is taken, whatever is said to have changed.
 pub whole-stale : {w heads room : List ℕ} → Given w (size w) → Whole w heads room → ((q : ℕ) → q < size w → markedIn (size w) room q ≡ false)

@@ -6,13 +6,13 @@ use mathlib.Core.Path.{_≡_}
 use mathlib.Core.Logic.{_≢_}
 use mathlib.Core.Bool.{Bool, true, false, cond}
 use mathlib.Core.List.{List}
-use lib.ListN.{length, getD, drop, replicate}
+use lib.ListN.{length, getD, drop}
 use Rattle.naturals.specs.Natural.{limit, Holds}
 use Rattle.diagram.specs.Limits.{maxNodes, maxVariables}
 use Rattle.diagram.specs.Diagram.{varOf, size, vars}
 use Rattle.diagram.specs.Valuations.{countOf}
 use Rattle.room_map.specs.Map.{linksFrom, countsFrom, countsTo}
-use Rattle.levels.specs.Chains.{chainCount, Last, Heads, Given, Node, Known}
+use Rattle.levels.specs.Chains.{Last, Heads, Given, Node, Known}
 use Rattle.counts.specs.Table.{entry, num, In, scaled}
 use Rattle.counts.specs.Worth.{worthOf}
 use Rattle.negation.specs.Negation.{negated}
@@ -96,16 +96,6 @@ pub record Passing (w heads changed room : List ℕ) (n v : ℕ) : Type 0 where
   pub head : Heads w heads
   pub renewing : Renewing w changed room v 0
 
--- What is left in all: at the root, doubled for the variables above it.
-abbrev pub rootOf : List ℕ → List ℕ → ℕ → ℕ
-rootOf w room n = num (countsFrom n) room (n - 1) * 2 ^ varOf w (n - 1)
-
-pub record Rooted (w room : List ℕ) (n : ℕ) : Type 0 where
-  pub some : 0 < n
-  pub few : n ≤ maxNodes
-  pub inside : In (countsFrom n) room (n - 1)
-  pub fits : rootOf w room n < limit
-
 -- What a count asks for and gives.
 pub record Recounting (w heads changed room : List ℕ) (n v : ℕ) : Type 0 where
   pub given : Given w n
@@ -119,23 +109,10 @@ pub record Recounted (w heads room changed after : List ℕ) (n : ℕ) (words : 
   pub stale : Stale w heads changed after
   pub untouched : Untouched n room after
 
--- The counts of a diagram of which nothing is taken.
-pub record Beginning (w heads room : List ℕ) (n v : ℕ) : Type 0 where
-  pub given : Given w n
-  pub is-vars : v ≡ vars w
-  pub empty : heads ≡ replicate chainCount 0
-  pub long : countsTo n ≤ length room
-
 -- Nothing is taken: the chains, and the counts of the whole diagram.
 pub record Whole (w heads room : List ℕ) : Type 0 where
   pub chained : Chained w heads room
   pub left : (q : ℕ) → q < size w → Holds (worthOf true w q) (entry (countsFrom (size w)) room q)
-
-pub record Begun (w heads room after : List ℕ) : Type 0 where
-  pub kept : length after ≡ length room
-  pub before : (k : ℕ) → k < linksFrom (size w) → getD after k 0 ≡ getD room k 0
-  pub beyond : drop (countsTo (size w)) after ≡ drop (countsTo (size w)) room
-  pub whole : Whole w heads after
 
 -- ---- the counts of the negation, from the diagram's
 

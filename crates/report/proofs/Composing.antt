@@ -12,14 +12,14 @@ use Rattle.writing.proofs.Laws.{wrote-then, Still, still-begins}
 use Rattle.text.specs.Digits.{decimal, hexadecimal}
 use Rattle.report.specs.Report.{refusal, line, lines, head, feed}
 
-pub wrote-head : (w a : List ℕ) {x count : ℕ} {f₀ f₁ f₂ f₃ f₄ : List ℕ} {p₀ p₁ p₂ p₃ p₄ : ℕ} → x ≡ vars w → value a ≡ count
+pub wrote-head : (w : List ℕ) (count : ℕ) {x : ℕ} {f₀ f₁ f₂ f₃ f₄ : List ℕ} {p₀ p₁ p₂ p₃ p₄ : ℕ} → x ≡ vars w
     → Wrote (bytes "vars " ++ decimal x) f₀ p₀ f₁ p₁ → Wrote (bytes "\nnodes " ++ decimal (size w)) f₁ p₁ f₂ p₂
-    → Wrote (bytes "\ncount " ++ hexadecimal (value a)) f₂ p₂ f₃ p₃ → Wrote feed f₃ p₃ f₄ p₄
+    → Wrote (bytes "\ncount " ++ hexadecimal count) f₂ p₂ f₃ p₃ → Wrote feed f₃ p₃ f₄ p₄
     → Wrote (head w count) f₀ p₀ f₄ p₄
 unfolding head
-wrote-head w ws ex ea a b d f =
+wrote-head w count ex a b d f =
     let t = wrote-then (wrote-then (wrote-then a b) d) f in
-    rw (ex, ea) at t
+    rw ex at t
 
 pub wrote-line : (w a : List ℕ) (p : ℕ) {x weight : ℕ} {f₀ f₁ f₂ f₃ f₄ : List ℕ} {p₀ p₁ p₂ p₃ p₄ : ℕ} → x ≡ varOf w p → value a ≡ weight
     → Wrote (bytes "node " ++ decimal p) f₀ p₀ f₁ p₁ → Wrote (bytes " var " ++ decimal x) f₁ p₁ f₂ p₂

@@ -7,11 +7,10 @@ use lib.ListN.{length, take, drop, replicate, length-append, length-take}
 use lib.Seq.{take-at}
 use Rattle.diagram.specs.Diagram.{varOf, size, vars, Accepted}
 use Rattle.diagram.specs.Valuations.{countOf, weightOf}
-use Rattle.diagram.specs.Verdict.{Outcome, accepted, refused, andThen, verdictOf}
+use Rattle.diagram.specs.Verdict.{Outcome, accepted, refused, verdictFor}
 use Rattle.diagram.specs.declared.verdict.Output.the-variants.{Weights}
 use Rattle.diagram.proofs.Meaning.{verdict-accepted}
 use Rattle.diagram.proofs.Reading.{layered, accepted-ordered, var-most}
-use Rattle.weights.specs.Weighed.{weightsVerdict}
 use Rattle.blocks.specs.Block.{maxStored, maxStoredWords, nodes, refused as unread}
 use Rattle.block_file.specs.File.{Reading, reading, readFile}
 use Rattle.block_file.proofs.Steps.{read-few}
@@ -24,13 +23,8 @@ use Rattle.report.specs.Reported.{smallDigits, longestHead, longestLine,
 use Rattle.report.specs.Report.{refusedAt, refusal, line, lines, head, weighedReport, diagramReport, weightsLent, roomLent, storedReport, reportOf}
 
 -- What is weighed was accepted, so its numbers are small: variables and nodes have few digits.
-checked : (w : List ℕ) (a b : Outcome) {n v : ℕ} → verdictOf w (Weights weightsLent) roomLent ≡ a → andThen a b ≡ accepted n v → Accepted w
-checked w (accepted m u) b e f = verdict-accepted w (Weights weightsLent) roomLent m u e .accepted
-checked w (refused number place) b e f = let z : _≡_ {A = ℕ} 0 1 = cc in absurd (omega arith)
-
-weighed-accepted : (w : List ℕ) {n v : ℕ} → weightsVerdict w roomLent weightsLent ≡ accepted n v → Accepted w
-unfolding weightsVerdict
-weighed-accepted w e = checked w (verdictOf w (Weights weightsLent) roomLent) _ refl e
+weighed-accepted : (w : List ℕ) {n v : ℕ} → verdictFor Weights w roomLent weightsLent ≡ accepted n v → Accepted w
+weighed-accepted w {n} {v} e = verdict-accepted w (Weights weightsLent) roomLent n v e .accepted
 
 -- The lengths of the lines: few digits for a variable and for a node, all that a number may have for a count and for what refuses.
 refusal-length : (number place : ℕ) → length (refusal number place) ≤ 13 + 2 * decimalDigits
@@ -60,7 +54,7 @@ module _ (w : List ℕ) (a : Accepted w) where
   lines-length weight p (suc c) h =
       simp length-append (omega (arith, line-length (weight p) p (omega arith), lines-length weight (suc p) c (omega arith)))
 
-weighed-length : (w : List ℕ) (o : Outcome) → size w ≤ maxStored → weightsVerdict w roomLent weightsLent ≡ o → length (weighedReport w o) ≤ reportBuffer
+weighed-length : (w : List ℕ) (o : Outcome) → size w ≤ maxStored → verdictFor Weights w roomLent weightsLent ≡ o → length (weighedReport w o) ≤ reportBuffer
 weighed-length w (accepted n v) few e =
     let a = weighed-accepted w e in
     simp length-append (omega (arith, head-length w a (countOf w), lines-length w a (weightOf w) 0 (size w) (omega arith)))
@@ -68,7 +62,7 @@ weighed-length w (refused number place) few e = omega (arith, refusal-length num
 
 diagram-length : (w : List ℕ) → size w ≤ maxStored → length (diagramReport w) ≤ reportBuffer
 unfolding diagramReport
-diagram-length w few = weighed-length w (weightsVerdict w roomLent weightsLent) few refl
+diagram-length w few = weighed-length w (verdictFor Weights w roomLent weightsLent) few refl
 
 stored-length : (s out : List ℕ) (r : Reading) → readFile s out ≡ r → length (storedReport r) ≤ reportBuffer
 unfolding readFile

@@ -8,8 +8,8 @@ use Rattle.naturals.specs.Natural.{value, wordCount}
 use Rattle.diagram.specs.Limits.{roomPerNode}
 use Rattle.diagram.specs.Diagram.{varOf, size, vars}
 use Rattle.diagram.specs.Valuations.{countOf, weightOf}
-use Rattle.diagram.specs.Verdict.{Outcome, accepted, refused}
-use Rattle.weights.specs.Weighed.{weightsVerdict}
+use Rattle.diagram.specs.Verdict.{Outcome, accepted, refused, verdictFor}
+use Rattle.diagram.specs.declared.verdict.Output.the-variants.{Weights}
 use Rattle.writing.specs.Writing.{bytes}
 use Rattle.blocks.specs.Block.{maxStored, maxStoredWords, nodes, refused as unread}
 use Rattle.block_file.specs.File.{Reading, reading, readFile}
@@ -59,7 +59,7 @@ abbrev pub roomLent : ℕ
 roomLent = roomPerNode * maxStored
 
 unfoldable pub diagramReport : List ℕ → List ℕ
-diagramReport w = weighedReport w (weightsVerdict w roomLent weightsLent)
+diagramReport w = weighedReport w (verdictFor Weights w roomLent weightsLent)
 
 -- The refusal of the file, or the report of the diagram that stands in the output.
 abbrev pub storedReport : Reading → List ℕ

@@ -70,14 +70,14 @@ fn weight_of(weights: &[u32], node: usize) -> Natural
     found.natural
 }
 
-// `vars 3`, `nodes 5` and `count 5`: node 1 has the full count.
-fn write_head(out: &mut [u8], words: &[u32], weights: &[u32]) -> usize
-    ensures { λ r. ⌜ Wrote (head (now (words .entry)) (weightIn (now (weights .entry)) 1)) (now (out .entry)) 0 (now (out .exit)) r ⌝ }
+// `vars 3`, `nodes 5` and `count 5`
+fn write_head(out: &mut [u8], words: &[u32], count: Natural) -> usize
+    ensures { λ r. ⌜ Wrote (head (now (words .entry)) (value (count .words))) (now (out .entry)) 0 (now (out .exit)) r ⌝ }
 {
     let vars = write_number(out, 0, b"vars ", word(words, 0) as u64);
     let nodes = write_number(out, vars, b"\nnodes ", (words.len() / 3) as u64);
-    let count = write_count(out, nodes, b"\ncount ", weight_of(weights, 1));
-    put(out, count, 10)
+    let counted = write_count(out, nodes, b"\ncount ", count);
+    put(out, counted, 10)
 }
 
 // `node 2 var 2 weight 3`
@@ -105,11 +105,11 @@ fn write_nodes(out: &mut [u8], at: usize, words: &[u32], weights: &[u32]) -> usi
     place
 }
 
-// The whole report of a diagram and its weights.
-pub(crate) fn write_lines(out: &mut [u8], words: &[u32], weights: &[u32]) -> usize
+// The whole report of a diagram, its count and its weights.
+pub(crate) fn write_lines(out: &mut [u8], words: &[u32], count: Natural, weights: &[u32]) -> usize
     requires { ⌜ size (now words) ≤ maxNodes ⌝ }
-    ensures { λ r. ⌜ Wrote (head (now (words .entry)) (weightIn (now (weights .entry)) 1) ++ lines (now (words .entry)) (weightIn (now (weights .entry))) 0 (size (now (words .entry)))) (now (out .entry)) 0 (now (out .exit)) r ⌝ }
+    ensures { λ r. ⌜ Wrote (head (now (words .entry)) (value (count .words)) ++ lines (now (words .entry)) (weightIn (now (weights .entry))) 0 (size (now (words .entry)))) (now (out .entry)) 0 (now (out .exit)) r ⌝ }
 {
-    let next = write_head(out, words, weights);
+    let next = write_head(out, words, count);
     write_nodes(out, next, words, weights)
 }

@@ -7,7 +7,7 @@ use blocks::layout::MOST;
 use blocks::stored::Stored;
 use diagram::limits::ROOM_PER_NODE;
 use diagram::verdict::Verdict;
-use node_weights::node_valuation_weights;
+use node_weights::count_and_weights;
 ghost use Prim.Native.Nat.{_*_, _≤_};
 ghost use lib.ListN.{length};
 ghost use Rattle.writing.specs.Writing.{Wrote};
@@ -24,9 +24,11 @@ pub fn report_diagram(out: &mut [u8], words: &[u32]) -> usize
 {
     let mut weights = [0u32; WEIGHTS];
     let mut room = [0u32; ROOM];
-    let verdict = node_valuation_weights(words, &mut room, &mut weights);
+    let both = count_and_weights(words, &mut room, &mut weights);
+    let verdict = both.verdict;
+    let count = both.count;
     match verdict {
-        Verdict::Accepted { nodes: _, vars: _ } => write_lines(out, words, &weights),
+        Verdict::Accepted { nodes: _, vars: _ } => write_lines(out, words, count, &weights),
         Verdict::Refused { number, place } => write_refusal(out, number, place),
     }
 }

@@ -8,13 +8,12 @@ use lib.Seq.{getD-take, getD-drop, ext-getD, take-take, length-take-le}
 use borrow.Rule.Slice.PartMut.{putMid, midOf}
 use Rattle.naturals.specs.Natural.{wordCount, Holds}
 use Rattle.diagram.specs.Limits.{maxNodes}
-use Rattle.diagram.specs.Diagram.{size, vars}
+use Rattle.diagram.specs.Diagram.{size}
 use Rattle.diagram.specs.Valuations.{weightOf}
 use Rattle.room_map.specs.Map.{marksTo, linksFrom, weightsFrom, weightsTo, tablesFrom}
-use Rattle.levels.specs.Chains.{Given}
 use Rattle.counts.specs.Table.{entry}
 use Rattle.counts.proofs.Parts.{part-entry, part-kept, part-beyond, lent-long}
-use Rattle.weights.specs.Passes.{weightsFrom as weightsInFrom, weightsTo as weightsIn, Standing}
+use Rattle.weights.specs.Passes.{weightsFrom as weightsInFrom, Weighable, Standing}
 use Rattle.priorities.specs.Prioritised.{Fits, Prioritised}
 use Rattle.priorities.proofs.Ordering.{prioritised-order, prioritised-entry}
 use Rattle.approximation.specs.Search.{order}
@@ -39,10 +38,10 @@ module _ {w r : List ℕ} {n v : ℕ} (a : Preparing w r n v) where
   abbrev lent : List ℕ
   lent = midOf (linksFrom n) (weightsTo n - linksFrom n) r
 
-  pub preparing-asks : Given w n × (v ≡ vars w) × (weightsIn n ≤ length lent)
+  pub preparing-asks : Weighable w lent n v
   preparing-asks =
       let long = lent-long (linksFrom n) (weightsTo n) r (omega arith) (a .long) in
-      (record { ordered = a .ordered; nodes = a .is-size; two = let many = a .many in omega arith }, a .is-vars, omega arith)
+      record { ordered = a .ordered; nodes = a .is-size; variables = a .is-vars; long = omega arith }
 
   module _ {part : List ℕ} (weighed : Standing w lent n part) where
     abbrev weighted : List ℕ

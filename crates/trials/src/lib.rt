@@ -5,7 +5,7 @@ pub mod first;
 use priorities::prioritise;
 use room_map::LINKS;
 use room_map::WEIGHTS_END;
-use weights::weigh::weigh;
+use weights::weigh::count_and_weigh;
 ghost use Rattle.trials.specs.Trials.{Preparing, Prepared};
 
 // The weights of the nodes, and the non-terminals by priority.
@@ -13,7 +13,7 @@ pub fn prepare(words: &[u32], room: &mut [u32], nodes: usize, vars: u32)
     requires { ⌜ Preparing (now words) (now room) nodes vars ⌝ }
     ensures { λ _. ⌜ Prepared (now (words .entry)) (now (room .entry)) (now (room .exit)) ⌝ }
 {
-    weigh(
+    count_and_weigh(
         words,
         &mut room[LINKS * nodes..WEIGHTS_END * nodes],
         nodes,

@@ -5,10 +5,11 @@ use mathlib.Core.List.{List, _++_}
 use native.Mathlib.Omega.{arith}
 use lib.ListN.{length, getD, take, drop, length-take, length-drop}
 use lib.Seq.{ext-getD, getD-take, getD-drop, take-append-le, drop-append-le, drop-drop, length-take-le, length-front, drop-at}
-use Rattle.naturals.specs.Natural.{wordCount}
+use Rattle.naturals.specs.Natural.{wordCount, Holds}
+use Rattle.diagram.specs.Valuations.{weightOf}
 use Rattle.diagram.proofs.Tests.{by-eq}
 use Rattle.counts.specs.Table.{entry, num, In, Noted}
-use Rattle.weights.specs.Passes.{weightsFrom, weightsTo, Tables, Standing, Emptied, Handed}
+use Rattle.weights.specs.Passes.{weightsFrom, weightsTo, Standing, Emptied, Handed}
 
 -- words that are as they were, in an entry
 pub entry-kept : (base : ℕ) (s after : List ℕ) (q : ℕ) → length after ≡ length s
@@ -70,11 +71,11 @@ hand-on {base} {room} {before} {s} {p} e {after} m = record {
 
 -- What stands in the part that is lent stands in the whole.
 pub stands : {w : List ℕ} {n : ℕ} (room part : List ℕ) → weightsTo n ≤ length room → length part ≡ length (take (weightsTo n) room)
-    → Tables w n part → Standing w room n (part ++ drop (weightsTo n) room)
+    → ((p : ℕ) → p < n → Holds (weightOf w p) (entry (weightsFrom n) part p)) → Standing w room n (part ++ drop (weightsTo n) room)
 stands {w} {n} room part fits same h =
     let long : length part ≡ weightsTo n = same ∙ length-take-le (weightsTo n) room fits in
     record {
       kept = length-front room part (weightsTo n) same;
-      weight = λ p l. rw (entry-front (weightsFrom n) p part (drop (weightsTo n) room) (omega arith)) (h .weight p l);
+      weight = λ p l. rw (entry-front (weightsFrom n) p part (drop (weightsTo n) room) (omega arith)) (h p l);
       rest = drop-at part (drop (weightsTo n) room) (weightsTo n) long;
     }

@@ -4,9 +4,12 @@ use mathlib.Core.Path.{_≡_, refl, sym, ap, _∙_}
 use mathlib.Core.Bool.{Bool, true, false, _&&_, _||_, and-false, and-or-distrib-left}
 use mathlib.Core.List.{List, [], _∷_}
 use native.Mathlib.Omega.{arith}
+use lib.ListN.{replicate}
 use lib.Dec.{eqb}
 use borrow.Author.Tests.{eq-eqb, eqb-true}
-use Rattle.diagram.specs.Diagram.{vars, root, step, walk, holds}
+use Rattle.naturals.specs.Natural.{wordCount}
+use Rattle.naturals.specs.Spelling.{wordsOf}
+use Rattle.diagram.specs.Diagram.{size, vars, root, step, walk, holds}
 use Rattle.diagram.specs.Verdict.{any}
 use Rattle.diagram.specs.Valuations.{tally, countOf, meets, weightOf}
 use Rattle.diagram.proofs.Tests.{by-test, not-both}
@@ -15,7 +18,7 @@ use Rattle.diagram.proofs.Tally.{tally-same, tally-none, tally-or}
 use Rattle.diagram.proofs.Meeting.{any-or, walk-zero, walk-ends, walk-on}
 use Rattle.counts.proofs.Turns.{counting}
 use Rattle.weights.specs.Listed.{among, sumOf, visitedBy}
-use Rattle.weights.specs.Weighed.{Weighing}
+use Rattle.weights.specs.Weighed.{weightWords, Weighing}
 
 module _ (w : List ℕ) where
   -- no path that visits node 0 ends at node 1
@@ -90,10 +93,22 @@ pub shared : (visitedBy D (2 ∷ 3 ∷ []) ≡ 5) × (sumOf D (2 ∷ 3 ∷ []) �
 unfolding D tally holds meets any walk step among sumOf
 shared = (refl, refl)
 
+-- one node alone is node 0
+module _ (w : List ℕ) (one : size w ≡ 1) where
+  none-alone : countOf w ≡ 0
+  none-alone =
+      let first : root w ≡ 0 = omega arith in
+      sym (weight-of-root w) ∙ ap (weightOf w) first ∙ weight-of-zero w
+
+  words-alone : weightWords w (size w) ≡ replicate wordCount 0
+  unfolding weightWords wordsOf
+  words-alone = rw (one, weight-of-zero w) refl
+
 pub weighing : Weighing
 weighing = record {
   visits = λ w p. counting .tallies (vars w) (λ bs. holds w bs && meets w bs (eqb p));
   zero-node = weight-of-zero;
   one-node = weight-of-one;
   root-node = weight-of-root;
+  alone = λ w one. (none-alone w one, words-alone w one);
 }

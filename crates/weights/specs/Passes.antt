@@ -8,9 +8,9 @@ use mathlib.Core.List.{List}
 use lib.ListN.{length, getD, drop}
 use lib.Dec.{eqb}
 use Rattle.naturals.specs.Natural.{wordCount, limit, Holds}
-use Rattle.diagram.specs.Diagram.{varOf, size, vars}
+use Rattle.diagram.specs.Diagram.{varOf, size, vars, Ordered}
 use Rattle.diagram.specs.Reading.{eval}
-use Rattle.diagram.specs.Valuations.{tally, weightOf}
+use Rattle.diagram.specs.Valuations.{tally, countOf, weightOf}
 use Rattle.diagram.proofs.Meeting.{meet}
 use Rattle.levels.specs.Chains.{Heads, Given, Node, Todo}
 use Rattle.counts.specs.Table.{entry, num, In, scaled}
@@ -99,10 +99,22 @@ weightsFrom n = (1 + wordCount) * n
 abbrev pub weightsTo : ℕ → ℕ
 weightsTo n = (1 + 2 * wordCount) * n
 
+-- What both passes ask for: an ordered diagram, and a room that is long enough.
+pub record Weighable (w room : List ℕ) (n v : ℕ) : Type 0 where
+  pub ordered : Ordered w
+  pub nodes : n ≡ size w
+  pub variables : v ≡ vars w
+  pub long : weightsTo n ≤ length room
+
 -- Links, counts and weights stand in a part of the room.
 pub record Tables (w : List ℕ) (n : ℕ) (part : List ℕ) : Type 0 where
   pub sated : Sated w part
   pub weight : (p : ℕ) → p < n → Holds (weightOf w p) (entry (weightsFrom n) part p)
+
+-- The weights do, and words are the count.
+pub record Both (w : List ℕ) (n : ℕ) (part words : List ℕ) : Type 0 where
+  pub weight : (p : ℕ) → p < n → Holds (weightOf w p) (entry (weightsFrom n) part p)
+  pub count : Holds (countOf w) words
 
 -- The weights stand in the room, and the room beyond them is as it was. The links and the counts before them are nothing to
 -- rely on.

@@ -1,21 +1,19 @@
-// The weights of an ordered diagram of two nodes or more, in the working room: behind the chains' links and the counts.
+// The count of an ordered diagram and the weights of its nodes, in the working room: behind the chains' links and the counts.
 use crate::up::pass_all;
-use counts::down::link_and_count;
 use counts::table::count_at;
 use counts::table::note;
+use counts::total::total;
 use diagram::node::BddPointer;
 use levels::CHAINS;
 use naturals::Natural;
 use naturals::zero;
-ghost use mathlib.Core.Path.{_≡_};
 ghost use Prim.Native.Nat.{_*_, _≤_};
 ghost use lib.ListN.{length};
 ghost use Rattle.naturals.specs.Natural.{wordCount, Holds};
 ghost use Rattle.diagram.specs.Limits.{maxNodes};
-ghost use Rattle.diagram.specs.Diagram.{vars as varsOf};
-ghost use Rattle.levels.specs.Chains.{Given};
+ghost use Rattle.diagram.specs.Valuations.{countOf};
 ghost use Rattle.counts.specs.Table.{In, num};
-ghost use Rattle.weights.specs.Passes.{weightsFrom, weightsTo, Rising, Tables, Standing, Handed};
+ghost use Rattle.weights.specs.Passes.{weightsFrom, weightsTo, Rising, Tables, Weighable, Both, Standing, Handed};
 
 // Words of the room for each node: a link and a count, and behind all of these a weight.
 const BEFORE: usize = 1 + naturals::WORDS;
@@ -32,23 +30,28 @@ pub fn weigh_counted(words: &[u32], heads: &[u32], part: &mut [u32], nodes: usiz
     note(part, base, BddPointer(0), zero());
 }
 
-// The chains, and the two passes along them.
-fn passes(words: &[u32], part: &mut [u32], nodes: usize, vars: u32)
-    requires { ⌜ Given (now words) nodes × (vars ≡ varsOf (now words)) × (weightsTo nodes ≤ length (now part)) ⌝ }
-    ensures { λ _. ⌜ Tables (now (words .entry)) nodes (now (part .exit)) ⌝ }
+// The chains, and the two passes along them. One node is false, and no path that is held visits it.
+fn passes(words: &[u32], part: &mut [u32], nodes: usize, vars: u32) -> Natural
+    requires { ⌜ Weighable (now words) (now part) nodes vars ⌝ }
+    ensures { λ r. ⌜ Both (now (words .entry)) nodes (now (part .exit)) (r .words) ⌝ }
 {
     let mut heads = [0u32; CHAINS];
-    link_and_count(words, &mut heads, part, nodes, vars, true);
+    let count = total(words, &mut heads, part, nodes, vars, true);
+    if nodes == 1 {
+        note(part, BEFORE * nodes, BddPointer(0), zero());
+        return count;
+    }
     weigh_counted(words, &heads, part, nodes, vars);
+    count
 }
 
-// Whatever the room has before.
-pub fn weigh(words: &[u32], room: &mut [u32], nodes: usize, vars: u32)
-    requires { ⌜ Given (now words) nodes × (vars ≡ varsOf (now words)) × (weightsTo nodes ≤ length (now room)) ⌝ }
-    ensures { λ _. ⌜ Standing (now (words .entry)) (now (room .entry)) nodes (now (room .exit)) ⌝ }
+// Whatever the room has before. Gives the count.
+pub fn count_and_weigh(words: &[u32], room: &mut [u32], nodes: usize, vars: u32) -> Natural
+    requires { ⌜ Weighable (now words) (now room) nodes vars ⌝ }
+    ensures { λ r. ⌜ Standing (now (words .entry)) (now (room .entry)) nodes (now (room .exit)) × Holds (countOf (now (words .entry))) (r .words) ⌝ }
 {
     let used = USED * nodes;
-    passes(words, &mut room[..used], nodes, vars);
+    passes(words, &mut room[..used], nodes, vars)
 }
 
 // The weight of a node, from the room.

@@ -1,9 +1,9 @@
-// Runs `node_valuation_weights` over the cases of standard input and prints a line for each. A case is a line of decimal
-// numbers: the length of the working room and the word that it is filled with beforehand, the same of the output, and the
-// words of the diagram. The answer is the verdict; of the room afterwards how many words at its front are zero and how
-// many after these are as they were; how many words of the output beyond the result are as they were; and the weights,
-// in hexadecimal. Both files are made by tests/weights_cases.py, from a reading of the rules in force that shares nothing with
-// this code.
+// Runs `count_and_weights` and then `node_valuation_weights` over the cases of standard input and prints a line for each answer.
+// A case is a line of decimal numbers: the length of the working room and the word that it is filled with beforehand, the same of
+// the output, and the words of the diagram. The answer is the verdict; the count, where the operation gives one; of the room
+// afterwards how many words at its front are zero and how many after these are as they were; how many words of the output beyond
+// the result are as they were; and the weights. Count and weights are hexadecimal. Both files are made by tests/weights_cases.py,
+// from a reading of the rules in force that shares nothing with this code.
 use cases::fill;
 use cases::least;
 use cases::number;
@@ -16,6 +16,7 @@ use diagram::verdict::Verdict;
 use libc::STDOUT_FILENO;
 use naturals::Natural;
 use naturals::load;
+use node_weights::count_and_weights;
 use node_weights::node_valuation_weights;
 ghost use Prim.Native.Nat.{_≤_, _<_};
 ghost use lib.ListN.{length};
@@ -120,13 +121,30 @@ fn weighed(verdict: Verdict) -> usize
     }
 }
 
-fn run_case(words: &[u32], output: &mut [u32], room: &mut [u32], filled: u32, marked: u32) {
+fn run_both(words: &[u32], output: &mut [u32], room: &mut [u32], filled: u32, marked: u32) {
+    fill(output, filled);
+    fill(room, marked);
+    let both = count_and_weights(words, room, output);
+    let verdict = both.verdict;
+    say_verdict(verdict);
+    io::write_all(STDOUT_FILENO, b", count ");
+    show(both.count);
+    say_room(room, marked);
+    say_output(output, filled, weighed(verdict));
+}
+
+fn run_weights(words: &[u32], output: &mut [u32], room: &mut [u32], filled: u32, marked: u32) {
     fill(output, filled);
     fill(room, marked);
     let verdict = node_valuation_weights(words, room, output);
     say_verdict(verdict);
     say_room(room, marked);
     say_output(output, filled, weighed(verdict));
+}
+
+fn run_case(words: &[u32], output: &mut [u32], room: &mut [u32], filled: u32, marked: u32) {
+    run_both(words, output, room, filled, marked);
+    run_weights(words, output, room, filled, marked);
 }
 
 // One line of the text; the place after it.

@@ -30,22 +30,22 @@ returns c = count-refused (c .before .before .before .before .before .admit .ens
 mul-used : tie.Need-mul-used
 mul-used c = omega (arith, count-nodes (c .before .before .before .before .before .admit .ensures) (c .before .verdict .given .1) .1)
 
-slice-relend-prefix-total : tie.Need-slice-relend-prefix-total
-slice-relend-prefix-total c = count-fits (c .before .before .before .before .before .admit .ensures) (c .before .verdict .given .1)
+slice-relend-prefix-count-all : tie.Need-slice-relend-prefix-count-all
+slice-relend-prefix-count-all c = count-fits (c .before .before .before .before .before .admit .ensures) (c .before .verdict .given .1)
 
-slice-aggregate-total : tie.Need-slice-aggregate-total
-slice-aggregate-total c =
+slice-aggregate-count-all : tie.Need-slice-aggregate-count-all
+slice-aggregate-count-all c =
     sym (length-take-le (entry * c .before .before .verdict .given .0 .0) (c .before .before .before .before .before .before .admit .last .1 .0) (count-fits (c .before .before .before .before .before .before .admit .ensures) (c .before .before .verdict .given .1)))
 
-total-requires : tie.Need-total-requires
-total-requires c κs = count-asks (c .before .before .before .before .before .before .admit .ensures) (c .before .before .verdict .given .1)
+count-all-requires : tie.Need-count-all-requires
+count-all-requires c κs = count-asks (c .before .before .before .before .before .before .admit .ensures) (c .before .before .verdict .given .1)
 
 same-length-2 : tie.Need-same-length-2
 same-length-2 c = search needs
 
 returns-2 : tie.Need-returns-2
 returns-2 c =
-    count-accepted (c .before .before .before .before .before .before .before .before .before .admit .ensures) (c .before .before .before .before .before .verdict .given .1) _ (c .before .before .total .ensures .0) (c .before .before .total .ensures .1)
+    count-accepted (c .before .before .before .before .before .before .before .before .before .admit .ensures) (c .before .before .before .before .before .verdict .given .1) _ (c .before .before .count-all .ensures .0) (c .before .before .count-all .ensures .1)
 
 pub count-by-spec : {M : Type 1} → statement M
 count-by-spec =
@@ -58,8 +58,8 @@ count-by-spec =
     same-length
     returns
     mul-used
-    slice-relend-prefix-total
-    slice-aggregate-total
-    total-requires
+    slice-relend-prefix-count-all
+    slice-aggregate-count-all
+    count-all-requires
     same-length-2
     returns-2)

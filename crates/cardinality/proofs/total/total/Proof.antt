@@ -6,8 +6,7 @@ use Prim.Native.Nat.{ℕ, _*_}
 use Rattle.diagram.proofs.Words.{zeros-whole}
 use lib.ListN.{length-replicate, length}
 use mathlib.Core.Bool.{true}
-use Rattle.counts.proofs.Answers.{zeros-own, given}
-use Rattle.cardinality.proofs.Answers.{alone, above-few, root-asks, root-done}
+use Rattle.cardinality.proofs.Answers.{zeros-own, given, alone, above-few, root-asks, root-done}
 use native.Mathlib.Omega.{arith}
 use borrow.Author.Needs.{needs}
 use Rattle.cardinality.proofs.total.total.Statement.{statement}
@@ -20,7 +19,7 @@ returns : tie.Need-returns
 returns c = (alone (now (c .before .before .before .before .args .words)) (c .before .before .before .before .args .nodes) (c .before .before .before .before .pre .0) (c .before .before .before .before .pre .1) (c .before .if1 .taken) (c .nought .ensures), zeros-own (now (c .before .before .before .before .args .room)) (3 * c .before .before .before .before .args .nodes) (c .before .before .before .before .pre .3))
 
 count-all-requires : tie.Need-count-all-requires
-count-all-requires c κs = (given true (now (c .before .before .before .before .args .words)) (c .before .before .before .before .args .nodes) (c .before .before .before .before .pre .0) (c .before .before .before .before .pre .1) (c .before .if1 .left), c .before .before .before .before .pre .2, omega (arith, ap length (c .before .before .before .before .pre .3), length-replicate {A = ℕ} (3 * c .before .before .before .before .args .nodes) 0))
+count-all-requires c κs = (given (now (c .before .before .before .before .args .words)) (c .before .before .before .before .args .nodes) (c .before .before .before .before .pre .0) (c .before .before .before .before .pre .1) (c .before .if1 .left), c .before .before .before .before .pre .2, omega (arith, ap length (c .before .before .before .before .pre .3), length-replicate {A = ℕ} (3 * c .before .before .before .before .args .nodes) 0))
 
 sub-t13 : tie.Need-sub-t13
 sub-t13 c = search needs

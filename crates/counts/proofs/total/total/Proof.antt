@@ -1,10 +1,5 @@
 -- `counts::total::total` meets its contract.
-use denote.Ref.{now}
-use mathlib.Core.Path.{_∙_}
-use Prim.Native.Nat.{_*_}
-use Rattle.diagram.proofs.Words.{zeros-whole}
-use Rattle.counts.proofs.Answers.{zeros-own, zeros-long, alone, given, root-place, total-done}
-use Rattle.counts.specs.Worth.{entry}
+use Rattle.counts.proofs.Answers.{total-alone, total-asks, total-rooted, total-done}
 use borrow.Author.Needs.{needs}
 use Rattle.counts.proofs.total.total.Statement.{statement}
 use Rattle.counts.proofs.total.total.Tie as tie
@@ -13,40 +8,22 @@ zero-requires : tie.Need-zero-requires
 zero-requires c κs = search needs
 
 returns : tie.Need-returns
-returns c = (alone (c .before .before .before .before .args .valuations) (now (c .before .before .before .before .args .words)) (c .before .before .before .before .args .nodes) (c .before .before .before .before .pre .0) (c .before .before .before .before .pre .1) (c .before .if1 .taken) (c .zero .ensures), zeros-own (now (c .before .before .before .before .args .room)) (entry * c .before .before .before .before .args .nodes) (c .before .before .before .before .pre .2))
+returns c = total-alone (c .before .before .before .before .before .pre) (c .before .if1 .taken) (c .zero .ensures)
 
-var-of-requires : tie.Need-var-of-requires
-var-of-requires c κs = search needs
+link-and-count-requires : tie.Need-link-and-count-requires
+link-and-count-requires c κs = total-asks (c .before .before .before .before .before .before .pre) (c .before .before .if1 .left)
 
-count-all-requires : tie.Need-count-all-requires
-count-all-requires c κs = (given (c .before .before .before .before .before .args .valuations) (now (c .before .before .before .before .before .args .words)) (c .before .before .before .before .before .args .nodes) (c .before .before .before .before .before .pre .0) (c .before .before .before .before .before .pre .1) (c .before .before .if1 .left), c .before .var-of .ensures, zeros-long (now (c .before .before .before .before .before .args .room)) (c .before .before .before .before .before .args .nodes) (c .before .before .before .before .before .pre .2))
-
-sub-shift-left : tie.Need-sub-shift-left
-sub-shift-left c = search needs
-
-cast-shift-left : tie.Need-cast-shift-left
-cast-shift-left c = search needs
-
-count-at-requires : tie.Need-count-at-requires
-count-at-requires c κs = root-place (c .before .before .before .before .before .before .before .before .before .args .valuations) (now (c .before .before .before .before .before .before .before .before .before .args .words)) (c .before .before .before .before .before .before .before .before .before .args .nodes) (c .before .before .before .before .before .before .before .before .before .pre .0) (c .before .before .before .before .before .before .before .before .before .pre .1) (c .before .before .before .count-all .ensures)
-
-var-of-requires-2 : tie.Need-var-of-requires-2
-var-of-requires-2 c κs = search needs
-
-clear-requires : tie.Need-clear-requires
-clear-requires c κs = search needs
-
-doublings-requires : tie.Need-doublings-requires
-doublings-requires c κs = search needs
-
-shift-left-requires : tie.Need-shift-left-requires
-shift-left-requires c κs = search needs
+root-worth-requires : tie.Need-root-worth-requires
+root-worth-requires c κs = total-rooted (c .before .before .before .before .before .before .before .before .before .before .before .before .pre) (c .before .before .before .before .before .before .before .before .if1 .left) (c .before .before .before .before .before .link-and-count .last .1 .0) (c .before .before .before .before .before .link-and-count .ensures)
 
 same-length : tie.Need-same-length
 same-length c = search needs
 
+same-length-2 : tie.Need-same-length-2
+same-length-2 c = search needs
+
 returns-2 : tie.Need-returns-2
-returns-2 c = (total-done (c .before .before .before .before .before .before .before .before .before .before .before .before .before .before .before .before .before .before .args .valuations) (now (c .before .before .before .before .before .before .before .before .before .before .before .before .before .before .before .before .before .before .args .words)) (c .before .before .before .before .before .before .before .before .before .before .before .before .before .before .before .before .before .before .args .nodes) (c .before .before .before .before .before .before .before .before .before .before .before .before .before .before .before .before .before .before .pre .0) (c .before .before .before .before .before .before .before .before .before .before .before .before .before .before .before .before .before .before .pre .1) (c .before .before .before .before .before .before .before .before .before .before .before .before .count-all .ensures) (c .before .before .before .before .before .before .before .before .count-at .ensures) (c .before .before .before .before .before .before .before .var-of2 .result .0) (c .before .before .doublings .result) (c .before .before .before .before .before .before .before .var-of2 .ensures) (c .before .before .doublings .ensures) (c .before .shift-left .ensures), c .before .before .before .before .before .clear .ensures ∙ zeros-whole (c .before .before .before .before .before .before .before .before .before .before .before .before .count-all .last .1 .0) (now (c .before .before .before .before .before .before .before .before .before .before .before .before .before .before .before .before .before .before .args .room)) (c .before .before .before .before .before .before .before .before .before .before .before .before .count-all .kept .1 .0))
+returns-2 c = total-done (c .before .before .before .before .before .before .before .before .before .before .before .before .before .pre) (c .before .before .before .before .before .before .before .before .before .if1 .left) (c .before .before .before .before .before .before .link-and-count .last .1 .0) (c .before .before .before .before .before .before .link-and-count .ensures) (c .root-worth .ensures)
 
 pub total-spec : {M : Type 1} → statement M
 total-spec =
@@ -54,14 +31,8 @@ total-spec =
     (tie.spec
     zero-requires
     returns
-    var-of-requires
-    count-all-requires
-    sub-shift-left
-    cast-shift-left
-    count-at-requires
-    var-of-requires-2
-    clear-requires
-    doublings-requires
-    shift-left-requires
+    link-and-count-requires
+    root-worth-requires
     same-length
+    same-length-2
     returns-2)

@@ -1,3 +1,4 @@
+use Rattle.naturals.specs.Natural.{value}
 use Rattle.report.proofs.Composing.{wrote-head}
 use borrow.Author.Needs.{needs}
 use Rattle.report.proofs.lines.write_head.Statement.{statement}
@@ -24,9 +25,6 @@ write-number-requires-2 c κs = search needs
 slice-aggregate-write-count : tie.Need-slice-aggregate-write-count
 slice-aggregate-write-count c = search needs
 
-weight-of-requires : tie.Need-weight-of-requires
-weight-of-requires c κs = search needs
-
 write-count-requires : tie.Need-write-count-requires
 write-count-requires c κs = search needs
 
@@ -37,7 +35,7 @@ same-length : tie.Need-same-length
 same-length c = search needs
 
 returns : tie.Need-returns
-returns c = wrote-head (c .before .before .before .before .before .before .before .before .before .before .before .before .before .before .before .before .before .before .before .before .before .before .before .before .args .words .now) (c .before .before .before .before .before .before .before .weight-of .result .words) (c .before .before .before .before .before .before .before .before .before .before .before .before .before .before .before .before .before .before .word .ensures) (c .before .before .before .before .before .before .before .weight-of .ensures) (c .before .before .before .before .before .before .before .before .before .before .before .before .before .before .before .before .before .write-number .ensures) (c .before .before .before .before .before .before .before .before .before .before .before .before .write-number2 .ensures) (c .before .before .before .before .before .before .write-count .ensures) (c .before .before .put .ensures)
+returns c = wrote-head (c .before .before .before .before .before .before .before .before .before .before .before .before .before .before .before .before .before .before .before .before .before .before .args .words .now) (value (c .before .before .before .before .before .before .before .before .before .before .before .before .before .before .before .before .before .before .before .before .before .before .args .count .words)) (c .before .before .before .before .before .before .before .before .before .before .before .before .before .before .before .before .before .word .ensures) (c .before .before .before .before .before .before .before .before .before .before .before .before .before .before .before .before .write-number .ensures) (c .before .before .before .before .before .before .before .before .before .before .before .write-number2 .ensures) (c .before .before .before .before .before .before .write-count .ensures) (c .before .before .put .ensures)
 
 pub write-head-spec : {M : Type 1} → statement M
 write-head-spec =
@@ -50,7 +48,6 @@ write-head-spec =
     slice-aggregate-write-number-2
     write-number-requires-2
     slice-aggregate-write-count
-    weight-of-requires
     write-count-requires
     put-requires
     same-length

@@ -1,7 +1,7 @@
--- `counts::total::doublings` meets its contract.
+-- `counts::root::doublings` meets its contract.
 use Rattle.counts.specs.Worth.{doublings}
-use Rattle.counts.proofs.total.doublings.Statement.{statement}
-use Rattle.counts.proofs.total.doublings.Tie as tie
+use Rattle.counts.proofs.root.doublings.Statement.{statement}
+use Rattle.counts.proofs.root.doublings.Tie as tie
 
 returns : tie.Need-returns
 unfolding doublings
