@@ -33,6 +33,6 @@ fi
 cargo build --release --quiet
 program=${CARGO_TARGET_DIR:-target}/release/houayletan-compare
 if [ "${1:-}" = store ]; then
-    exec "$program" store 2026 5600 > ../tests/c/replay.txt
+    exec "$program" store 2026 5800 > ../tests/c/replay.txt
 fi
 exec "$program" "$@"

@@ -5,7 +5,8 @@
  *     stress deep                    the longest paths, each operation on a stack of its own: how many bytes of it are used
  *
  * Of every call: guard words, input, room and output as the header says; number and place as a reading of the table says; and
- * of an answer what can be seen from outside (a result is accepted, a cut goes the right way and meets its target). */
+ * of an answer what can be seen from outside (a result is accepted, a cut goes the right way and meets its target; node 0 weighs
+ * nothing, node 1 and the root as much as the count, which the count and weights together give too, and no node more). */
 #include "../tests/c/lent.h"
 #include "reading.h"
 #include <pthread.h>
@@ -184,6 +185,25 @@ static const char *wrong_result(const Operation *o, const Request *q, const Repl
     return NULL;
 }
 
+/* NULL, or what is wrong with an answer's weights. */
+static const char *wrong_weights(const Operation *o, const Request *q, const Reply *r) {
+    if (o->output != WEIGHTS) return NULL;
+    size_t n = q->words_len / 3;
+    if (r->written != HOUAYLETAN_WEIGHTS(n)) return "a weight for each node";
+    uint32_t count[COUNT_WORDS], none[COUNT_WORDS] = {0};
+    count_of(q->words, q->words_len, count);
+    for (size_t i = 0; i < r->values; i++) {
+        if (r->value[i] != count[i]) return "the count";
+    }
+    for (size_t p = 0; p < n; p++) {
+        const uint32_t *weight = q->output + HOUAYLETAN_WEIGHTS(p);
+        if (compare_counts(weight, count) > 0) return "a weight over the count";
+        if (p == 0 && compare_counts(weight, none)) return "node 0's weight";
+        if (p != 0 && (p == 1 || p == n - 1) && compare_counts(weight, count)) return "the weight of node 1 or of the root";
+    }
+    return NULL;
+}
+
 static void stop(const Operation *o, const Request *q, const Reply *r, Refused expected, const char *fault) {
     printf("FAILED: %s: %s\n  expected %u at %zu, got %u at %zu; room %zu, output %zu, list", o->name, fault, expected.number, expected.place,
            r->verdict.number, r->verdict.place, q->room_len, q->output_len);
@@ -202,6 +222,7 @@ static void check_call(const Operation *o, const Loan *l, const Request *q, cons
     const char *fault = wrong(l, r, words, list);
     if (!fault && (r->verdict.number != expected.number || r->verdict.place != expected.place)) fault = "another verdict";
     if (!fault && !expected.number) fault = wrong_result(o, q, r);
+    if (!fault && !expected.number) fault = wrong_weights(o, q, r);
     if (fault) stop(o, q, r, expected, fault);
     made++;
     refused[expected.number]++;

@@ -248,6 +248,8 @@ def worked():
     yield 's', [2], SINGLE, None, 0, 0                  # true, but not by array length
     yield 'c', count_words(1), SINGLE, None, 0, 1
     yield 'c', count_words(0), terminals(1) + [0, 0, 0], None, 0, 0
+    # a second round, below a root that isn't at the first variable: what is left at it counts double
+    yield 'c', count_words(4), terminals(4) + [3, 0, 1, 2, 2, 2, 1, 1, 3], None, 0, 2
     yield 'c', count_words(2), terminals(0), [], 1, 0   # only over refuses 16
     yield 'd', count_words(2), terminals(0), 16, 0
     yield 'd', count_words(1), [0, 0, 0], [], 1, 0

@@ -109,7 +109,7 @@ fn main() {
     let mut rows: Vec<Row> = vec![];
     for pass in 0..2 {
         let mut at = 0;
-        for operation in OPERATIONS.iter().filter(|o| wanted.as_ref().map_or(true, |w| w == o.name)) {
+        for operation in OPERATIONS.iter().filter(|o| wanted.as_ref().map_or(true, |w| o.name.contains(w.as_str()))) {
             for (family, name) in FAMILIES {
                 for nodes in SIZES {
                     let made = |i| Case::new(diagram(family, nodes, seed + i as u64), operation);
