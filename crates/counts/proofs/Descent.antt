@@ -2,22 +2,20 @@
 use Prim.Native.Nat.{ℕ, zero, suc, _+_, _-_, _*_, _≤_, _<_}
 use mathlib.Core.Path.{_≡_, sym, ap, _∙_}
 use mathlib.Core.Logic.{_≢_}
-use mathlib.Core.Bool.{Bool, true, false}
+use mathlib.Core.Bool.{Bool}
 use mathlib.Core.List.{List}
 use native.Mathlib.Omega.{arith}
-use native.Mathlib.Nat.{mul-one}
 use lib.ListN.{length, getD}
-use Rattle.naturals.specs.Natural.{value, limit, wordCount, Holds, Fitted}
-use Rattle.naturals.specs.declared.Fit.{Fit}
-use Rattle.naturals.proofs.Answer.{holds-as, fitted-below}
+use Rattle.naturals.specs.Natural.{wordCount, Holds}
+use Rattle.naturals.proofs.Answer.{holds-as}
 use Rattle.diagram.specs.Diagram.{varOf, lowOf, highOf, size, vars, Ordered}
 use Rattle.diagram.proofs.Tests.{by-eq}
 use Rattle.diagram.proofs.Reading.{Layer, layered, at-end}
 use Rattle.levels.specs.Chains.{Last, Linked, Given, Known}
 use Rattle.levels.proofs.Chaining.{known-from, known-begins, known-ends, at-chain, chain-falls, heads-all}
-use Rattle.counts.specs.Table.{entry, num, In, Noted, scaled}
-use Rattle.counts.specs.Worth.{worthOf, doublings, partOf, Worths, Parting, Joining, Descending, AtDown}
-use Rattle.counts.proofs.Nodes.{worth-end, worth-node, worth-fits, part-fits}
+use Rattle.counts.specs.Table.{entry, num, In, Noted}
+use Rattle.counts.specs.Worth.{worthOf, sharedOf, Sharing, Worths, Joining, Descending, AtDown}
+use Rattle.counts.proofs.Nodes.{worth-end, worth-node, worth-most}
 
 worths-as : {how : Bool} {w room : List ℕ} {c b : ℕ} → Worths how w room c b → (d e : ℕ) → ((q : ℕ) → q < size w → Known w d e q → Known w c b q)
     → Worths how w room d e
@@ -49,25 +47,6 @@ worths-start how w heads n given {r₀} {r₁} {r₂} links long a b =
     ends P x y (suc zero) h = y
     ends P x y (suc (suc q)) h = absurd (omega arith)
 
--- ---- a child's part
-
--- paths: the child's number as it is
-pub part-plain : (how : Bool) → how ≡ false → (w room : List ℕ) (n p q : ℕ) {x : List ℕ} → Holds (num n room q) x → Holds (partOf how w p q (num n room q)) x
-unfolding doublings
-part-plain how e w room n p q h = rw e (holds-as (sym (mul-one (num n room q))) h)
-
--- valuations: scaled
-module _ (how : Bool) (e : how ≡ true) (w room : List ℕ) (n p q : ℕ) {x : List ℕ} (h : Holds (num n room q) x) where
-  scaled-is : partOf how w p q (num n room q) ≡ scaled w p q (num n room q)
-  unfolding doublings
-  scaled-is = rw e
-
-  pub part-asks : Parting how w room n p q → (varOf w p < varOf w q) × (scaled w p q (value x) < limit)
-  part-asks k = (k .above, rw (h .worth, ← scaled-is) (k .fits))
-
-  pub part-scaled : {y : List ℕ} → Holds (scaled w p q (value x)) y → Holds (partOf how w p q (num n room q)) y
-  part-scaled g = holds-as (ap (λ (z : ℕ). scaled w p q z) (h .worth) ∙ sym scaled-is) g
-
 -- ---- one node
 
 module _ {how : Bool} {w room : List ℕ} {n p : ℕ} (j : Joining how w room n p) where
@@ -82,21 +61,25 @@ module _ {how : Bool} {w room : List ℕ} {n p : ℕ} (j : Joining how w room n 
       ap (λ (m : ℕ). num m room q) (j .given .nodes)
       ∙ j .worths .right q h (record { level = omega arith; turn = λ e. absurd (omega arith) }) .worth
 
-  child : (q : ℕ) → q < size w → varOf w p < varOf w q → Parting how w room n p q
-  child q h up = record {
-    inside = worths-in (j .worths) (j .given .nodes) q h;
-    above = up;
-    fits = rw (child-known q h up) (part-fits w ordered how p q h up);
-  }
+  shared : sharedOf how w n room p ≡ worthOf how w p
+  shared =
+      let l = layer in
+      rw (child-known (lowOf w p) (l .low) (l .above-low), child-known (highOf w p) (l .high) (l .above-high))
+      (sym (worth-node w ordered how p (j .node .two) (j .node .inside)))
 
-  pub join-low : (low : ℕ) → low ≡ lowOf w p → Parting how w room n p low
-  join-low low e = let l = layer in rw e (child (lowOf w p) (l .low) (l .above-low))
-
-  pub join-high : (high : ℕ) → high ≡ highOf w p → Parting how w room n p high
-  join-high high e = let l = layer in rw e (child (highOf w p) (l .high) (l .above-high))
-
-  pub join-in : In n room p
-  join-in = worths-in (j .worths) (j .given .nodes) p (j .node .inside)
+  pub join-asks : Sharing how w n room p
+  join-asks =
+      let l = layer in
+      record {
+        inside = worths-in (j .worths) (j .given .nodes) p (j .node .inside);
+        low = worths-in (j .worths) (j .given .nodes) (lowOf w p) (l .low);
+        high = worths-in (j .worths) (j .given .nodes) (highOf w p) (l .high);
+        level = omega (arith, l .var);
+        above-low = l .above-low;
+        above-high = l .above-high;
+        variables = ordered .formed .variables;
+        fits = rw shared (worth-most w ordered how p);
+      }
 
   worths-noted : {after : List ℕ} → Noted (size w) room p (worthOf how w p) after → Worths how w after (varOf w p) p
   worths-noted {after} k = record {
@@ -107,17 +90,8 @@ module _ {how : Bool} {w room : List ℕ} {n p : ℕ} (j : Joining how w room n 
         (λ ne. rw (k .other q ne) (j .worths .right q h (record { level = known .level; turn = λ e. let t = known .turn e in omega arith })));
   }
 
-  pub join-done : (low : ℕ) → low ≡ lowOf w p → {u : List ℕ} → Holds (partOf how w p low (num n room low)) u
-      → (high : ℕ) → high ≡ highOf w p → {z : List ℕ} → Holds (partOf how w p high (num n room high)) z
-      → {f : Fit} → Fitted (value u + value z) f → {after : List ℕ} → ((x : ℕ) → Holds x (f .natural .words) → Noted n room p x after)
-      → Worths how w after (varOf w p) p
-  join-done low el {u} hu high eh {z} hz {f} a {after} note =
-      let l = layer in
-      let x : value u ≡ partOf how w p (lowOf w p) (worthOf how w (lowOf w p)) = hu .worth ∙ rw (el, child-known (lowOf w p) (l .low) (l .above-low)) in
-      let y : value z ≡ partOf how w p (highOf w p) (worthOf how w (highOf w p)) = hz .worth ∙ rw (eh, child-known (highOf w p) (l .high) (l .above-high)) in
-      let s : value u + value z ≡ worthOf how w p = omega (arith, worth-node w ordered how p (j .node .two) (j .node .inside)) in
-      let mine = fitted-below (rw s at a) (worth-fits w ordered how p) .1 in
-      worths-noted (rw (j .given .nodes) at (note (worthOf how w p) mine))
+  pub join-done : {after : List ℕ} → Noted n room p (sharedOf how w n room p) after → Worths how w after (varOf w p) p
+  join-done m = worths-noted (rw (shared, j .given .nodes) at m)
 
 -- ---- one variable
 

@@ -8,6 +8,7 @@
 pub mod Nodes
 pub mod Turns
 pub mod Entries
+pub mod Shares
 pub mod Parts
 pub mod Descent
 pub mod Answers

@@ -6,8 +6,8 @@ use mathlib.Core.Bool.{Bool, cond}
 use mathlib.Core.List.{List}
 use lib.ListN.{length, getD, replicate}
 use Rattle.naturals.specs.Natural.{wordCount, limit, Holds}
-use Rattle.diagram.specs.Limits.{maxNodes}
-use Rattle.diagram.specs.Diagram.{varOf, size, vars, root, Ordered}
+use Rattle.diagram.specs.Limits.{maxNodes, maxVariables}
+use Rattle.diagram.specs.Diagram.{varOf, lowOf, highOf, size, vars, root, Ordered}
 use Rattle.diagram.specs.Reading.{eval}
 use Rattle.diagram.specs.Valuations.{tally}
 use Rattle.levels.specs.Chains.{chainCount, Last, Heads, Given, Node, Known}
@@ -52,12 +52,22 @@ pub record Worths (valuations : Bool) (w room : List ℕ) (c b : ℕ) : Type 0 w
   pub next : (p : ℕ) → 2 ≤ p → p < size w → Last w (varOf w p) p (getD room p 0)
   pub right : (q : ℕ) → q < size w → Known w c b q → Holds (worthOf valuations w q) (entryOf (size w) room q)
 
--- What a child's part, one node, and the nodes of one variable ask for.
-pub record Parting (valuations : Bool) (w room : List ℕ) (n p q : ℕ) : Type 0 where
-  pub inside : In n room q
-  pub above : varOf w p < varOf w q
-  pub fits : partOf valuations w p q (num n room q) < limit
+-- A node's number from its children's, in a table: what they are worth at p together, and what working it out there asks for.
+abbrev pub sharedOf : Bool → List ℕ → ℕ → List ℕ → ℕ → ℕ
+sharedOf valuations w base table p =
+    partOf valuations w p (lowOf w p) (num base table (lowOf w p)) + partOf valuations w p (highOf w p) (num base table (highOf w p))
 
+pub record Sharing (valuations : Bool) (w : List ℕ) (base : ℕ) (table : List ℕ) (p : ℕ) : Type 0 where
+  pub inside : In base table p
+  pub low : In base table (lowOf w p)
+  pub high : In base table (highOf w p)
+  pub level : varOf w p ≤ vars w
+  pub above-low : varOf w p < varOf w (lowOf w p)
+  pub above-high : varOf w p < varOf w (highOf w p)
+  pub variables : vars w ≤ maxVariables
+  pub fits : sharedOf valuations w base table p ≤ 2 ^ (vars w - varOf w p)
+
+-- What one node and the nodes of one variable ask for.
 pub record Joining (valuations : Bool) (w room : List ℕ) (n p : ℕ) : Type 0 where
   pub given : Given w n
   pub node : Node w p

@@ -1,58 +1,28 @@
 // The worths of all nodes, from the last variable to the first: a node's children stand at larger variables, so theirs are noted
 // before, wherever they stand in the array. The room has the chains' links, and behind them the table of the worths.
-use crate::table::count_at;
+use crate::links::note_sum;
 use crate::table::note;
-use crate::table::scaled;
 use diagram::node::BddPointer;
 use diagram::node::BddVariable;
-use diagram::node::high_link_of;
-use diagram::node::low_link_of;
 use levels::head_of;
 use levels::link;
 use levels::next_of;
-use naturals::Natural;
-use naturals::add;
 use naturals::from_word;
 use naturals::zero;
 ghost use mathlib.Core.Path.{_≡_};
 ghost use Prim.Native.Nat.{_+_, _*_, _≤_};
 ghost use lib.ListN.{length, replicate};
-ghost use Rattle.naturals.specs.Natural.{wordCount, Holds};
+ghost use Rattle.naturals.specs.Natural.{wordCount};
 ghost use Rattle.diagram.specs.Diagram.{varOf, vars as varsOf};
 ghost use Rattle.levels.specs.Chains.{chainCount, Heads, Given, Linked};
-ghost use Rattle.counts.specs.Table.{num};
-ghost use Rattle.counts.specs.Worth.{partOf, Parting, Joining, Descending, Worths};
-
-// A child's worth as it counts at its parent: valuations are doubled for each variable that the link skips.
-fn part(
-    words: &[u32],
-    room: &[u32],
-    nodes: usize,
-    node: BddPointer,
-    child: BddPointer,
-    valuations: bool,
-) -> Natural
-    requires { ⌜ Parting valuations (now words) (now room) nodes (node .0) (child .0) ⌝ }
-    ensures { λ r. ⌜ Holds (partOf valuations (now (words .entry)) (node .0) (child .0) (num nodes (now (room .entry)) (child .0))) (r .words) ⌝ }
-{
-    let count = count_at(room, nodes, child);
-    if !valuations {
-        return count;
-    }
-    scaled(words, node, child, count)
-}
+ghost use Rattle.counts.specs.Worth.{Joining, Descending, Worths};
 
 // One node, whose children's worths are noted.
 fn join(words: &[u32], room: &mut [u32], nodes: usize, node: BddPointer, valuations: bool)
     requires { ⌜ Joining valuations (now words) (now room) nodes (node .0) ⌝ }
     ensures { λ _. ⌜ Worths valuations (now (words .entry)) (now (room .exit)) (varOf (now (words .entry)) (node .0)) (node .0) ⌝ }
 {
-    let low = low_link_of(words, node);
-    let below = part(words, room, nodes, node, low, valuations);
-    let high = high_link_of(words, node);
-    let above = part(words, room, nodes, node, high, valuations);
-    let sum = add(below, above);
-    note(room, nodes, node, sum.natural);
+    note_sum(words, room, nodes, node, valuations);
 }
 
 // The nodes of one variable.

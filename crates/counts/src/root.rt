@@ -9,7 +9,7 @@ ghost use Rattle.naturals.specs.Natural.{Holds};
 ghost use Rattle.counts.specs.Worth.{doublings as doublingsOf, rootOf, Rooted};
 
 // How often a link that skips variables doubles a worth.
-fn doublings(valuations: bool, skipped: u32) -> u32
+pub(crate) fn doublings(valuations: bool, skipped: u32) -> u32
     ensures { λ r. ⌜ r ≡ doublingsOf valuations skipped ⌝ }
 {
     if valuations { skipped } else { 0 }

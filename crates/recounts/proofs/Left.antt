@@ -17,7 +17,7 @@ use Rattle.reduction.specs.Reduce.{reduce}
 use Rattle.reduction.proofs.Canonical.{reduce-vars, reduce-holds}
 use Rattle.counts.specs.Table.{scaled}
 use Rattle.counts.specs.Worth.{worthOf, doublings, partOf}
-use Rattle.counts.proofs.Nodes.{worth-end, worth-node, worth-fits, part-fits, total-valuations, total-fits, under-limit}
+use Rattle.counts.proofs.Nodes.{worth-end, worth-node, worth-most, total-valuations, total-fits, under-limit}
 use Rattle.approximation.specs.Links.{relinked}
 use Rattle.approximation.specs.Cut.{cut, send}
 use Rattle.approximation.proofs.Send.{send-length, send-size, send-root, send-var, send-low, send-high, send-ordered, send-is-cut}
@@ -32,7 +32,7 @@ reduce-count w o =
     ap (λ (v : ℕ). tally v (holds (reduce w))) (reduce-vars w o)
     ∙ tally-same (vars w) (holds (reduce w)) (holds w) (λ bs l. reduce-holds w o bs l)
 
-part-is : (w : List ℕ) (p q x : ℕ) → partOf true w p q x ≡ scaled w p q x
+pub part-is : (w : List ℕ) (p q x : ℕ) → partOf true w p q x ≡ scaled w p q x
 unfolding doublings
 part-is w p q x = refl
 
@@ -86,16 +86,10 @@ module _ (w : List ℕ) (o : Ordered w) (m : ℕ → Bool) where
   none-fits : 0 < limit
   none-fits = under-limit 0 0 (omega arith) (omega arith)
 
-  pub left-fits : (p : ℕ) → leftOf w m p < limit
-  left-fits p = by-test (m p) (λ e. rw (left-taken w m p e) none-fits) (λ e. rw (left-free w m p e) (worth-fits sent sent-ordered true p))
-
-  pub left-part-fits : (p q : ℕ) → q < size w → varOf w p < varOf w q → scaled w p q (leftOf w m q) < limit
-  left-part-fits p q h above = by-test (m q)
-      (λ e. rw (left-taken w m q e, zero-mul (2 ^ (varOf w q - varOf w p - 1))) none-fits)
-      (λ e.
-      let up : varOf sent p < varOf sent q = rw (send-var m 0 w p, send-var m 0 w q) above in
-      let is = part-is sent p q (worthOf true sent q) ∙ scaled-sent w m p q (worthOf true sent q) in
-      rw (left-free w m q e, ← is) (part-fits sent sent-ordered true p q (sent-in q h) up))
+  pub left-most : (p : ℕ) → leftOf w m p ≤ 2 ^ (vars w - varOf w p)
+  left-most p = by-test (m p)
+      (λ e. rw (left-taken w m p e) (omega arith))
+      (λ e. rw (left-free w m p e, ← send-var m 0 w p, ← send-var m 0 w 0) (worth-most sent sent-ordered true p))
 
   whole : worthOf true sent (root w) * 2 ^ varOf w (root w) ≡ countOf sent
   unfolding doublings

@@ -8,22 +8,22 @@ use native.Mathlib.Omega.{arith}
 use lib.ListN.{length, getD, set, take, drop, length-set, length-drop}
 use lib.Seq.{ext-getD, getD-take, getD-drop, length-take-le}
 use borrow.Author.Tests.{eq-eqb, ne-eqb}
-use Rattle.naturals.specs.Natural.{value, limit, Holds, Fitted}
-use Rattle.naturals.specs.declared.Fit.{Fit}
-use Rattle.naturals.proofs.Answer.{holds-as, fitted-below}
+use Rattle.naturals.specs.Natural.{Holds}
+use Rattle.naturals.proofs.Answer.{holds-as}
 use Rattle.diagram.specs.Limits.{maxNodes}
 use Rattle.diagram.specs.Diagram.{varOf, lowOf, highOf, size, vars, Ordered}
 use Rattle.diagram.proofs.Tests.{by-eq, by-test, or-right}
 use Rattle.diagram.proofs.Reading.{Layer, layered, by-two}
 use Rattle.levels.specs.Chains.{Last, Given, Known}
 use Rattle.levels.proofs.Chaining.{known-from, known-begins, known-ends, at-chain, chain-falls}
-use Rattle.counts.specs.Table.{entry, num, In, Noted, scaled}
+use Rattle.counts.specs.Table.{entry, num, Noted, scaled}
+use Rattle.counts.specs.Worth.{sharedOf, Sharing}
 use Rattle.cuts.specs.Marks.{markedIn}
 use Rattle.cuts.proofs.Marking.{set-marks}
 use Rattle.diagram.specs.Limits.{maxNodes}
 use Rattle.room_map.specs.Map.{linksFrom, countsFrom, countsTo}
-use Rattle.recounts.specs.Kept.{leftOf, Untouched, Renewing, Renewed, Parting, Turning, Joining, Levelling, AtLevel, Passing}
-use Rattle.recounts.proofs.Left.{left-taken, left-node, left-fits, left-part-fits}
+use Rattle.recounts.specs.Kept.{leftOf, Untouched, Renewing, Renewed, Turning, Joining, Levelling, AtLevel, Passing}
+use Rattle.recounts.proofs.Left.{part-is, left-taken, left-node, left-most}
 
 -- ---- what stays
 
@@ -89,15 +89,10 @@ known-past ne k = record { level = k .level; turn = λ e. let t = k .turn e in o
 known-still : {w : List ℕ} {c p q : ℕ} → Known w c (suc p) q → Known w c p q
 known-still k = record { level = k .level; turn = λ e. let t = k .turn e in omega arith }
 
--- ---- a child's part
+-- ---- a node that has changed
 
-pub part-asks : {w room : List ℕ} {n p q : ℕ} → Parting w room n p q → {x : List ℕ} → Holds (num (countsFrom n) room q) x
-    → (varOf w p < varOf w q) × (scaled w p q (value x) < limit)
-part-asks k h = (k .above, rw (h .worth) (k .fits))
-
-pub part-done : (w room : List ℕ) (n p q : ℕ) {x y : List ℕ} → Holds (num (countsFrom n) room q) x → Holds (scaled w p q (value x)) y
-    → Holds (scaled w p q (num (countsFrom n) room q)) y
-part-done w room n p q h g = holds-as (ap (λ (z : ℕ). scaled w p q z) (h .worth)) g
+pub change-done : (changed : List ℕ) (p : ℕ) {after : List ℕ} → after ≡ set changed (0 + p) 1 → after ≡ set changed p 1
+change-done changed p e = let z : 0 + p ≡ p = omega arith in e ∙ ap (λ (i : ℕ). set changed i 1) z
 
 -- ---- one node
 
@@ -182,34 +177,37 @@ module _ {w changed room : List ℕ} {n p : ℕ} (t : Turning w changed room n p
       none-right false b x = x
 
 module _ {w changed room : List ℕ} {n p : ℕ} (j : Joining w changed room n p) where
-  child : (q : ℕ) → q < size w → varOf w p < varOf w q → Parting w room n p q
-  child q h up =
-      let long = s (j .turning) .long in
-      let e = is-size (j .turning) in
-      let few = ordered (j .turning) .formed .few in
-      record {
-        few = omega arith;
-        inside = omega arith;
-        above = up;
-        fits = rw (child-is (j .turning) q h up) (left-part-fits w (ordered (j .turning)) (s (j .turning) .taken) p q h up);
-      }
-
-  pub join-low : (low : ℕ) → low ≡ lowOf w p → Parting w room n p low
-  join-low low e = let l = layer (j .turning) in rw e (child (lowOf w p) (l .low) (l .above-low))
-
-  pub join-high : (high : ℕ) → high ≡ highOf w p → Parting w room n p high
-  join-high high e = let l = layer (j .turning) in rw e (child (highOf w p) (l .high) (l .above-high))
-
-  pub join-asks : (n ≤ maxNodes) × In (countsFrom n) room p
-  join-asks =
-      let few = ordered (j .turning) .formed .few in
-      let e = is-size (j .turning) in
-      let long = s (j .turning) .long in
-      let inside = j .turning .node .inside in
-      (omega arith, omega arith)
-
   free : s (j .turning) .taken p ≡ false
   free = sym (s (j .turning) .marks p (j .turning .node .inside)) ∙ ap (λ (i : ℕ). markedIn i room p) (sym (is-size (j .turning))) ∙ j .free
+
+  -- together the children have what is left
+  shared : sharedOf true w (countsFrom n) room p ≡ leftOf w (s (j .turning) .taken) p
+  shared =
+      let t = j .turning in
+      let l = layer t in
+      rw (part-is w p (lowOf w p) (num (countsFrom n) room (lowOf w p)), part-is w p (highOf w p) (num (countsFrom n) room (highOf w p)), child-is t (lowOf w p) (l .low) (l .above-low), child-is t (highOf w p) (l .high) (l .above-high))
+      (sym (left-is t (s t .taken) free))
+
+  pub join-few : n ≤ maxNodes
+  join-few = let few = ordered (j .turning) .formed .few in let e = is-size (j .turning) in omega arith
+
+  pub join-asks : Sharing true w (countsFrom n) room p
+  join-asks =
+      let t = j .turning in
+      let l = layer t in
+      let e = is-size t in
+      let long = s t .long in
+      let inside = t .node .inside in
+      record {
+        inside = omega arith;
+        low = omega (arith, l .low);
+        high = omega (arith, l .high);
+        level = omega (arith, l .var);
+        above-low = l .above-low;
+        above-high = l .above-high;
+        variables = ordered t .formed .variables;
+        fits = rw shared (left-most w (ordered t) (s t .taken) p);
+      }
 
   module _ {changed′ after : List ℕ} (f : changed′ ≡ set changed p 1) (k : Noted (countsFrom (size w)) room p (leftOf w (s (j .turning) .taken) p) after) where
     flag-set : changed′ ≡ set changed (0 + p) 1
@@ -258,20 +256,11 @@ module _ {w changed room : List ℕ} {n p : ℕ} (j : Joining w changed room n p
         same-length : (l : List ℕ) (i : ℕ) → length (set l i 1) ≡ length l
         same-length l i = simp length-set
 
-  pub join-done : (low : ℕ) → low ≡ lowOf w p → {u : List ℕ} → Holds (scaled w p low (num (countsFrom n) room low)) u
-      → (high : ℕ) → high ≡ highOf w p → {z : List ℕ} → Holds (scaled w p high (num (countsFrom n) room high)) z
-      → {f : Fit} → Fitted (value u + value z) f → {changed′ after : List ℕ}
-      → (changed′ ≡ set changed p 1) × ((x : ℕ) → Holds x (f .natural .words) → Noted (countsFrom n) room p x after)
+  pub join-done : {changed′ after : List ℕ} → changed′ ≡ set changed (0 + p) 1 → Noted (countsFrom n) room p (sharedOf true w (countsFrom n) room p) after
       → Renewed w room changed′ after (varOf w p) p
-  join-done low el {u} hu high eh {z} hz {f} a {changed′} {after} (flag, note) =
-      let t = j .turning in
-      let l = layer t in
-      let m = s t .taken in
-      let x : value u ≡ scaled w p (lowOf w p) (leftOf w m (lowOf w p)) = hu .worth ∙ rw (el, child-is t (lowOf w p) (l .low) (l .above-low)) refl in
-      let y : value z ≡ scaled w p (highOf w p) (leftOf w m (highOf w p)) = hz .worth ∙ rw (eh, child-is t (highOf w p) (l .high) (l .above-high)) refl in
-      let sum : value u + value z ≡ leftOf w m p = omega (arith, left-is t m free) in
-      let mine = fitted-below (rw sum at a) (left-fits w (ordered t) m p) .1 in
-      joined flag (noted-as (is-size t) (note (leftOf w m p) mine))
+  join-done {changed′} {after} flag note =
+      let mine : Noted (countsFrom n) room p (leftOf w (s (j .turning) .taken) p) after = rw shared at note in
+      joined (change-done changed p flag) (noted-as (is-size (j .turning)) mine)
     where
       noted-as : {a b x : ℕ} → a ≡ b → Noted (countsFrom a) room p x after → Noted (countsFrom b) room p x after
       noted-as e k = rw e at k
@@ -347,10 +336,7 @@ pub all-on : {w start changed room changed′ after : List ℕ} {c : ℕ} → Re
     → Renewed w start changed′ after (c - 1) 0
 all-on x y = record { renewing = y .renewing; untouched = untouched-on (x .untouched) (y .untouched) }
 
--- ---- what has changed
-
-pub change-done : (changed : List ℕ) (p : ℕ) {after : List ℕ} → after ≡ set changed (0 + p) 1 → after ≡ set changed p 1
-change-done changed p e = let z : 0 + p ≡ p = omega arith in e ∙ ap (λ (i : ℕ). set changed i 1) z
+-- ---- a child that has changed
 
 module _ (w changed : List ℕ) (p : ℕ) where
   pub above-low : {low : ℕ} {b : Bool} → low ≡ lowOf w p → b ≡ markedIn 0 changed low → b ≡ true

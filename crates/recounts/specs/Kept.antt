@@ -7,13 +7,13 @@ use mathlib.Core.Logic.{_≢_}
 use mathlib.Core.Bool.{Bool, true, false, cond}
 use mathlib.Core.List.{List}
 use lib.ListN.{length, getD, drop}
-use Rattle.naturals.specs.Natural.{limit, Holds}
+use Rattle.naturals.specs.Natural.{Holds}
 use Rattle.diagram.specs.Limits.{maxNodes, maxVariables}
 use Rattle.diagram.specs.Diagram.{varOf, size, vars}
 use Rattle.diagram.specs.Valuations.{countOf}
 use Rattle.room_map.specs.Map.{linksFrom, countsFrom, countsTo}
 use Rattle.levels.specs.Chains.{Last, Heads, Given, Node, Known}
-use Rattle.counts.specs.Table.{entry, num, In, scaled}
+use Rattle.counts.specs.Table.{entry, num, In}
 use Rattle.counts.specs.Worth.{worthOf}
 use Rattle.negation.specs.Negation.{negated}
 use Rattle.approximation.specs.Cut.{cut, send}
@@ -63,13 +63,7 @@ pub record Renewed (w room changed after : List ℕ) (c b : ℕ) : Type 0 where
   pub renewing : Renewing w changed after c b
   pub untouched : Untouched (size w) room after
 
--- What a child's part, one node, the nodes of one variable, and the whole pass ask for.
-pub record Parting (w room : List ℕ) (n p q : ℕ) : Type 0 where
-  pub few : n ≤ maxNodes
-  pub inside : In (countsFrom n) room q
-  pub above : varOf w p < varOf w q
-  pub fits : scaled w p q (num (countsFrom n) room q) < limit
-
+-- What one node, the nodes of one variable, and the whole pass ask for.
 pub record Turning (w changed room : List ℕ) (n p : ℕ) : Type 0 where
   pub given : Given w n
   pub node : Node w p

@@ -1,16 +1,21 @@
 -- The second pass: what each node has received is passed on to its children, and with what goes on from it gives its weight.
 use Prim.Native.Nat.{ℕ, suc, _+_, _-_, _*_, _^_, _≤_, _<_}
 use mathlib.Core.Path.{_≡_, refl, sym, ap, _∙_}
-use mathlib.Core.Logic.{_≢_}
-use mathlib.Core.Bool.{true}
+use mathlib.Core.Logic.{_≢_, inl, inr, ⊎-elim}
+use mathlib.Core.Bool.{Bool, true}
 use mathlib.Core.List.{List}
 use native.Mathlib.Omega.{arith}
-use native.Mathlib.Nat.{mul-one, mul-zero, zero-mul, le-mul-of-pos-right}
-use lib.Pow.{pow-pos, pow-mono}
+use native.Mathlib.Decide.{decLe}
+use native.Mathlib.Nat.{mul-one, mul-zero, zero-mul, suc-mul, mul-le-mul, mul-le-mul-right, le-mul-of-pos-right}
+use lib.Pow.{pow-pos, pow-add, pow-mono}
 use lib.ListN.{length, getD}
 use Rattle.naturals.specs.Natural.{value, limit, wordCount, Holds, Fitted}
 use Rattle.naturals.specs.declared.Fit.{Fit}
 use Rattle.naturals.proofs.Answer.{holds-as, fitted-below}
+use Rattle.in_place.specs.InPlace.{numberIn, shiftedIn, wordsFor, Adding, Multiplying, Fitting}
+use Rattle.in_place.specs.declared.sum.Shifted.{Shifted}
+use Rattle.in_place.proofs.Placed.{words-enough}
+use Rattle.diagram.specs.Limits.{maxVariables}
 use Rattle.diagram.specs.Diagram.{varOf, lowOf, highOf, size, vars, root, Ordered}
 use Rattle.diagram.specs.Valuations.{weightOf}
 use Rattle.diagram.proofs.Tests.{by-eq}
@@ -18,8 +23,10 @@ use Rattle.diagram.proofs.Reading.{Layer, layered, root-in, var-most, by-two}
 use Rattle.levels.specs.Chains.{Last, Heads, Given, Todo}
 use Rattle.levels.proofs.Chaining.{todo-from, todo-back, todo-ends, todo-begins, by-todo, at-chain, chain-falls}
 use Rattle.counts.specs.Table.{entry, num, In, Noted, skip, scaled}
-use Rattle.counts.proofs.Nodes.{worth-end, under-limit}
-use Rattle.weights.specs.Passes.{satOf, throughOf, dot, Sated, Counted, Emptied, Passing, Turning, Ascending, AtUp, Giving, Rising, weightsFrom, weightsTo, Tables}
+use Rattle.counts.proofs.Nodes.{worth-end, worth-most, under-limit}
+use Rattle.counts.proofs.Entries.{apart, entry-few}
+use Rattle.counts.proofs.Shares.{noted-sum}
+use Rattle.weights.specs.Passes.{satOf, throughOf, dot, Sated, Counted, Emptied, Passing, Turning, Ascending, AtUp, Giving, Taking, Rising, weightsFrom, weightsTo, Tables}
 use Rattle.weights.proofs.Dots.{bump, bump-here, bump-other, bump-least, without, without-here, without-other, dot-least, dot-only, dot-moved}
 use Rattle.weights.proofs.Levels.{Shared, through-node, through-self, through-none, weight-through, all-node, all-root, weight-most}
 use Rattle.weights.proofs.Entries.{entry-kept}
@@ -69,6 +76,23 @@ received-most : (w : List ℕ) (a : ℕ → ℕ) → dot (size w) a (λ q. 2 ^ (
 received-most w a e q h =
     omega (arith, dot-least (size w) a (λ r. 2 ^ (vars w - varOf w r)) q h, le-mul-of-pos-right (a q) (pow-pos (vars w - varOf w q)))
 
+-- a node has received no more than there are valuations of the variables before its own
+received-few : (w : List ℕ) (a : ℕ → ℕ) → dot (size w) a (λ q. 2 ^ (vars w - varOf w q)) ≡ 2 ^ vars w → (q : ℕ) → q < size w → varOf w q ≤ vars w
+    → a q ≤ 2 ^ varOf w q
+received-few w a e q h level =
+    let whole : varOf w q + (vars w - varOf w q) ≡ vars w = omega arith in
+    let parts : 2 ^ vars w ≡ 2 ^ varOf w q * 2 ^ (vars w - varOf w q) = ap (λ (i : ℕ). 2 ^ i) (sym whole) ∙ pow-add 2 (varOf w q) (vars w - varOf w q) in
+    elim (decLe (a q) (2 ^ varOf w q)) [
+      | yes l ↦ l
+      | no l ↦ absurd (omega (
+        arith,
+        dot-least (size w) a (λ r. 2 ^ (vars w - varOf w r)) q h,
+        mul-le-mul-right {m = suc (2 ^ varOf w q)} {n = a q} (2 ^ (vars w - varOf w q)) (omega arith),
+        suc-mul (2 ^ varOf w q) (2 ^ (vars w - varOf w q)),
+        pow-pos (vars w - varOf w q),
+      ))
+    ]
+
 within : (w : List ℕ) → Ordered w → (x : ℕ) → x ≤ 2 ^ vars w → x < limit
 within w o x h = under-limit x (vars w) h (o .formed .variables)
 
@@ -87,20 +111,11 @@ module _ {w : List ℕ} {base : ℕ} {room : List ℕ} {n p : ℕ} (k : Turning 
   todo-here : Todo w (varOf w p) (suc p) p
   todo-here = record { level = omega arith; turn = λ e. omega arith }
 
-  pub turn-in : In base room p × In n room p
-  turn-in = (passing-in (k .passing) p (k .node .inside), omega (arith, k .passing .sated .long, k .given .nodes, k .node .inside))
+  turn-in : In base room p
+  turn-in = passing-in (k .passing) p (k .node .inside)
 
   has : num base room p ≡ a p
   has = k .passing .todo p (k .node .inside) todo-here .worth
-
-  pub turn-weight : {r : List ℕ} → Holds (num base room p) r → {s : List ℕ} → Holds (num n room p) s → {f : Fit} → Fitted (value r * value s) f
-      → Holds (weightOf w p) (f .natural .words)
-  turn-weight {r} hr {s} hs {f} fit =
-      let x : value r ≡ a p = hr .worth ∙ has in
-      let y : value s ≡ satOf w p =
-      hs .worth ∙ ap (λ (m : ℕ). num m room p) (k .given .nodes) ∙ k .passing .sated .right p (k .node .inside) (record { level = omega arith; turn = λ e. omega arith }) .worth in
-      let e : value r * value s ≡ weightOf w p = rw (x, y) (sym (weight-is ordered (k .passing) p (k .node .inside) todo-here refl)) in
-      fitted-below (rw e at fit) (within w ordered (weightOf w p) (weight-most w ordered p)) .1
 
   -- what each has afterwards: nothing is left at p, and the children have their shares more
   abbrev x : ℕ
@@ -126,8 +141,8 @@ module _ {w : List ℕ} {base : ℕ} {room : List ℕ} {n p : ℕ} (k : Turning 
   all-conserved : dot (size w) three (λ q. 2 ^ (vars w - varOf w q)) ≡ 2 ^ vars w
   all-conserved = conserved (λ q. 2 ^ (vars w - varOf w q)) (all-node w ordered p (k .node .two) (k .node .inside)) ∙ k .passing .all
 
-  three-fits : (q : ℕ) → q < size w → three q < limit
-  three-fits q h = within w ordered (three q) (received-most w three all-conserved q h)
+  three-few : (q : ℕ) → q < size w → three q ≤ 2 ^ varOf w q
+  three-few q h = received-few w three all-conserved q h (var-most w (vars w) (size w) (layered w ordered) q h)
 
   -- still to do afterwards: as before, but for p
   child-todo : (q : ℕ) → varOf w p < varOf w q → Todo w (varOf w p) p q
@@ -151,62 +166,102 @@ module _ {w : List ℕ} {base : ℕ} {room : List ℕ} {n p : ℕ} (k : Turning 
       (λ e. rw e (holds-as (ap (λ (v : ℕ). v + z) (table q h t .worth) ∙ sym (bump-here f q z)) (m .here)))
       (λ ne. rw (m .other r ne) (holds-as (sym (bump-other f q z r ne)) (table r l u)))
 
-  module _ {room₁ : List ℕ} (weighed : Noted base room p (weightOf w p) room₁) {r : List ℕ} (hr : Holds (num base room p) r) where
-    amount : value r ≡ a p
-    amount = hr .worth ∙ has
+  has-one : Has room one
+  has-one q h t = holds-as (sym (without-other a p q (todo-not q t))) (k .passing .todo q h (todo-before q t))
 
-    has-one : Has room₁ one
-    has-one q h t =
-        let ne = todo-not q t in
-        rw (weighed .other q ne) (holds-as (sym (without-other a p q ne)) (k .passing .todo q h (todo-before q t)))
+  low-todo : Todo w (varOf w p) p (lowOf w p)
+  low-todo = let l = layer in child-todo (lowOf w p) (l .above-low)
 
-    low-todo : Todo w (varOf w p) p (lowOf w p)
-    low-todo = let l = layer in child-todo (lowOf w p) (l .above-low)
+  high-todo : Todo w (varOf w p) p (highOf w p)
+  high-todo = let l = layer in child-todo (highOf w p) (l .above-high)
 
-    high-todo : Todo w (varOf w p) p (highOf w p)
-    high-todo = let l = layer in child-todo (highOf w p) (l .above-high)
+  level-few : (q : ℕ) → q < size w → varOf w q ≤ maxVariables
+  level-few q h = let m = var-most w (vars w) (size w) (layered w ordered) q h in let u = ordered .formed .variables in omega arith
 
-    pub turn-low : (low : ℕ) → low ≡ lowOf w p → Giving w base room₁ p low (value r)
-    turn-low low e =
+  pub turn-low : (low : ℕ) → low ≡ lowOf w p → Giving w base room p low
+  turn-low low e =
+      let l = layer in
+      let sum : num base room (lowOf w p) + scaled w p (lowOf w p) (num base room p) ≡ two (lowOf w p) =
+      rw (has, has-one (lowOf w p) (l .low) low-todo .worth) (sym (bump-here one (lowOf w p) x)) in
+      let most = bump-least two (highOf w p) y (lowOf w p) in
+      rw e (record {
+        node = turn-in;
+        inside = passing-in (k .passing) (lowOf w p) (l .low);
+        above = l .above-low;
+        level = level-few (lowOf w p) (l .low);
+        fits = omega (arith, sum, most, three-few (lowOf w p) (l .low));
+      })
+
+  module _ (low : ℕ) (el : low ≡ lowOf w p) {room₁ : List ℕ} (gave : Noted base room low (num base room low + scaled w p low (num base room p)) room₁) where
+    gave-low : Noted base room (lowOf w p) (num base room (lowOf w p) + x) room₁
+    gave-low = rw (el, has) at gave
+
+    has-two : Has room₁ two
+    has-two = let l = layer in has-given one (lowOf w p) x (l .low) low-todo has-one gave-low
+
+    -- p is none of its children
+    still-low : entry base room₁ p ≡ entry base room p
+    still-low = gave-low .other p (λ e. todo-not (lowOf w p) low-todo (sym e))
+
+    still : num base room₁ p ≡ a p
+    still = ap value still-low ∙ has
+
+    pub turn-high : (high : ℕ) → high ≡ highOf w p → Giving w base room₁ p high
+    turn-high high e =
         let l = layer in
-        let sum : num base room₁ (lowOf w p) + scaled w p (lowOf w p) (value r) ≡ two (lowOf w p) =
-        rw (amount, has-one (lowOf w p) (l .low) low-todo .worth) (sym (bump-here one (lowOf w p) x)) in
-        let most = bump-least two (highOf w p) y (lowOf w p) in
+        let sum : num base room₁ (highOf w p) + scaled w p (highOf w p) (num base room₁ p) ≡ three (highOf w p) =
+        rw (still, has-two (highOf w p) (l .high) high-todo .worth) (sym (bump-here two (highOf w p) y)) in
         rw e (record {
-          inside = omega (arith, passing-in (k .passing) (lowOf w p) (l .low), weighed .size);
-          above = l .above-low;
-          fits = omega (arith, sum, most, three-fits (lowOf w p) (l .low));
+          node = omega (arith, turn-in, gave-low .size);
+          inside = omega (arith, passing-in (k .passing) (highOf w p) (l .high), gave-low .size);
+          above = l .above-high;
+          level = level-few (highOf w p) (l .high);
+          fits = omega (arith, sum, three-few (highOf w p) (l .high));
         })
 
-    module _ (low : ℕ) (el : low ≡ lowOf w p) {room₂ : List ℕ} (gave : Noted base room₁ low (num base room₁ low + scaled w p low (value r)) room₂) where
-      gave-low : Noted base room₁ (lowOf w p) (num base room₁ (lowOf w p) + x) room₂
-      gave-low = rw (el, amount) at gave
+    module _ (high : ℕ) (eh : high ≡ highOf w p) {room₂ : List ℕ} (gave₂ : Noted base room₁ high (num base room₁ high + scaled w p high (num base room₁ p)) room₂) where
+      gave-high : Noted base room₁ (highOf w p) (num base room₁ (highOf w p) + y) room₂
+      gave-high = rw (eh, still) at gave₂
 
-      has-two : Has room₂ two
-      has-two = let l = layer in has-given one (lowOf w p) x (l .low) low-todo has-one gave-low
+      has-given-both : Has room₂ three
+      has-given-both = let l = layer in has-given two (highOf w p) y (l .high) high-todo has-two gave-high
 
-      pub turn-high : (high : ℕ) → high ≡ highOf w p → Giving w base room₂ p high (value r)
-      turn-high high e =
+      sated-given : Sated w room₂
+      sated-given = sated-kept (sated-kept (k .passing .sated) (k .passing .behind) gave-low) (k .passing .behind) gave-high
+
+      received-is : num base room₂ p ≡ a p
+      received-is = ap value (gave-high .other p (λ e. todo-not (highOf w p) high-todo (sym e))) ∙ still
+
+      left-is : num n room₂ p ≡ satOf w p
+      left-is =
+          ap (λ (m : ℕ). num m room₂ p) (k .given .nodes)
+          ∙ sated-given .right p (k .node .inside) (record { level = omega arith; turn = λ e. omega arith }) .worth
+
+      pub turn-asks : Taking w base room₂ n p
+      turn-asks =
           let l = layer in
-          let sum : num base room₂ (highOf w p) + scaled w p (highOf w p) (value r) ≡ three (highOf w p) =
-          rw (amount, has-two (highOf w p) (l .high) high-todo .worth) (sym (bump-here two (highOf w p) y)) in
-          rw e (record {
-            inside = omega (arith, passing-in (k .passing) (highOf w p) (l .high), weighed .size, gave-low .size);
-            above = l .above-high;
-            fits = omega (arith, sum, three-fits (highOf w p) (l .high));
-          })
+          let behind = k .passing .behind in
+          let inside = k .node .inside in
+          let en = k .given .nodes in
+          record {
+            inside = omega (arith, turn-in, gave-low .size, gave-high .size);
+            before = omega arith;
+            level = omega (arith, l .var);
+            variables = ordered .formed .variables;
+            received = rw received-is (received-few w a (k .passing .all) p inside (omega (arith, l .var)));
+            left = rw left-is (worth-most w ordered true p);
+          }
 
-      module _ (high : ℕ) (eh : high ≡ highOf w p) {room₃ : List ℕ} (gave₂ : Noted base room₂ high (num base room₂ high + scaled w p high (value r)) room₃) where
-        gave-high : Noted base room₂ (highOf w p) (num base room₂ (highOf w p) + y) room₃
-        gave-high = rw (eh, amount) at gave₂
+      module _ {room₃ : List ℕ} (took : Noted base room₂ p (num base room₂ p * num n room₂ p) room₃) where
+        weighed : Noted base room₂ p (weightOf w p) room₃
+        weighed = rw (received-is, left-is, ← weight-is ordered (k .passing) p (k .node .inside) todo-here refl) at took
 
         has-three : Has room₃ three
-        has-three = let l = layer in has-given two (highOf w p) y (l .high) high-todo has-two gave-high
+        has-three q h t = rw (weighed .other q (todo-not q t)) (has-given-both q h t)
 
         -- a node that is no longer to do is no child of p
-        spent : (q : ℕ) → (Todo w (varOf w p) p q → ⊥) → (three q ≡ one q) × (entry base room₃ q ≡ entry base room₁ q)
+        spent : (q : ℕ) → (Todo w (varOf w p) p q → ⊥) → (three q ≡ one q) × (entry base room₂ q ≡ entry base room q)
         spent q not-todo =
-            let l = layer in
             let not-low : q ≢ lowOf w p = λ e. not-todo (rw e low-todo) in
             let not-high : q ≢ highOf w p = λ e. not-todo (rw e high-todo) in (
               bump-other two (highOf w p) y q not-high ∙ bump-other one (lowOf w p) x q not-low,
@@ -217,17 +272,15 @@ module _ {w : List ℕ} {base : ℕ} {room : List ℕ} {n p : ℕ} (k : Turning 
         done-now q h not-todo =
             let s = spent q not-todo in
             by-eq q p
-            (λ e. (s .0 ∙ rw e (without-here a p), rw (s .1, e) (weighed .here)))
+            (λ e. (s .0 ∙ rw e (without-here a p), rw e (weighed .here)))
             (λ ne.
             let d = k .passing .done q h (λ t. not-todo (todo-after q t ne)) in
-            (s .0 ∙ without-other a p q ne ∙ d .0, rw (s .1, weighed .other q ne) (d .1)))
+            (s .0 ∙ without-other a p q ne ∙ d .0, rw (weighed .other q ne, s .1) (d .1)))
 
         pub turn-done : Passing w base room₃ (varOf w p) p
         turn-done =
-            let first = sated-kept (k .passing .sated) (k .passing .behind) weighed in
-            let second = sated-kept first (k .passing .behind) gave-low in
             record {
-              sated = sated-kept second (k .passing .behind) gave-high;
+              sated = sated-kept sated-given (k .passing .behind) weighed;
               behind = k .passing .behind;
               long = omega (arith, k .passing .long, weighed .size, gave-low .size, gave-high .size);
               received = three;
@@ -357,14 +410,79 @@ passes-done {w} {room} {n} {v} given ev at-end {after} z =
         (λ t. holds-as (sym (one q ne t h)) (s .todo q h (todo q t h)))
         (λ two. s .done q h (λ u. let r = layered w (given .ordered) .node q two h in absurd (omega (arith, u .level, r .var))) .1)))
 
--- ---- what the functions of the pass give
+-- ---- what the functions of the pass ask for and give
 
-pub give-done : {w : List ℕ} {base : ℕ} {room : List ℕ} {p q x : ℕ} → Giving w base room p q x → {u : List ℕ} → Holds (num base room q) u
-    → {z : List ℕ} → Holds (scaled w p q x) z → {f : Fit} → Fitted (value u + value z) f → {after : List ℕ}
-    → ((y : ℕ) → Holds y (f .natural .words) → Noted base room q y after) → Noted base room q (num base room q + scaled w p q x) after
-give-done {w} {base} {room} {p} {q} {x} k {u} hu {z} hz {f} a note =
-    let e : value u + value z ≡ num base room q + scaled w p q x = omega (arith, hu .worth, hz .worth) in
-    note (num base room q + scaled w p q x) (fitted-below (rw e at a) (k .fits) .1)
+-- a child's sum
+module _ {w : List ℕ} {base : ℕ} {room : List ℕ} {p q : ℕ} (k : Giving w base room p q) {had share : Shifted} {to used : ℕ}
+    (et : to ≡ base + wordCount * q) (eh : had .at ≡ to) (none : had .bits ≡ 0) (es : share .at ≡ base + wordCount * p) (eb : share .bits ≡ skip w p q)
+    (eu : used ≡ wordsFor (varOf w q)) where
+  few : wordsFor (varOf w q) ≤ wordCount
+  few = omega (arith, k .level)
+
+  other : p ≢ q
+  other e = let same = ap (λ (r : ℕ). varOf w r) e in omega (arith, k .above)
+
+  pub give-asks : Adding wordCount used room to had share
+  give-asks =
+      let less = few in
+      rw (eu, et) (record {
+        few = few;
+        target = k .inside;
+        first = omega (arith, k .inside);
+        second = omega (arith, k .node);
+        first-clear = inr (eh ∙ et, omega arith);
+        second-clear = inl (⊎-elim (λ l. inl (omega arith)) (λ l. inr (omega arith)) (apart base p q other));
+      })
+
+  pub give-done : {fits : Bool} {after : List ℕ} → Fitting wordCount used room to (shiftedIn used room had + shiftedIn used room share) fits after
+      → Noted base room q (num base room q + scaled w p q (num base room p)) after
+  give-done {fits} {after} f =
+      let most = k .fits in
+      let less = le-mul-of-pos-right (num base room p) (pow-pos (skip w p q)) in
+      let first : shiftedIn (wordsFor (varOf w q)) room had ≡ num base room q =
+      rw (eh, et, none) (mul-one (numberIn (wordsFor (varOf w q)) room (base + wordCount * q)) ∙ entry-few base room q (varOf w q) (omega arith) few) in
+      let second : shiftedIn (wordsFor (varOf w q)) room share ≡ scaled w p q (num base room p) =
+      rw (es, eb) (ap (λ (v : ℕ). v * 2 ^ skip w p q) (entry-few base room p (varOf w q) (omega arith) few)) in
+      let sum : shiftedIn (wordsFor (varOf w q)) room had + shiftedIn (wordsFor (varOf w q)) room share ≡ num base room q + scaled w p q (num base room p) =
+      rw (first, second) refl in
+      let mine : Fitting wordCount (wordsFor (varOf w q)) room (base + wordCount * q) (shiftedIn (wordsFor (varOf w q)) room had + shiftedIn (wordsFor (varOf w q)) room share) fits after = rw (eu, et) at f in
+      noted-sum base room q (wordsFor (varOf w q)) (k .inside) mine sum (words-enough (num base room q + scaled w p q (num base room p)) (varOf w q) most)
+
+-- a node's product
+module _ {w : List ℕ} {base : ℕ} {room : List ℕ} {n p : ℕ} (k : Taking w base room n p) {to m b l : ℕ}
+    (et : to ≡ base + wordCount * p) (em : m ≡ wordsFor (varOf w p)) (eb : b ≡ n + wordCount * p) (el : l ≡ wordsFor (vars w - varOf w p)) where
+  pub take-asks : Multiplying wordCount room to m b l
+  take-asks =
+      let v = k .variables in
+      let level = k .level in
+      let inside = k .inside in
+      let before = k .before in
+      record {
+        first = omega arith;
+        second = omega arith;
+        few = omega arith;
+        target = omega arith;
+        inside = omega arith;
+        apart = inl (omega arith);
+      }
+
+  pub take-done : {fits : Bool} {after : List ℕ} → Fitting wordCount wordCount room to (numberIn m room to * numberIn l room b) fits after
+      → Noted base room p (num base room p * num n room p) after
+  take-done {fits} {after} f =
+      let v = k .variables in
+      let level = k .level in
+      let first : numberIn m room (base + wordCount * p) ≡ num base room p = rw em (entry-few base room p (varOf w p) (k .received) (omega arith)) in
+      let second : numberIn l room b ≡ num n room p = rw (el, eb) (entry-few n room p (vars w - varOf w p) (k .left) (omega arith)) in
+      let mine : Fitting wordCount wordCount room (base + wordCount * p) (numberIn m room (base + wordCount * p) * numberIn l room b) fits after = rw et at f in
+      noted-sum base room p wordCount (k .inside) mine (rw (first, second) refl) less
+    where
+      less : num base room p * num n room p < limit
+      less =
+          let level = k .level in
+          let whole : varOf w p + (vars w - varOf w p) ≡ vars w = omega arith in
+          let most : num base room p * num n room p ≤ 2 ^ vars w =
+          omega (arith, mul-le-mul (k .received) (k .left), pow-add 2 (varOf w p) (vars w - varOf w p), ap (λ (i : ℕ). 2 ^ i) whole) in
+          under-limit (num base room p * num n room p) (vars w) most (k .variables)
 
 -- ---- all variables
 

@@ -7,7 +7,8 @@ use mathlib.Core.Bool.{true, _&&_}
 use mathlib.Core.List.{List}
 use lib.ListN.{length, getD, drop}
 use lib.Dec.{eqb}
-use Rattle.naturals.specs.Natural.{wordCount, limit, Holds}
+use Rattle.naturals.specs.Natural.{wordCount, Holds}
+use Rattle.diagram.specs.Limits.{maxVariables}
 use Rattle.diagram.specs.Diagram.{varOf, size, vars, Ordered}
 use Rattle.diagram.specs.Reading.{eval}
 use Rattle.diagram.specs.Valuations.{tally, countOf, weightOf}
@@ -79,10 +80,21 @@ pub record AtUp (w : List ℕ) (base : ℕ) (room : List ℕ) (c p : ℕ) : Type
   pub passing : Passing w base room c (suc p)
 
 -- What a node has received, scaled, can be added to what its child has.
-pub record Giving (w : List ℕ) (base : ℕ) (room : List ℕ) (p q x : ℕ) : Type 0 where
+pub record Giving (w : List ℕ) (base : ℕ) (room : List ℕ) (p q : ℕ) : Type 0 where
+  pub node : In base room p
   pub inside : In base room q
   pub above : varOf w p < varOf w q
-  pub fits : num base room q + scaled w p q x < limit
+  pub level : varOf w q ≤ maxVariables
+  pub fits : num base room q + scaled w p q (num base room p) ≤ 2 ^ varOf w q
+
+-- It can be taken as often as what goes on from the node says, which stands in a table before.
+pub record Taking (w : List ℕ) (base : ℕ) (room : List ℕ) (n p : ℕ) : Type 0 where
+  pub inside : In base room p
+  pub before : n + wordCount * p + wordCount ≤ base
+  pub level : varOf w p ≤ vars w
+  pub variables : vars w ≤ maxVariables
+  pub received : num base room p ≤ 2 ^ varOf w p
+  pub left : num n room p ≤ 2 ^ (vars w - varOf w p)
 
 -- What the second pass begins with.
 pub record Rising (w heads : List ℕ) (base : ℕ) (room : List ℕ) (n v : ℕ) : Type 0 where

@@ -1,28 +1,44 @@
-use Rattle.weights.proofs.Ascent.{give-done}
+-- `weights::up::give` meets its contract.
+use mathlib.Core.Path.{refl, _∙_}
+use Rattle.weights.proofs.Ascent.{give-asks, give-done}
 use native.Mathlib.Omega.{arith}
 use borrow.Author.Needs.{needs}
 use Rattle.weights.proofs.up.give.Statement.{statement}
 use Rattle.weights.proofs.up.give.Tie as tie
 
-scaled-requires : tie.Need-scaled-requires
-scaled-requires c κs = (c .before .before .pre .above, omega (arith, c .before .before .pre .fits))
+place-requires : tie.Need-place-requires
+place-requires c κs = omega (arith, c .before .before .pre .inside)
 
-count-at-requires : tie.Need-count-at-requires
-count-at-requires c κs = c .before .before .before .before .pre .inside
+place-requires-2 : tie.Need-place-requires-2
+place-requires-2 c κs = omega (arith, c .before .before .before .pre .node)
 
-add-requires : tie.Need-add-requires
-add-requires c κs = search needs
+skipped-requires : tie.Need-skipped-requires
+skipped-requires c κs = c .before .before .before .before .pre .above
 
-note-requires : tie.Need-note-requires
-note-requires c κs = c .before .before .before .before .before .before .before .pre .inside
+var-of-requires : tie.Need-var-of-requires
+var-of-requires c κs = search needs
+
+words-for-requires : tie.Need-words-for-requires
+words-for-requires c κs = search needs
+
+add-shifted-requires : tie.Need-add-shifted-requires
+add-shifted-requires c κs = give-asks (c .before .before .before .before .before .before .before .before .pre) (c .before .before .before .before .before .place .ensures) refl refl (c .before .before .before .before .place2 .ensures) (c .before .before .before .skipped .ensures) (c .words-for .ensures ∙ rw (c .before .before .var-of .ensures) refl)
 
 same-length : tie.Need-same-length
 same-length c = search needs
 
 returns : tie.Need-returns
-returns c = give-done (c .before .before .before .before .before .before .before .before .before .before .pre) (c .before .before .before .before .before .count-at .ensures) (c .before .before .before .before .before .before .before .scaled .ensures) (c .before .before .before .before .add .ensures) (c .before .before .note .ensures)
+returns c = give-done (c .before .before .before .before .before .before .before .before .before .before .before .pre) (c .before .before .before .before .before .before .before .before .place .ensures) refl refl (c .before .before .before .before .before .before .before .place2 .ensures) (c .before .before .before .before .before .before .skipped .ensures) (c .before .before .before .words-for .ensures ∙ rw (c .before .before .before .before .before .var-of .ensures) refl) (c .before .before .add-shifted .ensures)
 
 pub give-spec : {M : Type 1} → statement M
 give-spec =
     tie.close
-    (tie.spec scaled-requires count-at-requires add-requires note-requires same-length returns)
+    (tie.spec
+    place-requires
+    place-requires-2
+    skipped-requires
+    var-of-requires
+    words-for-requires
+    add-shifted-requires
+    same-length
+    returns)
