@@ -49,11 +49,6 @@ def order(a, b):
     return 'less' if a < b else 'equal' if a == b else 'greater'
 
 
-def compare_at(s, a, b):
-    read = lambda at: number(s[at:at + WORDS]) if at + WORDS <= len(s) else 0
-    lines.append(f'compare at {a} {b} ' + order(read(a), read(b)))
-
-
 def store(s, at):
     ok = at + WORDS <= len(s)
     if ok:
@@ -81,13 +76,7 @@ lines.append('zero 0')
 for at in PLACES:
     s = [2863311530 + i for i in range(ROOM)]
     load(s, at)
-    compare_at(s, at, 1)
-    compare_at(s, 1, at)
     store(s, at)
-s = [1] + [0] * (WORDS - 1) + [2] + [0] * (ROOM - WORDS - 1)
-compare_at(s, 0, WORDS)
-compare_at(s, WORDS, 0)
-compare_at(s, 1, WORDS + 1)
 s = [5] * (WORDS - 1)
 load(s, 0)
 store(s, 0)

@@ -255,29 +255,12 @@ fn store_to(s: &mut [u32], at: usize) {
     show_all(s);
 }
 
-fn compare_places(s: &[u32], a: usize, b: usize) {
-    label(b"compare at ", a, b as u64);
-    show_order(naturals::compare_at(s, a, b));
-}
-
-// Numbers that differ in the lowest word only.
-fn lowest_words() {
-    let mut s = [0u32; ROOM];
-    s[0] = 1;
-    s[WORDS] = 2;
-    compare_places(&s, 0, WORDS);
-    compare_places(&s, WORDS, 0);
-    compare_places(&s, 1, WORDS + 1);
-}
-
 fn places() {
     let mut j = 0;
     while j < 8 {
         let at = PLACES[j];
         let mut s = room();
         load_from(&s, at);
-        compare_places(&s, at, 1);
-        compare_places(&s, 1, at);
         store_to(&mut s, at);
         j += 1;
     }
@@ -308,7 +291,6 @@ fn main() {
     }
     powers();
     places();
-    lowest_words();
     too_short();
     just_enough();
 }
