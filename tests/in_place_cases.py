@@ -11,11 +11,9 @@ def block(start, end, word):
     return sum(word << (32 * i) for i in range(start, end))
 
 
-SAMPLES = [
-    0, 1, TOP, block(0, WORDS // 2, TOP), block(0, WORDS, TOP), 1 << (32 * WORDS - 1), block(1, WORDS - 2, 2309737967),
-]
-SHIFTS = [(0, 0), (0, 1), (1, 31), (31, 31), (0, 32), (33, 0), (64, 95), (32 * WORDS - 1, 0), (0, 32 * WORDS), (4294967295, 4294967295)]
-USED = [WORDS, WORDS // 2 + 1, 1, 0]
+SAMPLES = [0, 1, block(0, WORDS // 2, TOP), block(0, WORDS, TOP), block(1, WORDS - 2, 2309737967)]
+SHIFTS = [(0, 0), (31, 31), (0, 32), (33, 0), (64, 95), (32 * WORDS - 1, 4294967295)]
+USED = [WORDS, WORDS // 2 + 1, 0]
 lines = []
 
 

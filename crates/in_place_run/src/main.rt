@@ -11,34 +11,14 @@ use naturals::WORDS;
 ghost use mathlib.Core.Path.{_≡_};
 ghost use Prim.Native.Nat.{_≤_};
 ghost use lib.ListN.{length};
+ghost use Rattle.naturals.specs.Natural.{wordCount};
 ghost use Rattle.in_place_run.specs.Room.{roomLength};
 
-const SAMPLES: usize = 7;
+const SAMPLES: usize = 5;
 
-const SHIFTS: [u32; 20] = [
-    0,
-    0,
-    0,
-    1,
-    1,
-    31,
-    31,
-    31,
-    0,
-    32,
-    33,
-    0,
-    64,
-    95,
-    255,
-    0,
-    0,
-    256,
-    4294967295,
-    4294967295,
-];
+const SHIFTS: [u32; 12] = [0, 0, 31, 31, 0, 32, 33, 0, 64, 95, 255, 4294967295];
 
-const USED: [usize; 4] = [WORDS, WORDS / 2 + 1, 1, 0];
+const USED: [usize; 3] = [WORDS, WORDS / 2 + 1, 0];
 
 const PLACES: [usize; 6] = [0, 1, 24, 25, 18446744073709551608, 18446744073709551615];
 
@@ -65,10 +45,8 @@ fn sample(k: usize, i: usize) -> u32 {
     match k {
         0 => 0,
         1 => if i == 0 { 1 } else { 0 },
-        2 => if i == 0 { 4294967295 } else { 0 },
-        3 => if i < WORDS / 2 { 4294967295 } else { 0 },
-        4 => 4294967295,
-        5 => if i == WORDS - 1 { 2147483648 } else { 0 },
+        2 => if i < WORDS / 2 { 4294967295 } else { 0 },
+        3 => 4294967295,
         _ => between(i),
     }
 }
@@ -167,7 +145,7 @@ fn label(name: &[u8], a: usize, b: usize) {
 }
 
 fn sum_to_third(s: &mut [u32], j: u32, k: u32, used: usize) -> bool
-    requires { ⌜ (length (now s) ≡ roomLength) × (used ≤ ⟦WORDS⟧) ⌝ }
+    requires { ⌜ (length (now s) ≡ roomLength) × (used ≤ wordCount) ⌝ }
 {
     let a = Shifted { at: 0, bits: j };
     let b = Shifted {
@@ -178,7 +156,7 @@ fn sum_to_third(s: &mut [u32], j: u32, k: u32, used: usize) -> bool
 }
 
 fn sum_to_first(s: &mut [u32], k: u32, used: usize) -> bool
-    requires { ⌜ (length (now s) ≡ roomLength) × (used ≤ ⟦WORDS⟧) ⌝ }
+    requires { ⌜ (length (now s) ≡ roomLength) × (used ≤ wordCount) ⌝ }
 {
     let a = Shifted { at: 0, bits: 0 };
     let b = Shifted {
@@ -189,7 +167,7 @@ fn sum_to_first(s: &mut [u32], k: u32, used: usize) -> bool
 }
 
 fn product_to_first(s: &mut [u32], used: usize) -> bool
-    requires { ⌜ (length (now s) ≡ roomLength) × (used ≤ ⟦WORDS⟧) ⌝ }
+    requires { ⌜ (length (now s) ≡ roomLength) × (used ≤ wordCount) ⌝ }
 {
     if used == 0 {
         return multiply_at(s, 0, 0, SECOND, WORDS);
@@ -198,7 +176,7 @@ fn product_to_first(s: &mut [u32], used: usize) -> bool
 }
 
 fn sums(a: usize, b: usize, j: u32, k: u32, used: usize)
-    requires { ⌜ used ≤ ⟦WORDS⟧ ⌝ }
+    requires { ⌜ used ≤ wordCount ⌝ }
 {
     label(b"sum ", a, b);
     number(j as u64);
@@ -224,10 +202,10 @@ fn show_order(o: Order) {
 }
 
 fn pair(a: usize, b: usize, used: usize)
-    requires { ⌜ used ≤ ⟦WORDS⟧ ⌝ }
+    requires { ⌜ used ≤ wordCount ⌝ }
 {
     let mut i = 0;
-    while i < 10 {
+    while i < 6 {
         sums(a, b, SHIFTS[2 * i], SHIFTS[2 * i + 1], used);
         i += 1;
     }
@@ -243,7 +221,7 @@ fn pair(a: usize, b: usize, used: usize)
 
 fn pairs(a: usize, b: usize) {
     let mut i = 0;
-    while i < 4 {
+    while i < 3 {
         let used = USED[i];
         if used <= WORDS {
             pair(a, b, used);
