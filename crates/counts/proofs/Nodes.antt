@@ -169,18 +169,6 @@ scaled-most : (x a d e : ℕ) → x ≤ 2 ^ a → d ≤ e → x * 2 ^ d ≤ 2 ^ 
 scaled-most x a d e h l = rw (pow-add 2 a e) (mul-le-mul h (pow-mono l))
 
 module _ (w : List ℕ) (o : Ordered w) (b : Bool) where
-  pub part-fits : (p child : ℕ) → child < size w → varOf w p < varOf w child → partOf b w p child (worthOf b w child) < limit
-  part-fits p child h l =
-      let m = var-most w (vars w) (size w) (layered w o) child h in
-      let d = doublings-most b (varOf w child - varOf w p - 1) in
-      let u = o .formed .variables in
-      under-limit (partOf b w p child (worthOf b w child)) ((vars w - varOf w child) + (varOf w child - varOf w p - 1))
-      (scaled-most (worthOf b w child) (vars w - varOf w child) (doublings b (varOf w child - varOf w p - 1)) (varOf w child - varOf w p - 1) (worth-most w o b child) d)
-      (omega arith)
-
-  pub worth-fits : (p : ℕ) → worthOf b w p < limit
-  worth-fits p = let u = o .formed .variables in under-limit (worthOf b w p) (vars w - varOf w p) (worth-most w o b p) (omega arith)
-
   pub total-fits : totalOf b w < limit
   total-fits =
       let m = var-most w (vars w) (size w) (layered w o) (root w) (root-in w o) in

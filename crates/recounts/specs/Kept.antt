@@ -1,7 +1,7 @@
 -- What is left at each node when some are taken away, kept in the working room. No promise to a caller rests on this file. For a
 -- diagram of n nodes the room has the marks of those that are taken (crates/cuts), the chains' links, and what is left at each
 -- node, where crates/room_map says. Other lent words, one for each node, are not zero where that has changed.
-use Prim.Native.Nat.{ℕ, suc, _+_, _-_, _*_, _^_, _≤_, _<_}
+use Prim.Native.Nat.{ℕ, suc, _+_, _-_, _^_, _≤_, _<_}
 use mathlib.Core.Path.{_≡_}
 use mathlib.Core.Logic.{_≢_}
 use mathlib.Core.Bool.{Bool, true, false, cond}

@@ -28,7 +28,7 @@ use Rattle.counts.proofs.Entries.{apart, entry-few}
 use Rattle.counts.proofs.Shares.{noted-sum}
 use Rattle.weights.specs.Passes.{satOf, throughOf, dot, Sated, Counted, Emptied, Passing, Turning, Ascending, AtUp, Giving, Taking, Rising, weightsFrom, weightsTo, Tables}
 use Rattle.weights.proofs.Dots.{bump, bump-here, bump-other, bump-least, without, without-here, without-other, dot-least, dot-only, dot-moved}
-use Rattle.weights.proofs.Levels.{Shared, through-node, through-self, through-none, weight-through, all-node, all-root, weight-most}
+use Rattle.weights.proofs.Levels.{Shared, through-node, through-self, through-none, weight-through, all-node, all-root}
 use Rattle.weights.proofs.Entries.{entry-kept}
 
 -- what is written behind the table of the first pass leaves links and counts as they are
@@ -71,10 +71,6 @@ weight-is {w} {m} {room} {c} {b} o s t h k e =
     others r m ne = by-todo w c b r
         (λ x. rw (through-none w o t r m ne (omega (arith, x .level))) (mul-zero (s .received r)))
         (λ x. rw (s .done r m x .0) (zero-mul (throughOf w t r)))
-
-received-most : (w : List ℕ) (a : ℕ → ℕ) → dot (size w) a (λ q. 2 ^ (vars w - varOf w q)) ≡ 2 ^ vars w → (q : ℕ) → q < size w → a q ≤ 2 ^ vars w
-received-most w a e q h =
-    omega (arith, dot-least (size w) a (λ r. 2 ^ (vars w - varOf w r)) q h, le-mul-of-pos-right (a q) (pow-pos (vars w - varOf w q)))
 
 -- a node has received no more than there are valuations of the variables before its own
 received-few : (w : List ℕ) (a : ℕ → ℕ) → dot (size w) a (λ q. 2 ^ (vars w - varOf w q)) ≡ 2 ^ vars w → (q : ℕ) → q < size w → varOf w q ≤ vars w

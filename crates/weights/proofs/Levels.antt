@@ -134,6 +134,3 @@ module _ (w : List ℕ) (o : Ordered w) where
       let most = var-most w (vars w) (size w) graph (root w) (root-in w o) in
       let e : varOf w (root w) + (vars w - varOf w (root w)) ≡ vars w = omega arith in
       sym (pow-add 2 (varOf w (root w)) (vars w - varOf w (root w))) ∙ ap (λ (k : ℕ). 2 ^ k) e
-
-  pub weight-most : (t : ℕ) → weightOf w t ≤ 2 ^ vars w
-  weight-most t = tally-most (vars w) (λ bs. holds w bs && meets w bs (eqb t))
