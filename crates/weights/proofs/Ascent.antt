@@ -459,7 +459,6 @@ module _ {w : List ℕ} {base : ℕ} {room : List ℕ} {n p : ℕ} (k : Taking w
         few = omega arith;
         target = omega arith;
         inside = omega arith;
-        apart = inl (omega arith);
       }
 
   pub take-done : {fits : Bool} {after : List ℕ} → Fitting wordCount wordCount room to (numberIn m room to * numberIn l room b) fits after
