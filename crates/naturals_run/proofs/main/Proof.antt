@@ -7,7 +7,6 @@ use Rattle.naturals_run.proofs.main.Lts as lts
 use Rattle.naturals_run.proofs.alone.Reads as alone-reads
 use Rattle.naturals_run.proofs.by_words.Reads as by-words-reads
 use Rattle.naturals_run.proofs.just_enough.Reads as just-enough-reads
-use Rattle.naturals_run.proofs.lowest_words.Reads as lowest-words-reads
 use Rattle.naturals_run.proofs.pairs.Reads as pairs-reads
 use Rattle.naturals_run.proofs.places.Reads as places-reads
 use Rattle.naturals_run.proofs.powers.Reads as powers-reads
@@ -50,9 +49,6 @@ powers-requires c κs = search needs
 places-requires : tie.Need-places-requires Inv-loop μ-loop
 places-requires c κs = search needs
 
-lowest-words-requires : tie.Need-lowest-words-requires Inv-loop μ-loop
-lowest-words-requires c κs = search needs
-
 too-short-requires : tie.Need-too-short-requires Inv-loop μ-loop
 too-short-requires c κs = search needs
 
@@ -78,7 +74,6 @@ main-spec =
     loop-again
     powers-requires
     places-requires
-    lowest-words-requires
     too-short-requires
     just-enough-requires
     returns)

@@ -4,7 +4,6 @@ use Rattle.naturals_run.proofs.places.Statement.{statement}
 use Rattle.naturals_run.proofs.places.Tie as tie
 use Rattle.naturals_run.proofs.places.Reads as reads
 use Rattle.naturals_run.proofs.places.Lts as lts
-use Rattle.naturals_run.proofs.compare_places.Reads as compare-places-reads
 use Rattle.naturals_run.proofs.load_from.Reads as load-from-reads
 use Rattle.naturals_run.proofs.room.Reads as room-reads
 use Rattle.naturals_run.proofs.store_to.Reads as store-to-reads
@@ -32,18 +31,6 @@ slice-aggregate-load-from c = search needs
 
 load-from-requires : tie.Need-load-from-requires Inv-loop μ-loop
 load-from-requires c κs = search needs
-
-slice-aggregate-compare-places : tie.Need-slice-aggregate-compare-places Inv-loop μ-loop
-slice-aggregate-compare-places c = search needs
-
-compare-places-requires : tie.Need-compare-places-requires Inv-loop μ-loop
-compare-places-requires c κs = search needs
-
-slice-aggregate-compare-places-2 : tie.Need-slice-aggregate-compare-places-2 Inv-loop μ-loop
-slice-aggregate-compare-places-2 c = search needs
-
-compare-places-requires-2 : tie.Need-compare-places-requires-2 Inv-loop μ-loop
-compare-places-requires-2 c κs = search needs
 
 slice-aggregate-store-to : tie.Need-slice-aggregate-store-to Inv-loop μ-loop
 slice-aggregate-store-to c = search needs
@@ -75,10 +62,6 @@ places-spec =
     room-requires
     slice-aggregate-load-from
     load-from-requires
-    slice-aggregate-compare-places
-    compare-places-requires
-    slice-aggregate-compare-places-2
-    compare-places-requires-2
     slice-aggregate-store-to
     store-to-requires
     add-j
