@@ -58,7 +58,21 @@ built=target/tests
 c_program() { # NAME
     mkdir -p "$built" && cc -std=c99 -Wall -Wextra -Werror -O2 "tests/c/$1.c" "$archive" -o "$built/$1"
 }
-c_test() { c_program test && "$built/test"; }
+# What was compiled before the cuts to a target took as_is must be stopped by the linker: for want of those four names, and of no other.
+old_caller() {
+    local said wanting four
+    cc -std=c99 -Wall -Wextra -Werror -O2 -c tests/c/old_caller.c -o "$built/old_caller.o" || return 1
+    if said=$(LC_ALL=C cc "$built/old_caller.o" "$archive" -o "$built/old_caller" 2>&1); then
+        echo "old caller: it links"
+        return 1
+    fi
+    wanting=$(grep -oE "undefined (reference to|symbol:).*" <<< "$said" | grep -oE 'houayletan_[a-z_0-9]+' | LC_ALL=C sort -u | tr '\n' ' ')
+    four=$(printf 'houayletan_%sapproximate_to_%s ' over cardinality over size under cardinality under size)
+    [ "$wanting" = "$four" ] && return
+    echo "old caller: not stopped for those four names: $said"
+    return 1
+}
+c_test() { c_program test && "$built/test" && old_caller; }
 replay() { c_program replay && "$built/replay" tests/c/replay.txt; }
 rust_tests() {
     HOUAYLETAN_LIB="$PWD/target/staticlib" CARGO_TARGET_DIR="$PWD/$built/rust" cargo test --offline --quiet --manifest-path bindings/rust/Cargo.toml

@@ -170,19 +170,30 @@ HouayletanDiagram houayletan_underapproximate(const uint32_t *words, size_t word
 HouayletanDiagram houayletan_overapproximate(const uint32_t *words, size_t words_len, const uint32_t *list, size_t list_len,
                                              uint32_t *room, size_t room_len, uint32_t *output, size_t output_len);
 
-/* Cuts to at most target nodes, the nodes of least weight first; no answer has more. A diagram that has no more than target
- * nodes comes out as it is. Any other gives false (under) or true (over) for target 2, and false for target 1: from above only
- * where the diagram holds for no valuation, whatever its array. Refusals: the diagram's own, then 18. */
-HouayletanApproximation houayletan_underapproximate_to_size(const uint32_t *words, size_t words_len, uint32_t target,
+/* Cuts to a target. Where the array meets it as it is given, nothing is cut and there are no trials: the answer is the reduced diagram,
+ * or where as_is is not 0 the words as they are. What reducing leaves is not looked at for that, and a search begins with the array
+ * itself. Without as_is every answer is reduced.
+ *
+ * These four took no as_is once, and gave the words as they are. Their names for the linker end in 2 since: what was compiled against
+ * that header does not link. */
+#define houayletan_underapproximate_to_size houayletan_underapproximate_to_size_2
+#define houayletan_overapproximate_to_size houayletan_overapproximate_to_size_2
+#define houayletan_underapproximate_to_cardinality houayletan_underapproximate_to_cardinality_2
+#define houayletan_overapproximate_to_cardinality houayletan_overapproximate_to_cardinality_2
+
+/* To at most target nodes, the nodes of least weight first; no answer has more. Met by target nodes or fewer. Any other array gives
+ * false (under) or true (over) for target 2, and false for target 1: from above only where the diagram holds for no valuation,
+ * whatever its array. Refusals: the diagram's own, then 18. */
+HouayletanApproximation houayletan_underapproximate_to_size(const uint32_t *words, size_t words_len, uint32_t target, uint32_t as_is,
                                                             uint32_t *room, size_t room_len, uint32_t *output, size_t output_len);
-HouayletanApproximation houayletan_overapproximate_to_size(const uint32_t *words, size_t words_len, uint32_t target,
+HouayletanApproximation houayletan_overapproximate_to_size(const uint32_t *words, size_t words_len, uint32_t target, uint32_t as_is,
                                                            uint32_t *room, size_t room_len, uint32_t *output, size_t output_len);
 
-/* Cuts to a count of at most target (under) or at least target (over). Where the count is so already the diagram comes out
- * as it is, except that under to 0 gives the one-node false. Refusals: the diagram's own, then 16 (over), then 19. */
-HouayletanApproximation houayletan_underapproximate_to_cardinality(const uint32_t *words, size_t words_len, HouayletanNatural target,
+/* To a count of at most target (under) or at least target (over). Met where the count is so already, except that under to 0 gives the
+ * one-node false, whatever as_is. Refusals: the diagram's own, then 16 (over), then 19. */
+HouayletanApproximation houayletan_underapproximate_to_cardinality(const uint32_t *words, size_t words_len, HouayletanNatural target, uint32_t as_is,
                                                                    uint32_t *room, size_t room_len, uint32_t *output, size_t output_len);
-HouayletanApproximation houayletan_overapproximate_to_cardinality(const uint32_t *words, size_t words_len, HouayletanNatural target,
+HouayletanApproximation houayletan_overapproximate_to_cardinality(const uint32_t *words, size_t words_len, HouayletanNatural target, uint32_t as_is,
                                                                   uint32_t *room, size_t room_len, uint32_t *output, size_t output_len);
 
 #ifdef __cplusplus

@@ -1,4 +1,4 @@
-/* The table of refusals of include/houayletan.h, read on its own in C. */
+/* The table of refusals of include/houayletan.h, the reduced diagram and when a target is met, read on their own in C. */
 #ifndef READING_H
 #define READING_H
 
@@ -66,6 +66,56 @@ static inline bool holds_somewhere(const uint32_t *words, size_t n) {
         }
     }
     return leads[n - 1];
+}
+
+/* The new number of node p of accepted words, and its node and those below it that have none yet, low branch first. Equal nodes are found
+ * by a table of their places, with room for twice as many. */
+#define PLACES (2 * HOUAYLETAN_NODES)
+typedef struct {
+    const uint32_t *words;
+    uint32_t became[HOUAYLETAN_NODES]; /* 0: not yet; else the new number and 1 */
+    uint32_t places[PLACES];           /* 0: free; else a new number, which is never 0 */
+    uint32_t *result;
+    uint32_t count;
+} Reduction;
+
+static inline uint32_t reduced_node(Reduction *r, uint32_t p) {
+    if (p < 2) return p;
+    if (r->became[p]) return r->became[p] - 1;
+    uint32_t low = reduced_node(r, r->words[3 * p + 1]), high = reduced_node(r, r->words[3 * p + 2]), found = low;
+    if (low != high) {
+        uint32_t node[3] = {r->words[3 * p], low, high};
+        size_t at = (node[0] * 2654435761u ^ low * 40503u ^ high * 2246822519u) % PLACES;
+        while (r->places[at] && memcmp(r->result + 3 * r->places[at], node, sizeof node)) at = (at + 1) % PLACES;
+        if (!r->places[at]) {
+            memcpy(r->result + 3 * r->count, node, sizeof node);
+            r->places[at] = r->count++;
+        }
+        found = r->places[at];
+    }
+    r->became[p] = found + 1;
+    return found;
+}
+
+/* The reduced diagram of accepted words, in a place of its own until the next call; the number of its words. */
+static inline const uint32_t *reading_reduce(const uint32_t *words, size_t len, size_t *result_len) {
+    static uint32_t result[3 * HOUAYLETAN_NODES + 3];
+    static Reduction r;
+    memset(&r, 0, sizeof r);
+    r.words = words, r.result = result, r.count = 2;
+    const uint32_t v = words[0], terminals[] = {v, 0, 0, v, 1, 1};
+    memcpy(result, terminals, sizeof terminals);
+    *result_len = reduced_node(&r, (uint32_t)(len / 3) - 1) ? 3 * r.count : 3;
+    return result;
+}
+
+/* Whether accepted words, which hold for count valuations, meet the target as they are given. */
+static inline bool is_met(const Operation *o, const Request *q, const uint32_t *count) {
+    uint32_t none[HOUAYLETAN_COUNT_WORDS] = {0};
+    if (o->argument == SIZE_TARGET) return q->words_len / 3 <= q->target[0];
+    if (o->argument != COUNT_TARGET) return false;
+    if (o->name[0] == 'o') return compare_counts(count, q->target) >= 0;
+    return compare_counts(q->target, none) > 0 && compare_counts(count, q->target) <= 0;
 }
 
 /* The other rows, for accepted words. */

@@ -5,8 +5,9 @@
  *     stress deep                    the longest paths, each operation on a stack of its own: how many bytes of it are used
  *
  * Of every call: guard words, input, room and output as the header says; number and place as a reading of the table says; and
- * of an answer what can be seen from outside (a result is accepted, a cut goes the right way and meets its target; node 0 weighs
- * nothing, node 1 and the root as much as the count, which the count and weights together give too, and no node more). */
+ * of an answer what can be seen from outside (a result is accepted, a cut goes the right way and meets its target; reduced where it
+ * must be, by a reduction of its own, and the input's words where as_is keeps them; node 0 weighs nothing, node 1 and the root as
+ * much as the count, which the count and weights together give too, and no node more). */
 #include "../tests/c/lent.h"
 #include "reading.h"
 #include <pthread.h>
@@ -147,13 +148,37 @@ static void any_target(const Operation *o, size_t n, uint32_t v, uint32_t *targe
     }
 }
 
+/* No, yes, and other words that are a yes. */
+static uint32_t any_flag(void) { return one_in(2) ? 0 : one_in(2) ? 1 : one_in(2) ? (uint32_t)1 << below(32) : (uint32_t)next(); }
+
 static unsigned long made, refused[32];
+static unsigned long kept, reduced, reworded; /* of the targets that the array meets: with as_is, without, and without to other words */
 
 static uint32_t spare_room[HOUAYLETAN_ROOM_PER_NODE * HOUAYLETAN_NODES];
 
 static void count_of(const uint32_t *w, size_t len, uint32_t *count) {
     HouayletanCount c = houayletan_exact_cardinality(w, len, spare_room, sizeof spare_room / 4);
     memcpy(count, c.count, sizeof c.count);
+}
+
+static bool same_words(const uint32_t *a, size_t a_len, const uint32_t *b, size_t b_len) { return a_len == b_len && memcmp(a, b, 4 * a_len) == 0; }
+
+/* NULL, or what is wrong with the words of a reduction, or of a cut: reduced, but for what as_is keeps. before: the input's count. */
+static const char *wrong_words(const Operation *o, const Request *q, const Reply *r, const uint32_t *before) {
+    if (strcmp(o->name, "not") == 0) return NULL;
+    bool met = is_met(o, q, before);
+    if (met && r->value[1]) return "a target that is met has trials";
+    if (met && q->as_is) {
+        kept++;
+        return same_words(q->output, r->written, q->words, q->words_len) ? NULL : "as_is has not kept the words";
+    }
+    size_t len;
+    const uint32_t *own = reading_reduce(q->output, r->written, &len);
+    if (!same_words(q->output, r->written, own, len)) return "the result is not reduced";
+    if (!met && strcmp(o->name, "reduce") != 0) return NULL;
+    own = reading_reduce(q->words, q->words_len, &len);
+    if (met) reduced++, reworded += !same_words(own, len, q->words, q->words_len);
+    return same_words(q->output, r->written, own, len) ? NULL : "the result is not the reduced input";
 }
 
 /* NULL, or what is wrong with an answer's diagram. */
@@ -174,6 +199,8 @@ static const char *wrong_result(const Operation *o, const Request *q, const Repl
     if (o->argument == COUNT_TARGET && under && compare_counts(after, q->target) > 0) return "the result's count is over its target";
     if (o->argument == COUNT_TARGET && over && compare_counts(after, q->target) < 0) return "the result's count is under its target";
     if (strcmp(o->name, "reduce") == 0 && way != 0) return "the reduced diagram holds for others";
+    const char *fault = wrong_words(o, q, r, before);
+    if (fault) return fault;
     if (strcmp(o->name, "not") == 0) {
         uint64_t sum = 0;
         for (uint32_t i = 0; i < COUNT_WORDS; i++) {
@@ -210,7 +237,7 @@ static void stop(const Operation *o, const Request *q, const Reply *r, Refused e
     for (size_t i = 0; i < q->list_len; i++) printf(" %u", q->list[i]);
     printf("; target");
     for (int i = 0; i < COUNT_WORDS; i++) printf(" %u", q->target[i]);
-    printf("; words");
+    printf("; as_is %u; words", q->as_is);
     for (size_t i = 0; i < q->words_len; i++) printf(" %u", q->words[i]);
     printf("\n");
     exit(1);
@@ -245,10 +272,11 @@ static void one_request(size_t guard) {
     uint32_t target[COUNT_WORDS];
     any_target(o, n, len ? words[0] : 0, target);
     /* one after the other, so that a seed means the same with every compiler */
+    uint32_t as_is = to_target(o) ? any_flag() : 0;
     size_t room_len = any_length(HOUAYLETAN_ROOM(n));
     size_t output_len = any_length(output_asked(o->output, n));
     Loan l = loan(words, len, list, list_len, room_len, output_len, (uint32_t)next(), guard);
-    Request q = request_of(&l, target);
+    Request q = request_of(&l, target, as_is);
     Reply r = call(o, &q);
     check_call(o, &l, &q, &r);
     give_back(&l);
@@ -295,6 +323,18 @@ static size_t one_long_path(void) {
     return 3 * n;
 }
 
+/* A target that the ladders meet, so that they are reduced as they are given, or one that they are cut to. */
+static void ladder_target(const Operation *o, bool met, uint32_t *target) {
+    memset(target, 0, COUNT_WORDS * sizeof target[0]);
+    target[0] = 1;
+    if (o->argument == SIZE_TARGET) target[0] = met ? HOUAYLETAN_NODES : 300;
+    if (o->argument == COUNT_TARGET && o->name[0] == 'u') {
+        if (met) target[VARS / 32] = 1u << VARS % 32; else target[COUNT_WORDS - 1] = 1u << 27;
+    }
+    /* from above seven eighths of all: the ladders hold for fewer */
+    if (o->argument == COUNT_TARGET && o->name[0] == 'o' && !met) target[VARS / 32] = 7u << (VARS % 32 - 3);
+}
+
 #define STACK (256 * 1024)
 #define PAGE 4096
 static unsigned char *stack;
@@ -336,19 +376,18 @@ static int deep(void) {
     for (size_t i = 0; i < OPERATIONS; i++) {
         const Operation *o = &operations[i];
         size_t most = 0;
-        for (int kind = 0; kind < 5; kind++) {
+        for (int turn = 0; turn < (to_target(o) ? 10 : 5); turn++) {
+            int kind = turn % 5;
             size_t len = kind < 4 ? ladder(kind % 2, (uint32_t)kind / 2) : one_long_path(), n = len / 3;
             if (kind < 4 && reading(words, len, SIZE_MAX, NO_OUTPUT, 0).number) {
                 printf("FAILED: the ladder is no diagram: %u at %zu\n", reading(words, len, SIZE_MAX, NO_OUTPUT, 0).number, reading(words, len, SIZE_MAX, NO_OUTPUT, 0).place);
                 return 1;
             }
-            uint32_t target[COUNT_WORDS] = {o->argument == SIZE_TARGET ? 300 : 1};
-            if (o->argument == COUNT_TARGET) target[COUNT_WORDS - 1] = 1u << 27;
-            if (o->argument == COUNT_TARGET && o->name[0] == 'o') /* from above seven eighths of all: the ladders hold for fewer */
-                target[COUNT_WORDS - 1] = 0, target[VARS / 32] = 7u << (VARS % 32 - 3);
+            uint32_t target[COUNT_WORDS];
+            ladder_target(o, turn >= 5, target);
             list[0] = (uint32_t)n / 2, list[1] = (uint32_t)n / 3;
             Loan l = loan(words, len, list, o->argument == LIST ? 2 : 0, HOUAYLETAN_ROOM(n), output_asked(o->output, n), 77, 16);
-            Request q = request_of(&l, target);
+            Request q = request_of(&l, target, 0);
             deep_operation = o, deep_request = &q;
             size_t used = stack_used(start_thread);
             most = used > most ? used : most;
@@ -357,7 +396,7 @@ static int deep(void) {
         }
         printf("  %-32s %zu\n", o->name, most > idle ? most - idle : 0);
     }
-    printf("stress deep: %lu calls, 0 failed\n", made);
+    printf("stress deep: %lu calls, %lu of them to a target that is met, 0 failed\n", made, reduced);
     return 0;
 }
 
@@ -371,6 +410,7 @@ int main(int argc, char **argv) {
     unsigned long requests = strtoul(argv[2], NULL, 10);
     size_t guard = argc > 3 ? strtoul(argv[3], NULL, 10) : 16;
     while (made < requests) one_request(guard);
+    printf("targets that the array meets: %lu with as_is; %lu without, %lu of these to other words\n", kept, reduced, reworded);
     printf("stress: seed %s, %zu operations, %lu requests, 0 failed; accepted %lu, refused", argv[1], OPERATIONS, made, refused[0]);
     for (int i = 1; i < 20; i++) {
         if (refused[i]) printf(" %d: %lu", i, refused[i]);

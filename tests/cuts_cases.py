@@ -6,8 +6,9 @@
     python3 tests/cuts_cases.py check    holds the stored files to the reading, without the Rust
 
 Refusals, and what is left in output and room, come from the papers alone (docs/RULES.md); nodes, trials and words from the Rust text
-(bench/rust_text/examples/stored_cuts.rs, which says how trials are counted), but for over to size 1: there 02, E5, departs from the Rust, which must
-then be seen to answer true, and the answer is the reading's. The reading cuts nodes of dictionaries and
+(bench/rust_text/examples/stored_cuts.rs, which says how trials are counted), but for over to size 1, where 02, E5, departs from the Rust, which must
+then be seen to answer true, and for targets that are met already where the words are not to be kept as they are (02, E8), which the Rust must be seen to
+answer with the words it was given; there the answer is the reading's. The reading cuts nodes of dictionaries and
 reduces by recursion; weights come from chances (weights_cases.py)."""
 import glob
 import os
@@ -26,8 +27,9 @@ FOLDER = os.path.join(HERE, '..', 'crates', 'cuts_run')
 BENCH = os.path.join(HERE, '..', 'bench')
 SINGLE, BOTH = [1, 0, 0, 1, 1, 1, 0, 1, 1], [2, 0, 0, 2, 1, 1, 1, 1, 1, 0, 2, 2]   # true, in three nodes and in four
 NONE = [1, 0, 0, 1, 1, 1, 0, 0, 0]                      # false, in three nodes
+LONG = [(1, 0, 1), (0, 2, 2)]                           # x1, under a root with low = high
 MARKED, FILLED = 7, 9                                   # the words of room and output beforehand
-LETTERS = 'uostcd'
+LETTERS = 'uostcdSTCD'                                  # capitals: words that meet the target are to stay as they are
 
 
 def flat(ns):
@@ -101,8 +103,6 @@ def under_to_size(ns, t):
         return constant(v, 0), 0
     if t == 2:
         return constant(v, 1 if n == 2 else 0), 0
-    if t >= n:
-        return ns, 0
     order, _ = priorities(ns)
     start, stop, trials = 0, n - t, 0
     while start < stop:
@@ -122,8 +122,6 @@ def under_to_count(ns, k):
     whole = count(ns)
     if k == 0:
         return constant(ns[0][0], 0), 0
-    if k >= whole:
-        return ns, 0
     order, weights = priorities(ns)
     rest, taken, trials = whole - k, 0, 0
     while True:
@@ -139,8 +137,26 @@ def under_to_count(ns, k):
         rest = count(found) - k
 
 
+def is_met(letter, target, ns):
+    """The array as it is given meets the target."""
+    kind = letter.lower()
+    if kind in 'uo':
+        return False
+    if kind in 'st':
+        return target[0] >= len(ns)
+    k = number(target)
+    return 0 < k >= count(ns) if kind == 'c' else k <= count(ns)
+
+
 def cuts(letter, target, words):
     """The nodes of the answer, and the trials."""
+    ns = nodes(words)
+    if is_met(letter, target, ns):
+        return ns if letter.isupper() else reduced(ns), 0
+    return searched(letter.lower(), target, words)
+
+
+def searched(letter, target, words):
     ns = nodes(words)
     if letter in 'uo':
         return cut(ns, set(target), 'uo'.index(letter)), 0
@@ -154,8 +170,6 @@ def cuts(letter, target, words):
     k = number(target)
     if letter == 'c':
         return under_to_count(ns, k)
-    if k <= count(ns):
-        return ns, 0
     found, trials = under_to_count(negated(ns), count(negated(ns)) - (k - count(ns)))
     return negated(found), trials
 
@@ -170,6 +184,7 @@ def count_words(k):
 
 def refusal(letter, target, words, room, lent):
     """The check's verdict, and then 13 and 14, or 18, or 16 and 19."""
+    letter = letter.lower()
     said = verdict(words, room, ('diagram', lent))
     if said[0] == 'refused':
         return said
@@ -210,6 +225,15 @@ def worked():
     yield 'u', [0, 4], D, 14, 0
     yield 'u', [0], D, 14, 0
     yield 's', [5], D, nodes(D)[2:], 5, 0
+    # 02, E8: the array itself meets the target or doesn't, and then it is reduced or stays as it is
+    x1 = [(1, 0, 1)]
+    for letter, size, after, trials in (('s', 3, x1, 1), ('s', 4, x1, 0), ('S', 4, LONG, 0), ('S', 3, x1, 1), ('t', 3, x1, 1), ('t', 4, x1, 0), ('T', 4, LONG, 0), ('T', 3, x1, 1)):
+        yield letter, [size], terminals(2) + flat(LONG), after, 2, trials
+    for letter, k, after, whole, trials in (('c', 2, x1, 2, 0), ('C', 2, LONG, 2, 0), ('c', 1, None, 0, 1), ('C', 1, None, 0, 1),
+                                            ('d', 2, x1, 2, 0), ('D', 2, LONG, 2, 0), ('d', 3, [], 4, 1), ('D', 3, [], 4, 1), ('d', 0, x1, 2, 0), ('D', 0, LONG, 2, 0)):
+        yield letter, count_words(k), terminals(2) + flat(LONG), after, whole, trials
+    for letter in 'cC':                                 # to 0, whatever is asked for
+        yield letter, count_words(0), NONE, None, 0, 0
     yield 'u', [], [MAX_VARS, 0, 0], None, 0, 0
     yield 'u', [], terminals(MAX_VARS), [], 2 ** MAX_VARS, 0
     yield 'u', [], [MAX_VARS + 1, 0, 0], 7, 0
@@ -325,12 +349,13 @@ def by_hand():
 
 def of_edits():
     """The smallest requests that the programs of the must-fail edits answer wrongly, as the edits' own lines say them."""
-    said = re.compile(r'wrong on: (under|over) (by|to size|to count) \[?([0-9, ]*)\]? of ([0-9 ]+):')
+    said = re.compile(r'wrong on: (under|over) (by|to size|to count) \[?([0-9, ]*)\]?( as it is)? of ([0-9 ]+):')
     for name in sorted(glob.glob(os.path.join(HERE, '..', 'crates', '*', 'must-fail', '*.edit'))):
-        for side, kind, target, words in said.findall(open(name).read()):
+        for side, kind, target, as_is, words in said.findall(open(name).read()):
             target = [int(x) for x in target.replace(',', ' ').split()]
             letter = {'by': 'uo', 'to size': 'st', 'to count': 'cd'}[kind][side == 'over']
-            yield exact(letter, count_words(*target) if letter in 'cd' else target, [int(x) for x in words.split()])
+            target = count_words(*target) if letter in 'cd' else target
+            yield exact(letter.upper() if as_is else letter, target, [int(x) for x in words.split()])
 
 
 def lists(rng, n):
@@ -388,10 +413,18 @@ def requests(rng, words, targets, sizes, some):
             yield exact('d', count_words(k), words, rng.choice((0, 0, 2)), rng.choice((0, 0, 2)))
 
 
+def both_ways(made):
+    """A target that is met is asked for as it is too; of the others every sixth."""
+    for i, (letter, target, words, *lent) in enumerate(made):
+        yield letter, target, words, *lent
+        if letter in 'stcd' and (i % 6 == 0 or refusal(letter, target, words, *lent)[0] == 'accepted' and is_met(letter, target, nodes(words))):
+            yield letter.upper(), target, words, *lent
+
+
 def cases():
     """Each request once."""
     seen = set()
-    for case in [*by_hand(), *of_edits(), *at_random()]:
+    for case in both_ways([*by_hand(), *of_edits(), *at_random()]):
         line = request(*case)
         if case[0] in LETTERS and line not in seen:
             seen.add(line)
@@ -420,7 +453,7 @@ def by_reading(case):
 
 def by_rust(asked):
     subprocess.run(['cargo', 'build', '--release', '--quiet', '-p', 'rust-text', '--examples'], cwd=BENCH, check=True)
-    lines = [letter + ' '.join(str(x) for x in [len(target), *target, *words]) for letter, target, words, _, _ in asked]
+    lines = [letter.lower() + ' '.join(str(x) for x in [len(target), *target, *words]) for letter, target, words, _, _ in asked]
     run = subprocess.run([os.path.join(BENCH, 'target', 'release', 'examples', 'stored_cuts')], check=True, text=True,
                          input='\n'.join(lines) + '\n', stdout=subprocess.PIPE)
     for line in run.stdout.splitlines():
@@ -428,9 +461,11 @@ def by_rust(asked):
         yield size, trials, words
 
 
-def departs(letter, target):
-    """Over to size 1: the Rust gives true, also from false."""
-    return letter == 't' and target == [1]
+def of_rust(letter, target, words):
+    """What the Rust must be seen to answer: as it is; over to size 1 gives true, also from false."""
+    if letter in 'tT' and target == [1]:
+        return 2, 0, terminals(words[0])
+    return by_reading((letter if letter in 'uo' else letter.upper(), target, words))
 
 
 def hold_to_paper():
@@ -455,10 +490,9 @@ def main():
     assert len(answers) == len(asked)
     departures = 0
     for case, one, reading in zip(asked, answers, readings):
-        if departs(*case[:2]) and not check:
-            departures += 1
-            reading = 2, 0, terminals(case[2][0])
-        assert one == reading, case
+        rust = reading if check else of_rust(*case[:3])
+        departures += rust != reading
+        assert one == rust, case
     found = iter(readings)
     stdin = ''.join(line for line, _ in made)
     stdout = ''.join(answer(case, next(found) if refusal(*case)[0] == 'accepted' else None) for _, case in made)

@@ -13,7 +13,7 @@ from limits import BLOCK, COUNT, FILE_NODES, MAX_VARS, ROOM
 from reading import nodes
 
 FOLDER = os.path.join(os.path.dirname(os.path.abspath(__file__)), 'programs')
-UNKNOWN = b'shrink: the words are keep or suppress, size or cases or hex, and a number; shrink alone prints its help\n'
+UNKNOWN = b'shrink: the words are keep or suppress, size or cases or hex, a number, and as-is where it is wanted; shrink alone prints its help\n'
 WHICH = b'shrink: count does not say which base its number is in: write cases for decimal, hex for hexadecimal\n'
 HELP = b"""shrink keep size N       at most N nodes: cases are added until it fits
 shrink keep cases N      at least N cases
@@ -21,11 +21,13 @@ shrink keep hex N        at least N cases, N in hexadecimal as weigh prints it
 shrink suppress size N   at most N nodes: cases are lost until it fits
 shrink suppress cases N  at most N cases
 shrink suppress hex N    at most N cases, N in hexadecimal as weigh prints it
+A condition that fits already loses no case and gains none, and comes out in the fewest nodes; as-is after N leaves its nodes as they are.
 Reads a block file on standard input and writes it cut to fit to standard output, the summary to standard error.
 keep only adds cases, suppress only loses them. Numbers are decimal but for hex, with no zeros in front.
 """
 FALSE, TRUE = [3, 0, 0], [3, 0, 0, 3, 1, 1]
 NONE = TRUE + [1, 0, 0]                                 # false, in three nodes
+DEAD = TRUE + [2, 0, 1, 1, 2, 2, 2, 0, 1, 0, 3, 4]      # x2, in six nodes: a node twice, and two with low = high
 # The longest word that the program looks at: as many digits as a count may have.
 WORD = 10 * COUNT
 
@@ -42,7 +44,7 @@ def twice(n):
     return '%d (hex %x)' % (n, n)
 
 
-def shrunk(direction, kind, target, data):
+def shrunk(direction, kind, target, data, as_is=False):
     """Standard output and standard error."""
     answer, output = block.reader(data, [0] * 3 * FILE_NODES)
     if answer[0] == 'refused':
@@ -50,6 +52,7 @@ def shrunk(direction, kind, target, data):
     words = output[:3 * answer[1]]
     counted = kind != 'size'
     letter = {('suppress', False): 's', ('keep', False): 't', ('suppress', True): 'c', ('keep', True): 'd'}[direction, counted]
+    letter = letter.upper() if as_is else letter
     wanted = count_words(target) if counted else [target]
     said = refusal(letter, wanted, words, ROOM * FILE_NODES, 3 * FILE_NODES)
     if said[0] == 'refused':
@@ -116,22 +119,27 @@ def asked():
     requests += [(a, b, t, file_of(wide())) for a in ('keep', 'suppress') for b in ('cases', 'hex') for t in (2 ** (MAX_VARS - 2) + 1, 2 ** (MAX_VARS - 1) + 2 ** 128 + 7, 2 ** MAX_VARS)]
     requests += [(a, 'size', t, file_of(words)) for a in ('keep', 'suppress') for t in (0, 1, 2) for words in (FALSE, TRUE, NONE)]
     requests += [(a, 'size', t, file_of(TRUE + [2, 0, 1, 1, 0, 1])) for a in ('keep', 'suppress') for t in (0, 1)]     # 12 before 18
+    requests += [(a, 'size', t, file_of(DEAD)) for a in ('keep', 'suppress') for t in (3, 5, 6, 7)]        # met by six nodes, not by three
+    requests += [(a, b, t, file_of(DEAD)) for a in ('keep', 'suppress') for b in ('cases', 'hex') for t in (0, 3, 4, 5)]
     seen = set()
     for number, *request in broken():
         seen.add(number)
         assert shrunk(*request)[1].startswith(b'refused %d at ' % number), (number, shrunk(*request))
         requests.append(tuple(request))
     assert seen == set(SENTENCES) - {4}
+    requests = [(*request, False) for request in requests]
+    requests += [(*request[:4], True) for request in requests if request[3] in (d, file_of(DEAD)) and request[1] != 'hex' or request[0] == 'suppress' and request[3] == b'']
     others = [([], HELP)]
     others += [(w.split(), UNKNOWN) for w in (
-        'keep', 'keep size', 'keep size 4 5', 'grow size 4', 'suppress sise 4', 'keep size 04', 'keep size -1', 'keep size 1f', 'keep size 4294967296',
+        'keep', 'keep size', 'keep size 4 5', 'keep size 4 asis', 'keep size 4 AS-IS', 'keep size 4 as-is 5', 'keep size 4 as-is as-is', 'as-is keep size 4', 'keep as-is size 4', 'keep size as-is', 'grow size 4', 'suppress sise 4', 'keep size 04', 'keep size -1', 'keep size 1f', 'keep size 4294967296',
         'keep hex 1F', 'keep hex 0x6', 'suppress hex 00', 'Keep size 4', 'keep hex 1' + 8 * COUNT * '0', 'keep cases 1f', 'keep cases 06', 'keep cases ' + str(2 ** (32 * COUNT)),
         'suppress cases +5', 'keep keep 4', 'size keep 4')]
     others += [(w, UNKNOWN) for w in (['', 'size', '4'], ['keep', '', '4'], ['keep', 'size', ''], ['', '', ''], ['keep', 'cases', ''], ['keep', 'size', ' 4'], [''])]
     # words longer than the program looks at, also where their first bytes would be taken
     others += [(w, UNKNOWN) for w in (['keep', 'size', (WORD + 1) * '4'], ['keep', 'cases', (WORD - 1) * '0' + '55'], ['keep' + (WORD + 20) * 'p', 'size', '4'],
                                   ['keep', 'size' + (WORD - 3) * 'e', '4'], ['keep', 'size', 4000 * '1'])]
-    others += [(w.split(), WHICH) for w in ('keep count 6', 'suppress count 1f', 'keep count x')]
+    others += [(['keep', 'size', '4', 'as-is' + WORD * 's'], UNKNOWN), (['keep', 'size', '4', ''], UNKNOWN)]
+    others += [(w.split(), WHICH) for w in ('keep count 6 as-is', 'keep count 6', 'suppress count 1f', 'keep count x')]
     others += [(['keep', 'count', ''], WHICH), ('grow count 6'.split(), UNKNOWN), ('keep count'.split(), UNKNOWN)]
     return requests, others
 
@@ -142,9 +150,9 @@ def main():
         os.remove(os.path.join(FOLDER, old))
     cases = [(name, ['weigh'], data, report(data).encode(), b'') for name, data in weighed().items()]
     requests, others = asked()
-    for i, (direction, kind, target, data) in enumerate(requests):
-        words = ['shrink', direction, kind, '%x' % target if kind == 'hex' else '%d' % target]
-        cases.append(('shrink-%03d-%s-%s' % (i, direction, kind), words, data) + shrunk(direction, kind, target, data))
+    for i, (direction, kind, target, data, as_is) in enumerate(requests):
+        words = ['shrink', direction, kind, '%x' % target if kind == 'hex' else '%d' % target] + ['as-is'] * as_is
+        cases.append(('shrink-%03d-%s-%s' % (i, direction, kind), words, data) + shrunk(direction, kind, target, data, as_is))
     for i, (words, said) in enumerate(others):
         cases.append(('shrink-words-%02d' % i, ['shrink'] + words, file_of(D), b'', said))
     for name, call, data, out, err in cases:

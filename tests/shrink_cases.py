@@ -12,8 +12,8 @@ TERMINALS = [3, 0, 0, 3, 1, 1]
 C5 = TERMINALS + [2, 0, 1, 0, 2, 1]
 
 
-# x0 or x1 or x2 or x3: fifteen cases.
-OR4 = [4, 0, 0, 4, 1, 1, 3, 0, 1, 2, 2, 1, 1, 3, 1, 0, 4, 1]
+# x1 or x2 or x3 or x4: fifteen cases for each x0, over a root with low = high.
+OR4 = [5, 0, 0, 5, 1, 1, 4, 0, 1, 3, 2, 1, 2, 3, 1, 1, 4, 1, 0, 5, 5]
 
 
 def case(crate, words, answer, diagram=D):
@@ -24,11 +24,13 @@ def case(crate, words, answer, diagram=D):
 
 # C8: over to size 4.
 case('shrink', ['keep', 'size', '4'], C5)
-# The file of x0 or x1 or x2 or x3, and for each call of the program standard output and standard error.
+# The file of x1 or x2 or x3 or x4, and for each call of the program standard output and standard error.
 FILE = b''.join(block.write(OR4))
 DAMAGED = changed(FILE, 508, 0)
 assert DAMAGED != FILE
-answers = [shrunk('suppress', 'cases', 12, FILE), shrunk('keep', 'size', 4, FILE), (b'', UNKNOWN), shrunk('keep', 'size', 4, DAMAGED)]
+answers = [shrunk('suppress', 'cases', 12, FILE), shrunk('keep', 'size', 4, FILE), (b'', UNKNOWN), shrunk('keep', 'size', 9, FILE),
+           shrunk('keep', 'size', 9, FILE, True), (b'', UNKNOWN), shrunk('keep', 'size', 4, DAMAGED)]
+assert answers[4][0] == FILE != answers[3][0]
 for name, data in (('stdin', FILE), ('stdout', b''.join(a + b for a, b in answers))):
     with open(os.path.join(TOP, 'crates', 'shrinking_run', name), 'wb') as file:
         file.write(data)

@@ -89,7 +89,7 @@ fn many_cuts(lent: &mut Lent) {
         times[0][pass] = start.elapsed().as_nanos() as f64;
         let (room, output) = (&mut lent.room[..ROOM_PER_NODE * nodes], &mut lent.output[..3 * nodes]);
         let start = Instant::now();
-        let made = black_box(ours::underapproximate_to_cardinality(&words, operations::natural(&count), room, output));
+        let made = black_box(ours::underapproximate_to_cardinality(&words, operations::natural(&count), true, room, output));
         times[1][pass] = start.elapsed().as_nanos() as f64;
         assert_eq!(&lent.output[..3 * made.nodes], theirs.to_words());
         trials = made.trials;

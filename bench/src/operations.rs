@@ -27,6 +27,7 @@ pub struct Case {
     pub bdd: Bdd,
     pub list: Vec<u32>,
     pub pointers: Vec<BddPointer>,
+    pub count: BigUint,
     pub half_count: BigUint,
     pub under_count: BigUint,
     /// Half of the valuations that the diagram doesn't hold for, besides its own.
@@ -40,7 +41,7 @@ impl Case {
         let half_over = (&count + (BigUint::from(1u32) << words[0])) / 2u32;
         let list: Vec<u32> = (2..words.len() as u32 / 3 - 1).step_by(LISTED_ONE_IN).collect();
         let pointers = list.iter().map(|p| BddPointer::from_index(*p as usize)).collect();
-        Case { words, bdd, list, pointers, half_count: &count / 2u32, under_count: count - 1u32, half_over }
+        Case { words, bdd, list, pointers, half_count: &count / 2u32, under_count: &count - 1u32, half_over, count }
     }
     pub fn nodes(&self) -> usize {
         self.words.len() / 3
@@ -64,7 +65,7 @@ pub struct Operation {
     pub compare: fn(&Case, &mut Lent),
 }
 
-pub const OPERATIONS: [Operation; 15] = [
+pub const OPERATIONS: [Operation; 19] = [
     Operation {
         name: "validate",
         targets: false,
@@ -188,11 +189,11 @@ pub const OPERATIONS: [Operation; 15] = [
         rust: |c| _ = black_box(c.bdd.underapproximate_to_size(c.nodes() / 2)),
         ours: Some(|c, lent| {
             let (room, output) = c.lent(lent, 3);
-            _ = black_box(ours::underapproximate_to_size(&c.words, (c.nodes() / 2) as u32, room, output));
+            _ = black_box(ours::underapproximate_to_size(&c.words, (c.nodes() / 2) as u32, true, room, output));
         }),
         compare: |c, lent| {
             let (room, output) = c.lent(lent, 3);
-            let made = ours::underapproximate_to_size(&c.words, (c.nodes() / 2) as u32, room, output);
+            let made = ours::underapproximate_to_size(&c.words, (c.nodes() / 2) as u32, true, room, output);
             assert_eq!(&output[..3 * made.nodes], c.bdd.underapproximate_to_size(c.nodes() / 2).to_words());
         },
     },
@@ -202,11 +203,11 @@ pub const OPERATIONS: [Operation; 15] = [
         rust: |c| _ = black_box(c.bdd.overapproximate_to_size(c.nodes() / 2)),
         ours: Some(|c, lent| {
             let (room, output) = c.lent(lent, 3);
-            _ = black_box(ours::overapproximate_to_size(&c.words, (c.nodes() / 2) as u32, room, output));
+            _ = black_box(ours::overapproximate_to_size(&c.words, (c.nodes() / 2) as u32, true, room, output));
         }),
         compare: |c, lent| {
             let (room, output) = c.lent(lent, 3);
-            let made = ours::overapproximate_to_size(&c.words, (c.nodes() / 2) as u32, room, output);
+            let made = ours::overapproximate_to_size(&c.words, (c.nodes() / 2) as u32, true, room, output);
             assert_eq!(&output[..3 * made.nodes], c.bdd.overapproximate_to_size(c.nodes() / 2).to_words());
         },
     },
@@ -235,11 +236,54 @@ pub const OPERATIONS: [Operation; 15] = [
         name: "overapproximate_to_cardinality, half",
         targets: true,
         rust: |c| _ = black_box(c.bdd.overapproximate_to_cardinality(&c.half_over)),
-        ours: Some(|c, lent| _ = black_box(over_count(c, &c.half_over, lent))),
+        ours: Some(|c, lent| _ = black_box(over_count(c, &c.half_over, true, lent))),
         compare: |c, lent| {
-            let made = over_count(c, &c.half_over, lent);
+            let made = over_count(c, &c.half_over, true, lent);
             assert_eq!(made.verdict.number, 0);
             assert_eq!(&lent.output[..3 * made.nodes], c.bdd.overapproximate_to_cardinality(&c.half_over).to_words());
+        },
+    },
+    // Targets that the array meets as it is given: the Rust gives a copy, as ours does where as_is is set. Without it ours is reduced.
+    Operation {
+        name: "underapproximate_to_size, met, as_is",
+        targets: false,
+        rust: |c| _ = black_box(c.bdd.underapproximate_to_size(c.nodes())),
+        ours: Some(|c, lent| _ = black_box(under_own_size(c, true, lent))),
+        compare: |c, lent| {
+            let made = under_own_size(c, true, lent);
+            assert_eq!(words_of(&made, lent), c.bdd.underapproximate_to_size(c.nodes()).to_words());
+        },
+    },
+    Operation {
+        name: "underapproximate_to_size, met, reduced",
+        targets: false,
+        rust: |c| _ = black_box(c.bdd.underapproximate_to_size(c.nodes())),
+        ours: Some(|c, lent| _ = black_box(under_own_size(c, false, lent))),
+        compare: |c, lent| {
+            let made = under_own_size(c, false, lent);
+            let rust = c.bdd.underapproximate_to_size(c.nodes());
+            assert_eq!(words_of(&made, lent), rust.and(&rust).to_words());
+        },
+    },
+    Operation {
+        name: "overapproximate_to_cardinality, met, as_is",
+        targets: true,
+        rust: |c| _ = black_box(c.bdd.overapproximate_to_cardinality(&c.count)),
+        ours: Some(|c, lent| _ = black_box(over_count(c, &c.count, true, lent))),
+        compare: |c, lent| {
+            let made = over_count(c, &c.count, true, lent);
+            assert_eq!(words_of(&made, lent), c.bdd.overapproximate_to_cardinality(&c.count).to_words());
+        },
+    },
+    Operation {
+        name: "overapproximate_to_cardinality, met, reduced",
+        targets: true,
+        rust: |c| _ = black_box(c.bdd.overapproximate_to_cardinality(&c.count)),
+        ours: Some(|c, lent| _ = black_box(over_count(c, &c.count, false, lent))),
+        compare: |c, lent| {
+            let made = over_count(c, &c.count, false, lent);
+            let rust = c.bdd.overapproximate_to_cardinality(&c.count);
+            assert_eq!(words_of(&made, lent), rust.and(&rust).to_words());
         },
     },
 ];
@@ -253,12 +297,24 @@ pub fn natural(count: &BigUint) -> ours::Natural {
 
 fn under_count(c: &Case, count: &BigUint, lent: &mut Lent) -> ours::Approximation {
     let (room, output) = c.lent(lent, 3);
-    ours::underapproximate_to_cardinality(&c.words, natural(count), room, output)
+    ours::underapproximate_to_cardinality(&c.words, natural(count), true, room, output)
 }
 
-fn over_count(c: &Case, count: &BigUint, lent: &mut Lent) -> ours::Approximation {
+fn over_count(c: &Case, count: &BigUint, as_is: bool, lent: &mut Lent) -> ours::Approximation {
     let (room, output) = c.lent(lent, 3);
-    ours::overapproximate_to_cardinality(&c.words, natural(count), room, output)
+    ours::overapproximate_to_cardinality(&c.words, natural(count), as_is, room, output)
+}
+
+/// To as many nodes as there are.
+fn under_own_size(c: &Case, as_is: bool, lent: &mut Lent) -> ours::Approximation {
+    let (room, output) = c.lent(lent, 3);
+    ours::underapproximate_to_size(&c.words, c.nodes() as u32, as_is, room, output)
+}
+
+/// The words of a met target's answer, for which there are no trials.
+fn words_of<'a>(made: &ours::Approximation, lent: &'a Lent) -> &'a [u32] {
+    assert_eq!((made.verdict.number, made.trials), (0, 0));
+    &lent.output[..3 * made.nodes]
 }
 
 fn compare_count(c: &Case, count: &BigUint, lent: &mut Lent) {

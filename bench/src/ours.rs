@@ -1,4 +1,4 @@
-//! The functions of include/houayletan.h. None has a precondition but that pointers and lengths are those of slices.
+//! The functions of include/houayletan.h, by their names for the linker. None has a precondition but that pointers and lengths are those of slices.
 use crate::limits::COUNT_WORDS;
 
 #[repr(C)]
@@ -42,10 +42,10 @@ pub struct Natural {
 extern "C" {
     fn houayletan_underapproximate(words: *const u32, words_len: usize, list: *const u32, list_len: usize, room: *mut u32, room_len: usize, output: *mut u32, output_len: usize) -> Diagram;
     fn houayletan_overapproximate(words: *const u32, words_len: usize, list: *const u32, list_len: usize, room: *mut u32, room_len: usize, output: *mut u32, output_len: usize) -> Diagram;
-    fn houayletan_underapproximate_to_size(words: *const u32, words_len: usize, target: u32, room: *mut u32, room_len: usize, output: *mut u32, output_len: usize) -> Approximation;
-    fn houayletan_overapproximate_to_size(words: *const u32, words_len: usize, target: u32, room: *mut u32, room_len: usize, output: *mut u32, output_len: usize) -> Approximation;
-    fn houayletan_underapproximate_to_cardinality(words: *const u32, words_len: usize, target: Natural, room: *mut u32, room_len: usize, output: *mut u32, output_len: usize) -> Approximation;
-    fn houayletan_overapproximate_to_cardinality(words: *const u32, words_len: usize, target: Natural, room: *mut u32, room_len: usize, output: *mut u32, output_len: usize) -> Approximation;
+    fn houayletan_underapproximate_to_size_2(words: *const u32, words_len: usize, target: u32, as_is: u32, room: *mut u32, room_len: usize, output: *mut u32, output_len: usize) -> Approximation;
+    fn houayletan_overapproximate_to_size_2(words: *const u32, words_len: usize, target: u32, as_is: u32, room: *mut u32, room_len: usize, output: *mut u32, output_len: usize) -> Approximation;
+    fn houayletan_underapproximate_to_cardinality_2(words: *const u32, words_len: usize, target: Natural, as_is: u32, room: *mut u32, room_len: usize, output: *mut u32, output_len: usize) -> Approximation;
+    fn houayletan_overapproximate_to_cardinality_2(words: *const u32, words_len: usize, target: Natural, as_is: u32, room: *mut u32, room_len: usize, output: *mut u32, output_len: usize) -> Approximation;
     fn houayletan_validate(words: *const u32, words_len: usize, room: *mut u32, room_len: usize) -> Verdict;
     fn houayletan_clear(room: *mut u32, room_len: usize, count: usize);
     fn houayletan_exact_cardinality(words: *const u32, words_len: usize, room: *mut u32, room_len: usize) -> Count;
@@ -101,22 +101,22 @@ pub fn overapproximate(words: &[u32], list: &[u32], room: &mut [u32], output: &m
     unsafe { houayletan_overapproximate(words.as_ptr(), words.len(), list.as_ptr(), list.len(), room.as_mut_ptr(), room.len(), out, out_len) }
 }
 
-pub fn underapproximate_to_size(words: &[u32], target: u32, room: &mut [u32], output: &mut [u32]) -> Approximation {
+pub fn underapproximate_to_size(words: &[u32], target: u32, as_is: bool, room: &mut [u32], output: &mut [u32]) -> Approximation {
     let (out, out_len) = (output.as_mut_ptr(), output.len());
-    unsafe { houayletan_underapproximate_to_size(words.as_ptr(), words.len(), target, room.as_mut_ptr(), room.len(), out, out_len) }
+    unsafe { houayletan_underapproximate_to_size_2(words.as_ptr(), words.len(), target, as_is as u32, room.as_mut_ptr(), room.len(), out, out_len) }
 }
 
-pub fn overapproximate_to_size(words: &[u32], target: u32, room: &mut [u32], output: &mut [u32]) -> Approximation {
+pub fn overapproximate_to_size(words: &[u32], target: u32, as_is: bool, room: &mut [u32], output: &mut [u32]) -> Approximation {
     let (out, out_len) = (output.as_mut_ptr(), output.len());
-    unsafe { houayletan_overapproximate_to_size(words.as_ptr(), words.len(), target, room.as_mut_ptr(), room.len(), out, out_len) }
+    unsafe { houayletan_overapproximate_to_size_2(words.as_ptr(), words.len(), target, as_is as u32, room.as_mut_ptr(), room.len(), out, out_len) }
 }
 
-pub fn underapproximate_to_cardinality(words: &[u32], target: Natural, room: &mut [u32], output: &mut [u32]) -> Approximation {
+pub fn underapproximate_to_cardinality(words: &[u32], target: Natural, as_is: bool, room: &mut [u32], output: &mut [u32]) -> Approximation {
     let (out, out_len) = (output.as_mut_ptr(), output.len());
-    unsafe { houayletan_underapproximate_to_cardinality(words.as_ptr(), words.len(), target, room.as_mut_ptr(), room.len(), out, out_len) }
+    unsafe { houayletan_underapproximate_to_cardinality_2(words.as_ptr(), words.len(), target, as_is as u32, room.as_mut_ptr(), room.len(), out, out_len) }
 }
 
-pub fn overapproximate_to_cardinality(words: &[u32], target: Natural, room: &mut [u32], output: &mut [u32]) -> Approximation {
+pub fn overapproximate_to_cardinality(words: &[u32], target: Natural, as_is: bool, room: &mut [u32], output: &mut [u32]) -> Approximation {
     let (out, out_len) = (output.as_mut_ptr(), output.len());
-    unsafe { houayletan_overapproximate_to_cardinality(words.as_ptr(), words.len(), target, room.as_mut_ptr(), room.len(), out, out_len) }
+    unsafe { houayletan_overapproximate_to_cardinality_2(words.as_ptr(), words.len(), target, as_is as u32, room.as_mut_ptr(), room.len(), out, out_len) }
 }

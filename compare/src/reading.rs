@@ -231,14 +231,29 @@ fn priorities(weights: &[BigUint]) -> Vec<u32> {
     order
 }
 
+/// Whether the array meets a size as it is given, whatever reducing would leave of it.
+pub fn size_is_met(n: usize, t: usize) -> bool {
+    n <= t
+}
+
+/// Whether the array meets a count as it is given. Under to 0 always gives the one-node false.
+pub fn count_is_met(over: bool, k: &BigUint, count: &BigUint) -> bool {
+    if over { count >= k } else { *k > BigUint::default() && count <= k }
+}
+
+/// What comes out where the array meets the target: nothing is cut.
+fn met(words: &[u32], as_is: bool) -> (Vec<u32>, usize) {
+    (if as_is { words.to_vec() } else { reduce(words) }, 0)
+}
+
 /// The answer's words and its trials.
-pub fn under_to_size(words: &[u32], t: usize, weights: &dyn Fn(&[u32]) -> Vec<BigUint>) -> (Vec<u32>, usize) {
+pub fn under_to_size(words: &[u32], t: usize, as_is: bool, weights: &dyn Fn(&[u32]) -> Vec<BigUint>) -> (Vec<u32>, usize) {
     let n = words.len() / 3;
     if t <= 1 || t == 2 {
         return (constant(words[0], t == 2 && n == 2), 0);
     }
-    if t >= n {
-        return (words.to_vec(), 0);
+    if size_is_met(n, t) {
+        return met(words, as_is);
     }
     let order = priorities(&weights(words));
     let (mut start, mut stop, mut trials) = (0, n - t, 0);
@@ -258,14 +273,18 @@ pub fn under_to_size(words: &[u32], t: usize, weights: &dyn Fn(&[u32]) -> Vec<Bi
     (cut(words, &order[..stop], 0), trials + 1)
 }
 
-pub fn over_to_size(words: &[u32], t: usize, weights: &dyn Fn(&[u32]) -> Vec<BigUint>) -> (Vec<u32>, usize) {
-    let (found, trials) = under_to_size(&not(words), t, weights);
+pub fn over_to_size(words: &[u32], t: usize, as_is: bool, weights: &dyn Fn(&[u32]) -> Vec<BigUint>) -> (Vec<u32>, usize) {
+    if size_is_met(words.len() / 3, t) {
+        return met(words, as_is);
+    }
+    let (found, trials) = under_to_size(&not(words), t, as_is, weights);
     (not(&found), trials)
 }
 
 pub fn under_to_count(
     words: &[u32],
     k: &BigUint,
+    as_is: bool,
     count: &dyn Fn(&[u32]) -> BigUint,
     weights: &dyn Fn(&[u32]) -> Vec<BigUint>,
 ) -> (Vec<u32>, usize) {
@@ -273,8 +292,8 @@ pub fn under_to_count(
         return (constant(words[0], false), 0);
     }
     let all = count(words);
-    if *k >= all {
-        return (words.to_vec(), 0);
+    if count_is_met(false, k, &all) {
+        return met(words, as_is);
     }
     let table = weights(words);
     let order = priorities(&table);
@@ -299,15 +318,16 @@ pub fn under_to_count(
 pub fn over_to_count(
     words: &[u32],
     k: &BigUint,
+    as_is: bool,
     count: &dyn Fn(&[u32]) -> BigUint,
     weights: &dyn Fn(&[u32]) -> Vec<BigUint>,
 ) -> (Vec<u32>, usize) {
     let own = count(words);
-    if *k <= own {
-        return (words.to_vec(), 0);
+    if count_is_met(true, k, &own) {
+        return met(words, as_is);
     }
     let negation = not(words);
     let target = count(&negation) - (k - own);
-    let (found, trials) = under_to_count(&negation, &target, count, weights);
+    let (found, trials) = under_to_count(&negation, &target, as_is, count, weights);
     (not(&found), trials)
 }

@@ -1,5 +1,6 @@
 //! The expected answer: refusals by the reading of document 01, everything else by the Rust text. For cuts, where the Rust has
-//! no trials, the reading makes the whole search too; its words must be the Rust's.
+//! no trials, the reading makes the whole search too; its words must be the Rust's. Where the array meets a target, the Rust gives
+//! the array; without as_is (02 E8) the words must be those of the Rust's own reduction of it.
 use crate::limits::COUNT_WORDS;
 use crate::reading;
 use crate::request::{Argument, Operation::*, Reply, Request};
@@ -67,6 +68,30 @@ fn held_to_small_size(request: &Request, target: u32) {
     assert_eq!(answer.to_words(), reading::constant(request.words[0], over), "a cut to {target} of {:?}", request.words);
 }
 
+/// The Rust's reduction, beside the reading's: reduced, and of the same count.
+fn reduced(words: &[u32]) -> Vec<u32> {
+    let bdd = Bdd::from_words(words);
+    let found = reading::renumber(&bdd.and(&bdd).to_words());
+    assert_eq!(found, reading::reduce(words), "the reduction of {words:?}");
+    let reduced = Bdd::from_words(&found);
+    assert_eq!(reduced.exact_cardinality(), bdd.exact_cardinality());
+    assert!(reduced.validate().is_ok());
+    found
+}
+
+/// Whether accepted words meet the request's target as they are given; no where it has none.
+pub fn met(request: &Request) -> bool {
+    let words = &request.words;
+    match &request.argument {
+        Argument::Size(t) => reading::size_is_met(words.len() / 3, *t as usize),
+        Argument::Count(k) => {
+            let over = request.operation() == OverapproximateToCardinality;
+            reading::count_is_met(over, &BigUint::from_slice(k), &count(words))
+        }
+        _ => false,
+    }
+}
+
 pub fn expected(request: &Request) -> Reply {
     let refuse = |(number, place)| Reply { number, place, nodes: 0, vars: 0, values: vec![0; values_of(request)], written: vec![] };
     let words = &request.words;
@@ -107,8 +132,13 @@ pub fn expected(request: &Request) -> Reply {
         assert_eq!(found, reading::cut(words, list, to), "a cut by {list:?} of {words:?}");
         diagram(found)
     };
+    let as_is = request.as_is;
     let to_target = |rust: Bdd, (found, trials): (Vec<u32>, usize)| {
-        let words_of_rust = if trials == 0 { rust.to_words() } else { reading::renumber(&rust.to_words()) };
+        let mut words_of_rust = if trials == 0 { rust.to_words() } else { reading::renumber(&rust.to_words()) };
+        if met(request) {
+            assert_eq!((&words_of_rust, trials), (words, 0), "{target} is met by {words:?}");
+            words_of_rust = if as_is { words_of_rust } else { reduced(words) };
+        }
         assert_eq!(words_of_rust, found, "a cut to {target} of {words:?}");
         (vec![found.len() as u64 / 3, trials as u64], found)
     };
@@ -129,14 +159,7 @@ pub fn expected(request: &Request) -> Reply {
         }
         (NodeValuationWeights, _) => (vec![], weight_words(words)),
         (CountAndWeights, _) => (count_words(&bdd.exact_cardinality()), weight_words(words)),
-        (Reduce, _) => {
-            let found = reading::renumber(&bdd.and(&bdd).to_words());
-            assert_eq!(found, reading::reduce(words), "the reduction of {words:?}");
-            let reduced = Bdd::from_words(&found);
-            assert_eq!(reduced.exact_cardinality(), bdd.exact_cardinality());
-            assert!(reduced.validate().is_ok());
-            diagram(found)
-        }
+        (Reduce, _) => diagram(reduced(words)),
         (Not, _) => {
             let found = bdd.not().to_words();
             assert_eq!(found, reading::not(words), "the negation of {words:?}");
@@ -147,20 +170,20 @@ pub fn expected(request: &Request) -> Reply {
         (Underapproximate, Argument::List(list)) => by_list(bdd.underapproximate(&pointers(list)), list, 0),
         (Overapproximate, Argument::List(list)) => by_list(bdd.overapproximate(&pointers(list)), list, 1),
         (UnderapproximateToSize, Argument::Size(t)) => {
-            to_target(bdd.underapproximate_to_size(*t as usize), reading::under_to_size(words, *t as usize, &weights))
+            to_target(bdd.underapproximate_to_size(*t as usize), reading::under_to_size(words, *t as usize, as_is, &weights))
         }
         (OverapproximateToSize, Argument::Size(1)) => {
             held_to_small_size(request, 1);
             (vec![1, 0], reading::constant(v as u32, false))
         }
         (OverapproximateToSize, Argument::Size(t)) => {
-            to_target(bdd.overapproximate_to_size(*t as usize), reading::over_to_size(words, *t as usize, &weights))
+            to_target(bdd.overapproximate_to_size(*t as usize), reading::over_to_size(words, *t as usize, as_is, &weights))
         }
         (UnderapproximateToCardinality, _) => {
-            to_target(bdd.underapproximate_to_cardinality(&target), reading::under_to_count(words, &target, &count, &weights))
+            to_target(bdd.underapproximate_to_cardinality(&target), reading::under_to_count(words, &target, as_is, &count, &weights))
         }
         (OverapproximateToCardinality, _) => {
-            to_target(bdd.overapproximate_to_cardinality(&target), reading::over_to_count(words, &target, &count, &weights))
+            to_target(bdd.overapproximate_to_cardinality(&target), reading::over_to_count(words, &target, as_is, &count, &weights))
         }
         _ => unreachable!("an operation without its argument"),
     };

@@ -71,6 +71,8 @@ pub struct Request {
     pub operation: usize,
     pub words: Vec<u32>,
     pub argument: Argument,
+    /// Of a size or a count; no otherwise.
+    pub as_is: bool,
     pub room: usize,
     pub output: usize,
     /// Of what room and output hold at first.
@@ -121,6 +123,7 @@ fn approximation(t: lent::Approximation) -> (lent::Verdict, Vec<u64>, usize) {
 }
 
 fn call(request: &Request, w: &[u32], list: &[u32], room: &mut [u32], out: &mut [u32]) -> (lent::Verdict, Vec<u64>, usize) {
+    let as_is = request.as_is;
     let size = if let Argument::Size(t) = request.argument { t } else { 0 };
     let count = if let Argument::Count(k) = request.argument { Count::new(k) } else { Count::ZERO };
     match request.operation() {
@@ -153,10 +156,10 @@ fn call(request: &Request, w: &[u32], list: &[u32], room: &mut [u32], out: &mut 
         Not => diagram(lent::not(w, room, out)),
         Underapproximate => diagram(lent::underapproximate(w, list, room, out)),
         Overapproximate => diagram(lent::overapproximate(w, list, room, out)),
-        UnderapproximateToSize => approximation(lent::underapproximate_to_size(w, size, room, out)),
-        OverapproximateToSize => approximation(lent::overapproximate_to_size(w, size, room, out)),
-        UnderapproximateToCardinality => approximation(lent::underapproximate_to_cardinality(w, count, room, out)),
-        OverapproximateToCardinality => approximation(lent::overapproximate_to_cardinality(w, count, room, out)),
+        UnderapproximateToSize => approximation(lent::underapproximate_to_size(w, size, as_is, room, out)),
+        OverapproximateToSize => approximation(lent::overapproximate_to_size(w, size, as_is, room, out)),
+        UnderapproximateToCardinality => approximation(lent::underapproximate_to_cardinality(w, count, as_is, room, out)),
+        OverapproximateToCardinality => approximation(lent::overapproximate_to_cardinality(w, count, as_is, room, out)),
     }
 }
 
@@ -246,6 +249,9 @@ pub fn line(request: &Request, reply: &Reply) -> String {
         Argument::List(list) => [list.len() as u64].into_iter().chain(list.iter().map(|p| *p as u64)).for_each(&mut put),
         Argument::Size(t) => put(*t as u64),
         Argument::Count(k) => k.iter().for_each(|w| put(*w as u64)),
+    }
+    if matches!(request.argument, Argument::Size(_) | Argument::Count(_)) {
+        put(request.as_is as u64);
     }
     put(request.room as u64);
     put(request.output as u64);

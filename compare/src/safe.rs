@@ -52,10 +52,10 @@ pub fn held_to(request: &Request, expected: &Reply) -> Result<(), String> {
         Not => diagram(houayletan::not(w)),
         Underapproximate => diagram(houayletan::underapproximate(w, list)),
         Overapproximate => diagram(houayletan::overapproximate(w, list)),
-        UnderapproximateToSize => cut(houayletan::underapproximate_to_size(w, size)),
-        OverapproximateToSize => cut(houayletan::overapproximate_to_size(w, size)),
-        UnderapproximateToCardinality => cut(houayletan::underapproximate_to_cardinality(w, target)),
-        OverapproximateToCardinality => cut(houayletan::overapproximate_to_cardinality(w, target)),
+        UnderapproximateToSize => cut(houayletan::underapproximate_to_size(w, size, request.as_is)),
+        OverapproximateToSize => cut(houayletan::overapproximate_to_size(w, size, request.as_is)),
+        UnderapproximateToCardinality => cut(houayletan::underapproximate_to_cardinality(w, target, request.as_is)),
+        OverapproximateToCardinality => cut(houayletan::overapproximate_to_cardinality(w, target, request.as_is)),
     };
     let wanted: Flat = match expected.number {
         0 => Ok((expected.values.clone(), expected.written.clone())),

@@ -71,8 +71,8 @@ static inline void give_back(Loan *l) {
     free(l->output.all);
 }
 
-static inline Request request_of(const Loan *l, const uint32_t *target) {
-    Request q = {l->words.words, l->words.len, l->list.words, l->list.len, {0}, l->room.words, l->room.len, l->output.words, l->output.len};
+static inline Request request_of(const Loan *l, const uint32_t *target, uint32_t as_is) {
+    Request q = {l->words.words, l->words.len, l->list.words, l->list.len, {0}, as_is, l->room.words, l->room.len, l->output.words, l->output.len};
     if (target) memcpy(q.target, target, sizeof q.target);
     return q;
 }

@@ -12,6 +12,7 @@ typedef struct {
     const uint32_t *list; /* of a cut by a list */
     size_t list_len;
     uint32_t target[HOUAYLETAN_COUNT_WORDS]; /* of a cut to a count; word 0 alone of a cut to a size */
+    uint32_t as_is;                          /* of both */
     uint32_t *room;
     size_t room_len;
     uint32_t *output;
@@ -102,16 +103,16 @@ static void on_overapproximate(const Request *q, Reply *r) {
     reply_diagram(houayletan_overapproximate(IN, q->list, q->list_len, ROOM, OUT), r);
 }
 static void on_underapproximate_to_size(const Request *q, Reply *r) {
-    reply_approximation(houayletan_underapproximate_to_size(IN, q->target[0], ROOM, OUT), r);
+    reply_approximation(houayletan_underapproximate_to_size(IN, q->target[0], q->as_is, ROOM, OUT), r);
 }
 static void on_overapproximate_to_size(const Request *q, Reply *r) {
-    reply_approximation(houayletan_overapproximate_to_size(IN, q->target[0], ROOM, OUT), r);
+    reply_approximation(houayletan_overapproximate_to_size(IN, q->target[0], q->as_is, ROOM, OUT), r);
 }
 static void on_underapproximate_to_cardinality(const Request *q, Reply *r) {
-    reply_approximation(houayletan_underapproximate_to_cardinality(IN, target_of(q), ROOM, OUT), r);
+    reply_approximation(houayletan_underapproximate_to_cardinality(IN, target_of(q), q->as_is, ROOM, OUT), r);
 }
 static void on_overapproximate_to_cardinality(const Request *q, Reply *r) {
-    reply_approximation(houayletan_overapproximate_to_cardinality(IN, target_of(q), ROOM, OUT), r);
+    reply_approximation(houayletan_overapproximate_to_cardinality(IN, target_of(q), q->as_is, ROOM, OUT), r);
 }
 
 #undef IN
@@ -157,6 +158,9 @@ static inline Reply call(const Operation *o, const Request *q) {
     o->call(q, &r);
     return r;
 }
+
+/* Whether it cuts to a target, and so takes an as_is. */
+static inline bool to_target(const Operation *o) { return o->argument == SIZE_TARGET || o->argument == COUNT_TARGET; }
 
 static inline const Operation *operation(const char *name) {
     for (size_t i = 0; i < OPERATIONS; i++) {

@@ -5,6 +5,7 @@
  *
  *   name, number of words, the words,
  *   a list with its length first (a cut by a list), one number (to a size), the words of a count (to a count), or nothing,
+ *   as_is (to a size and to a count),
  *   length of the room, length of the output, seed of what both hold at first, '=',
  *   number, place, nodes, vars, number of values, the values,
  *   number of output words, and these words, or '#' and their sum by FNV-1a. */
@@ -76,6 +77,7 @@ int main(int argc, char **argv) {
         if (o->argument == COUNT_TARGET) {
             for (int i = 0; i < HOUAYLETAN_COUNT_WORDS; i++) target[i] = (uint32_t)number();
         }
+        uint32_t as_is = to_target(o) ? (uint32_t)number() : 0;
         size_t room_len = number(), output_len = number();
         uint32_t seed = (uint32_t)number();
         mark('=');
@@ -103,7 +105,7 @@ int main(int argc, char **argv) {
         mark('\n');
 
         Loan l = loan(words, words_len, list, list_len, room_len, output_len, seed, 16);
-        Request q = request_of(&l, target);
+        Request q = request_of(&l, target, as_is);
         Reply r = call(o, &q);
         const char *fault = wrong(&l, &r, words, list);
         const HouayletanVerdict *a = &r.verdict, *b = &expected.verdict;

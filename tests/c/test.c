@@ -44,7 +44,12 @@ static const uint32_t TRUE3[] = {3, 0, 0, 3, 1, 1};
 
 static Request asks(const uint32_t *words, size_t len) {
     size_t n = len / 3;
-    return (Request){words, len, words, 0, {0}, room, HOUAYLETAN_ROOM(n), output, 0};
+    return (Request){words, len, words, 0, {0}, 0, room, HOUAYLETAN_ROOM(n), output, 0};
+}
+
+static Request with_flag(Request q, uint32_t as_is) {
+    q.as_is = as_is;
+    return q;
 }
 
 /* Calls with buffers of the exact lengths, or those of the request, and looks at what must stay. */
@@ -77,6 +82,17 @@ static void answers_words(const char *name, Request q, const uint32_t *words, si
     expect(r.values == 1 || r.value[1] == trials, "the trials", name);
 }
 
+/* A result, or a refusal where there is a number; with as_is and without, where the operation takes it. */
+static void answers_either_way(const char *name, Request q, uint32_t number, size_t place, const uint32_t *words, size_t len, size_t trials) {
+    for (uint32_t as_is = 0; as_is <= (to_target(operation(name)) ? 1 : 0); as_is++) {
+        if (number == 0) {
+            answers_words(name, with_flag(q, as_is), words, len, trials);
+        } else {
+            answer(name, with_flag(q, as_is), number, place);
+        }
+    }
+}
+
 static void counts(const uint32_t *words, size_t len, uint32_t count, uint32_t paths) {
     Reply r = answer("exact_cardinality", asks(words, len), 0, 0);
     expect(r.value[0] == count && r.value[1] == 0 && r.value[TOP_WORD] == 0, "the count", "exact_cardinality");
@@ -103,7 +119,7 @@ static void weighs(const uint32_t *words, size_t len, uint32_t count, const uint
 }
 
 /* Every operation takes and refuses the same words, in the same order. */
-static void refusals(const Operation *o) {
+static void refusals(const Operation *o, uint32_t as_is) {
     static const struct {
         size_t len;
         uint32_t words[15];
@@ -132,14 +148,14 @@ static void refusals(const Operation *o) {
         {12, {1, 0, 0, 1, 1, 1, 0, 2, 2, 0, 0, 1}, 12, 2},
         {9, {0, 0, 0, 0, 1, 1, 0, 0, 1}, 8, 2},
     };
-    for (size_t i = 0; i < LEN(cases); i++) answer(o->name, asks(cases[i].words, cases[i].len), cases[i].number, cases[i].place);
+    for (size_t i = 0; i < LEN(cases); i++) answer(o->name, with_flag(asks(cases[i].words, cases[i].len), as_is), cases[i].number, cases[i].place);
 
     static uint32_t many[3 * (HOUAYLETAN_NODES + 1)];
     memcpy(many, TRUE3, sizeof TRUE3);
-    answer(o->name, asks(many, LEN(many)), 3, 0);
+    answer(o->name, with_flag(asks(many, LEN(many)), as_is), 3, 0);
 
     /* exactly long enough is taken above; one short, and both short */
-    Request q = asks(D, LEN(D));
+    Request q = with_flag(asks(D, LEN(D)), as_is);
     q.room_len -= 1;
     answer(o->name, q, 5, 0);
     if (o->output != NO_OUTPUT) {
@@ -148,20 +164,83 @@ static void refusals(const Operation *o) {
         q.room_len += 1;
         answer(o->name, q, 4, 0);
     }
-    q = asks(FALSE3, LEN(FALSE3));
+    q = with_flag(asks(FALSE3, LEN(FALSE3)), as_is);
     q.room_len = HOUAYLETAN_ROOM(1) - 1;
     answer(o->name, q, 5, 0);
     if (o->output != NO_OUTPUT) {
         q.room_len = HOUAYLETAN_ROOM(1), q.output_len = output_asked(o->output, 1) - 1;
         answer(o->name, q, 4, 0);
     }
-    q = asks(many, 3 * HOUAYLETAN_NODES);
+    q = with_flag(asks(many, 3 * HOUAYLETAN_NODES), as_is);
     q.room_len = 0;
     answer(o->name, q, 5, 0);
 }
 
+/* Targets that the array meets as it is given, where as_is says what comes out; and targets that it does not meet, where as_is says
+ * nothing, also where the reduced diagram would meet them. Any as_is but 0 is a yes. */
+static void met_targets(void) {
+    /* x1, under a root with low = high: four nodes, two of the four valuations */
+    static const uint32_t X1[] = {2, 0, 0, 2, 1, 1, 1, 0, 1, 0, 2, 2};
+    static const uint32_t LONG_FALSE[] = {1, 0, 0, 1, 1, 1, 0, 0, 0}, LONG_TRUE[] = {1, 0, 0, 1, 1, 1, 0, 1, 1};
+    static const uint32_t flags[] = {0, 1, 2, 7, 256, 65536, (uint32_t)1 << 31, UINT32_MAX};
+    static const struct {
+        const char *name;
+        const uint32_t *words;
+        size_t len;
+        uint32_t target;
+        bool met;
+        size_t result_len; /* without as_is, and of a target that is not met */
+        uint32_t result[9];
+        size_t trials;
+    } cases[] = {
+        {"underapproximate_to_size", X1, LEN(X1), 3, false, 9, {2, 0, 0, 2, 1, 1, 1, 0, 1}, 1},
+        {"underapproximate_to_size", X1, LEN(X1), 4, true, 9, {2, 0, 0, 2, 1, 1, 1, 0, 1}, 0},
+        {"underapproximate_to_size", X1, LEN(X1), UINT32_MAX, true, 9, {2, 0, 0, 2, 1, 1, 1, 0, 1}, 0},
+        {"overapproximate_to_size", X1, LEN(X1), 3, false, 9, {2, 0, 0, 2, 1, 1, 1, 0, 1}, 1},
+        {"overapproximate_to_size", X1, LEN(X1), 4, true, 9, {2, 0, 0, 2, 1, 1, 1, 0, 1}, 0},
+        {"overapproximate_to_size", X1, LEN(X1), UINT32_MAX, true, 9, {2, 0, 0, 2, 1, 1, 1, 0, 1}, 0},
+        {"underapproximate_to_cardinality", X1, LEN(X1), 1, false, 3, {2, 0, 0}, 1},
+        {"underapproximate_to_cardinality", X1, LEN(X1), 2, true, 9, {2, 0, 0, 2, 1, 1, 1, 0, 1}, 0},
+        {"underapproximate_to_cardinality", X1, LEN(X1), 5, true, 9, {2, 0, 0, 2, 1, 1, 1, 0, 1}, 0},
+        {"overapproximate_to_cardinality", X1, LEN(X1), 0, true, 9, {2, 0, 0, 2, 1, 1, 1, 0, 1}, 0},
+        {"overapproximate_to_cardinality", X1, LEN(X1), 2, true, 9, {2, 0, 0, 2, 1, 1, 1, 0, 1}, 0},
+        {"overapproximate_to_cardinality", X1, LEN(X1), 3, false, 6, {2, 0, 0, 2, 1, 1}, 1},
+        /* constants in three nodes come out as one and two; under to 0 is no target that an array meets */
+        {"underapproximate_to_size", LONG_FALSE, LEN(LONG_FALSE), 3, true, 3, {1, 0, 0}, 0},
+        {"overapproximate_to_size", LONG_FALSE, LEN(LONG_FALSE), 3, true, 3, {1, 0, 0}, 0},
+        {"underapproximate_to_cardinality", LONG_FALSE, LEN(LONG_FALSE), 0, false, 3, {1, 0, 0}, 0},
+        {"underapproximate_to_cardinality", LONG_FALSE, LEN(LONG_FALSE), 1, true, 3, {1, 0, 0}, 0},
+        {"overapproximate_to_cardinality", LONG_FALSE, LEN(LONG_FALSE), 0, true, 3, {1, 0, 0}, 0},
+        {"underapproximate_to_size", LONG_TRUE, LEN(LONG_TRUE), 3, true, 6, {1, 0, 0, 1, 1, 1}, 0},
+        {"overapproximate_to_size", LONG_TRUE, LEN(LONG_TRUE), 3, true, 6, {1, 0, 0, 1, 1, 1}, 0},
+        {"underapproximate_to_cardinality", LONG_TRUE, LEN(LONG_TRUE), 2, true, 6, {1, 0, 0, 1, 1, 1}, 0},
+        {"overapproximate_to_cardinality", LONG_TRUE, LEN(LONG_TRUE), 2, true, 6, {1, 0, 0, 1, 1, 1}, 0},
+    };
+    for (size_t i = 0; i < LEN(cases); i++) {
+        for (size_t j = 0; j < LEN(flags); j++) {
+            Request q = with_flag(asks(cases[i].words, cases[i].len), flags[j]);
+            q.target[0] = cases[i].target;
+            bool kept = cases[i].met && flags[j] != 0;
+            const uint32_t *words = kept ? cases[i].words : cases[i].result;
+            size_t len = kept ? cases[i].len : cases[i].result_len;
+            answers_words(cases[i].name, q, words, len, cases[i].trials);
+            q.room_len += 3, q.output_len = cases[i].len + 3;
+            answers_words(cases[i].name, q, words, len, cases[i].trials);
+            /* the output is asked for by the array's nodes, whatever the answer needs */
+            q.output_len = cases[i].len - 1;
+            answer(cases[i].name, q, 4, 0);
+            q.output_len = cases[i].len, q.room_len = HOUAYLETAN_ROOM(cases[i].len / 3) - 1;
+            answer(cases[i].name, q, 5, 0);
+        }
+    }
+}
+
 int main(void) {
-    for (size_t i = 0; i < OPERATIONS; i++) refusals(&operations[i]);
+    for (size_t i = 0; i < OPERATIONS; i++) {
+        refusals(&operations[i], 0);
+        if (to_target(&operations[i])) refusals(&operations[i], 1);
+    }
+    met_targets();
 
     answer("validate", asks(D, LEN(D)), 0, 0);
     counts(D, LEN(D), 5, 3);
@@ -287,11 +366,7 @@ int main(void) {
         q = asks(D, LEN(D));
         q.list = cuts[i].argument, q.list_len = cuts[i].list_len;
         memcpy(q.target, cuts[i].argument, sizeof cuts[i].argument);
-        if (cuts[i].number == 0) {
-            answers_words(cuts[i].name, q, cuts[i].words, cuts[i].len, cuts[i].trials);
-        } else {
-            answer(cuts[i].name, q, cuts[i].number, cuts[i].place);
-        }
+        answers_either_way(cuts[i].name, q, cuts[i].number, cuts[i].place, cuts[i].words, cuts[i].len, cuts[i].trials);
     }
     /* Where two readings of the rules are possible: words, a list or a target, and what comes out. */
     static const struct {
@@ -349,6 +424,9 @@ int main(void) {
     q = asks(deepest, LEN(deepest));
     q.target[0] = 1;
     answers_words("overapproximate_to_size", q, none, LEN(none), 0);
+    q.target[0] = HOUAYLETAN_VARS + 2;
+    answers_words("overapproximate_to_size", q, none, LEN(none), 0);
+    answers_words("overapproximate_to_size", with_flag(q, 1), deepest, LEN(deepest), 0);
     deepest[8] = 1;
     q = asks(deepest, LEN(deepest));
     q.target[0] = 1;
@@ -358,11 +436,7 @@ int main(void) {
         q = asks(readings[i].words, readings[i].len);
         q.list = readings[i].argument, q.list_len = readings[i].list_len;
         memcpy(q.target, readings[i].argument, sizeof readings[i].argument);
-        if (readings[i].number == 0) {
-            answers_words(readings[i].name, q, readings[i].result, readings[i].result_len, readings[i].trials);
-        } else {
-            answer(readings[i].name, q, readings[i].number, readings[i].place);
-        }
+        answers_either_way(readings[i].name, q, readings[i].number, readings[i].place, readings[i].result, readings[i].result_len, readings[i].trials);
     }
 
     printf("C test: %d passed, %d failed\n", passed, failed);

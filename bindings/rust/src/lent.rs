@@ -125,19 +125,19 @@ macro_rules! cuts_by_list {
     };
 }
 
-/// A cut to a target.
+/// A cut to a target. The symbols end in 2: those that don't took no `as_is`.
 macro_rules! cuts_to {
     ($name:ident, $symbol:ident, $target:ty) => {
         #[doc = concat!("[`crate::", stringify!($name), "`], over what is lent.")]
-        pub fn $name(words: &[u32], target: $target, room: &mut [u32], output: &mut [u32]) -> Approximation {
+        pub fn $name(words: &[u32], target: $target, as_is: bool, room: &mut [u32], output: &mut [u32]) -> Approximation {
             extern "C" {
                 fn $symbol(
-                    words: *const u32, words_len: usize, target: $target,
+                    words: *const u32, words_len: usize, target: $target, as_is: u32,
                     room: *mut u32, room_len: usize, output: *mut u32, output_len: usize,
                 ) -> Approximation;
             }
             let (out, out_len) = (output.as_mut_ptr(), output.len());
-            unsafe { $symbol(words.as_ptr(), words.len(), target, room.as_mut_ptr(), room.len(), out, out_len) }
+            unsafe { $symbol(words.as_ptr(), words.len(), target, as_is as u32, room.as_mut_ptr(), room.len(), out, out_len) }
         }
     };
 }
@@ -159,10 +159,10 @@ writes!(size_per_variable, houayletan_size_per_variable, Verdict);
 writes!(not, houayletan_not, Diagram);
 cuts_by_list!(underapproximate, houayletan_underapproximate);
 cuts_by_list!(overapproximate, houayletan_overapproximate);
-cuts_to!(underapproximate_to_size, houayletan_underapproximate_to_size, u32);
-cuts_to!(overapproximate_to_size, houayletan_overapproximate_to_size, u32);
-cuts_to!(underapproximate_to_cardinality, houayletan_underapproximate_to_cardinality, Count);
-cuts_to!(overapproximate_to_cardinality, houayletan_overapproximate_to_cardinality, Count);
+cuts_to!(underapproximate_to_size, houayletan_underapproximate_to_size_2, u32);
+cuts_to!(overapproximate_to_size, houayletan_overapproximate_to_size_2, u32);
+cuts_to!(underapproximate_to_cardinality, houayletan_underapproximate_to_cardinality_2, Count);
+cuts_to!(overapproximate_to_cardinality, houayletan_overapproximate_to_cardinality_2, Count);
 
 /// Makes the first `count` words zero, or all where there are fewer.
 pub fn clear(room: &mut [u32], count: usize) {

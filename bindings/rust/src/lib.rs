@@ -301,64 +301,89 @@ fn cut(words: &[u32], write: impl FnOnce(&mut [u32], &mut [u32]) -> lent::Approx
 }
 
 /// Holds for fewer valuations and has at most `target` nodes; the nodes of least weight go first. A diagram of no more than
-/// `target` nodes comes out as it is; any other gives false for targets 1 and 2. Refusals: the diagram's own, then 18 for
-/// target 0.
+/// `target` nodes is not cut: it comes out reduced, or where `as_is` is set with its words as they are. Any other gives false for
+/// targets 1 and 2, and is searched whatever `as_is`, also where it is small enough once it is reduced. Refusals: the diagram's
+/// own, then 18 for target 0.
 ///
 /// ```
 /// let words = [3, 0, 0, 3, 1, 1, 2, 0, 1, 1, 2, 1, 0, 2, 3];
-/// let cut = houayletan::underapproximate_to_size(&words, 4)?;
+/// let cut = houayletan::underapproximate_to_size(&words, 4, false)?;
 /// assert_eq!((cut.words, cut.trials), (vec![3, 0, 0, 3, 1, 1, 2, 0, 1, 0, 2, 0], 2));
-/// assert_eq!(houayletan::underapproximate_to_size(&words, 1)?.words, [3, 0, 0]);
-/// assert_eq!(houayletan::underapproximate_to_size(&words, 0).unwrap_err().number, 18);
+/// assert_eq!(houayletan::underapproximate_to_size(&words, 1, false)?.words, [3, 0, 0]);
+/// assert_eq!(houayletan::underapproximate_to_size(&words, 0, false).unwrap_err().number, 18);
+///
+/// // x1, under a root with low = high
+/// let words = [2, 0, 0, 2, 1, 1, 1, 0, 1, 0, 2, 2];
+/// let met = houayletan::underapproximate_to_size(&words, 4, false)?;
+/// assert_eq!((met.words, met.trials), (vec![2, 0, 0, 2, 1, 1, 1, 0, 1], 0));
+/// let met = houayletan::underapproximate_to_size(&words, 4, true)?;
+/// assert_eq!((met.words, met.trials), (words.to_vec(), 0));
+/// // one node fewer is searched for
+/// let cut = houayletan::underapproximate_to_size(&words, 3, true)?;
+/// assert_eq!((cut.words, cut.trials), (vec![2, 0, 0, 2, 1, 1, 1, 0, 1], 1));
 /// # Ok::<(), houayletan::Refusal>(())
 /// ```
-pub fn underapproximate_to_size(words: &[u32], target: u32) -> Result<Cut, Refusal> {
-    cut(words, |room, output| lent::underapproximate_to_size(words, target, room, output))
+pub fn underapproximate_to_size(words: &[u32], target: u32, as_is: bool) -> Result<Cut, Refusal> {
+    cut(words, |room, output| lent::underapproximate_to_size(words, target, as_is, room, output))
 }
 
 /// Holds for more valuations and has at most `target` nodes: the negation is cut and negated back. A diagram of no more than
-/// `target` nodes comes out as it is; any other gives true for target 2 and false for target 1. Refusals: the diagram's own,
-/// then 18 for target 0, and for target 1 where the diagram holds for some valuation.
+/// `target` nodes is not cut: it comes out reduced, or where `as_is` is set with its words as they are. Any other gives true for
+/// target 2 and false for target 1. Refusals: the diagram's own, then 18 for target 0, and for target 1 where the diagram holds
+/// for some valuation.
 ///
 /// ```
 /// let words = [3, 0, 0, 3, 1, 1, 2, 0, 1, 1, 2, 1, 0, 2, 3];
-/// let cut = houayletan::overapproximate_to_size(&words, 4)?;
+/// let cut = houayletan::overapproximate_to_size(&words, 4, false)?;
 /// assert_eq!((cut.words, cut.trials), (vec![3, 0, 0, 3, 1, 1, 2, 0, 1, 0, 2, 1], 2));
 /// // false, in three nodes
-/// assert_eq!(houayletan::overapproximate_to_size(&[1, 0, 0, 1, 1, 1, 0, 0, 0], 1)?.words, [1, 0, 0]);
-/// let refusal = houayletan::overapproximate_to_size(&words, 1).unwrap_err();
+/// let words_of_false = [1, 0, 0, 1, 1, 1, 0, 0, 0];
+/// assert_eq!(houayletan::overapproximate_to_size(&words_of_false, 1, false)?.words, [1, 0, 0]);
+/// assert_eq!(houayletan::overapproximate_to_size(&words_of_false, 3, false)?.words, [1, 0, 0]);
+/// assert_eq!(houayletan::overapproximate_to_size(&words_of_false, 3, true)?.words, words_of_false);
+/// let refusal = houayletan::overapproximate_to_size(&words, 1, false).unwrap_err();
 /// assert_eq!(refusal.to_string(), "refused 18 at 0: no answer has so few nodes; 2 are always enough");
 /// # Ok::<(), houayletan::Refusal>(())
 /// ```
-pub fn overapproximate_to_size(words: &[u32], target: u32) -> Result<Cut, Refusal> {
-    cut(words, |room, output| lent::overapproximate_to_size(words, target, room, output))
+pub fn overapproximate_to_size(words: &[u32], target: u32, as_is: bool) -> Result<Cut, Refusal> {
+    cut(words, |room, output| lent::overapproximate_to_size(words, target, as_is, room, output))
 }
 
-/// Holds for at most `target` valuations, all of them the diagram's. A count that is no more than `target` leaves the diagram
-/// as it is; 0 gives the one-node false. Refusals: the diagram's own, then 19 for the two-node diagram.
+/// Holds for at most `target` valuations, all of them the diagram's. Where the count is no more than `target`, nothing is cut: the
+/// diagram comes out reduced, or where `as_is` is set with its words as they are. 0 gives the one-node false, whatever `as_is`.
+/// Refusals: the diagram's own, then 19 for the two-node diagram.
 ///
 /// ```
 /// let words = [3, 0, 0, 3, 1, 1, 2, 0, 1, 1, 2, 1, 0, 2, 3];
-/// let cut = houayletan::underapproximate_to_cardinality(&words, 4u32.into())?;
+/// let cut = houayletan::underapproximate_to_cardinality(&words, 4u32.into(), false)?;
 /// assert_eq!((cut.words, cut.trials), (vec![3, 0, 0, 3, 1, 1, 2, 0, 1, 0, 2, 0], 1));
+/// // x1, under a root with low = high: two valuations
+/// let words = [2, 0, 0, 2, 1, 1, 1, 0, 1, 0, 2, 2];
+/// assert_eq!(houayletan::underapproximate_to_cardinality(&words, 2u32.into(), false)?.words, words[..9]);
+/// assert_eq!(houayletan::underapproximate_to_cardinality(&words, 2u32.into(), true)?.words, words);
 /// # Ok::<(), houayletan::Refusal>(())
 /// ```
-pub fn underapproximate_to_cardinality(words: &[u32], target: Count) -> Result<Cut, Refusal> {
-    cut(words, |room, output| lent::underapproximate_to_cardinality(words, target, room, output))
+pub fn underapproximate_to_cardinality(words: &[u32], target: Count, as_is: bool) -> Result<Cut, Refusal> {
+    cut(words, |room, output| lent::underapproximate_to_cardinality(words, target, as_is, room, output))
 }
 
-/// Holds for at least `target` valuations, all of the diagram's among them. A count that is no less than `target` leaves the
-/// diagram as it is. Refusals: the diagram's own, then 16 above 2^v, then 19 for the one-node diagram.
+/// Holds for at least `target` valuations, all of the diagram's among them. Where the count is no less than `target`, nothing is
+/// cut: the diagram comes out reduced, or where `as_is` is set with its words as they are. Refusals: the diagram's own, then 16
+/// above 2^v, then 19 for the one-node diagram.
 ///
 /// ```
 /// let words = [3, 0, 0, 3, 1, 1, 2, 0, 1, 1, 2, 1, 0, 2, 3];
-/// let cut = houayletan::overapproximate_to_cardinality(&words, 8u32.into())?;
+/// let cut = houayletan::overapproximate_to_cardinality(&words, 8u32.into(), false)?;
 /// assert_eq!((cut.words, cut.trials), (vec![3, 0, 0, 3, 1, 1], 0));
-/// assert_eq!(houayletan::overapproximate_to_cardinality(&words, 9u32.into()).unwrap_err().number, 16);
+/// assert_eq!(houayletan::overapproximate_to_cardinality(&words, 9u32.into(), false).unwrap_err().number, 16);
+/// // x1, under a root with low = high: two valuations
+/// let words = [2, 0, 0, 2, 1, 1, 1, 0, 1, 0, 2, 2];
+/// assert_eq!(houayletan::overapproximate_to_cardinality(&words, 2u32.into(), false)?.words, words[..9]);
+/// assert_eq!(houayletan::overapproximate_to_cardinality(&words, 2u32.into(), true)?.words, words);
 /// # Ok::<(), houayletan::Refusal>(())
 /// ```
-pub fn overapproximate_to_cardinality(words: &[u32], target: Count) -> Result<Cut, Refusal> {
-    cut(words, |room, output| lent::overapproximate_to_cardinality(words, target, room, output))
+pub fn overapproximate_to_cardinality(words: &[u32], target: Count, as_is: bool) -> Result<Cut, Refusal> {
+    cut(words, |room, output| lent::overapproximate_to_cardinality(words, target, as_is, room, output))
 }
 
 #[cfg(test)]
@@ -390,6 +415,27 @@ mod tests {
             let refusal = Refusal { number, place: 7 };
             assert!(!refusal.sentence().contains("no table"), "{number}");
             assert!(refusal.to_string().starts_with(&format!("refused {number} at 7: ")));
+        }
+    }
+
+    #[test]
+    fn a_flag_matters_only_where_the_target_is_met() {
+        // x1, under a root with low = high: four nodes, two of the four valuations
+        let words = [2, 0, 0, 2, 1, 1, 1, 0, 1, 0, 2, 2];
+        let all = |size: u32, below: u32, above: u32, as_is: bool| {
+            [
+                underapproximate_to_size(&words, size, as_is),
+                overapproximate_to_size(&words, size, as_is),
+                underapproximate_to_cardinality(&words, below.into(), as_is),
+                overapproximate_to_cardinality(&words, above.into(), as_is),
+            ]
+            .map(|cut| cut.map(|cut| (cut.words, cut.trials)).unwrap())
+        };
+        for (as_is, kept) in [(false, 9), (true, 12)] {
+            assert_eq!(vec![(words[..kept].to_vec(), 0); 4], all(4, 2, 2, as_is));
+            let reduced = (words[..9].to_vec(), 1);
+            assert_eq!(all(3, 1, 3, as_is), [reduced.clone(), reduced, (vec![2, 0, 0], 1), (vec![2, 0, 0, 2, 1, 1], 1)]);
+            assert_eq!(underapproximate_to_cardinality(&words, Count::ZERO, as_is), Ok(Cut { words: vec![2, 0, 0], trials: 0 }));
         }
     }
 

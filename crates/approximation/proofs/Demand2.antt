@@ -23,7 +23,7 @@ use Rattle.approximation.proofs.Members.{each-listed, count-listed, ord
 use Rattle.approximation.proofs.Listing.{list-accepted, list-verdict, under-accepted-open, over-accepted-open, over-accepted-most}
 use Rattle.approximation.proofs.Rules.{under-size, over-size, under-count, over-count}
 use Rattle.approximation.proofs.Sizing.{under-accepted-some, over-accepted-some, over-accepted-least, size-verdict}
-use Rattle.approximation.proofs.Targets.{to-size-under, to-size-fits, over-to-size-over, over-to-size-fits, to-count-under, to-count-fits, over-to-count-over, over-to-count-fits}
+use Rattle.approximation.proofs.Settling.{size-under, size-over, count-under, count-over, settles-size-under, settles-size-over, settles-count-under, settles-count-over}
 
 module _ (w list : List ℕ) (o : Ordered w) where
   list-holds : (t : ℕ) → t < 2 → (bs : List Bool) → length bs ≡ vars w
@@ -86,17 +86,16 @@ demand2 = record {
   priorities = λ w. record { sorted = order-sorted w; distinct = order-distinct w; nodes = order-listed w };
   no-others = λ w list p. order-unique w list (p .sorted) (p .distinct) (p .nodes);
   size-verdict = size-verdict;
-  size-under = λ w t a e. (to-size-under w t a, to-size-fits w t a (under-accepted-some w t e));
-  size-over = λ w t a e.
-      (over-to-size-over w t a (over-accepted-some w t e), over-to-size-fits w t a (over-accepted-some w t e));
+  size-under = λ as-is w t a e. size-under w t a as-is (under-accepted-some w t e);
+  size-over = λ as-is w t a e. size-over w t a as-is (over-accepted-some w t e);
+  count-under = λ as-is w k a e. count-under w k a (under-accepted-open w k e) as-is;
+  count-over = λ as-is w k a e. count-over w k a (over-accepted-most w k e) (over-accepted-open w k e) as-is;
+  settles-size-under = settles-size-under;
+  settles-size-over = settles-size-over;
+  settles-count-under = λ w k a e. settles-count-under w k a (under-accepted-open w k e);
+  settles-count-over = λ w k a e. settles-count-over w k a (over-accepted-most w k e) (over-accepted-open w k e);
   under-size = λ w t e. under-size w t (under-accepted-some w t e);
   over-size = λ w t a e. over-size w t a (over-accepted-least w t e);
-  count-under = λ w k a e.
-      (to-count-under w k a (under-accepted-open w k e), to-count-fits w k a (under-accepted-open w k e));
-  count-over = λ w k a e. (
-    over-to-count-over w k a (over-accepted-most w k e) (over-accepted-open w k e),
-    over-to-count-fits w k a (over-accepted-most w k e) (over-accepted-open w k e),
-  );
   under-count = λ w k a e. under-count w k a (under-accepted-open w k e);
   over-count = λ w k a e. over-count w k a (over-accepted-most w k e) (over-accepted-open w k e);
 }

@@ -9,6 +9,8 @@
 --     Sizing     what refuses a size target
 --     Search     the searches obey their rules
 --     Targets    answers to a target: inclusion, and the target met
+--     Mirrored   the negation of a reduced array is reduced
+--     Settling   targets that are met already
 --     Rules      the answers are what document 01's sentences say, and nothing else is
 --     Demand2    what is promised of cuts
 --     Nights     the examples of document 01
@@ -22,6 +24,8 @@ pub mod Listing
 pub mod Sizing
 pub mod Search
 pub mod Targets
+pub mod Mirrored
+pub mod Settling
 pub mod Rules
 pub mod Demand2
 pub mod Nights

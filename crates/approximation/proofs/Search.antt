@@ -13,12 +13,13 @@ use Rattle.diagram.specs.Diagram.{size, vars, root, holds, Ordered}
 use Rattle.diagram.specs.Valuations.{countOf, weightOf}
 use Rattle.diagram.proofs.Tests.{by-test, by-eq}
 use Rattle.diagram.proofs.Tally.{tally-none}
+use Rattle.reduction.specs.Reduce.{reduce}
 use Rattle.approximation.specs.Constants.{falseOf}
 use Rattle.approximation.specs.Cut.{listed, Under}
 use Rattle.approximation.specs.Search.{Answer, answer, order, cutFirst, middle, sizeSearch, covering, reached, countSearch}
 use Rattle.approximation.specs.Rules.{SizeRules, last, exact, fewer, more, CountRules, enough, on}
 use Rattle.approximation.proofs.Constants.{false-holds}
-use Rattle.approximation.proofs.Cut.{cut-root-under, cut-size, cut-under}
+use Rattle.approximation.proofs.Cut.{cut-root-under, cut-size, cut-reduced, cut-under}
 use Rattle.approximation.proofs.Members.{order-length, first-hits, root-taken}
 
 -- ---- the cut by the first priorities
@@ -27,6 +28,10 @@ module _ (w : List ℕ) (o : Ordered w) (c : ℕ) where
   pub first-under : Under w (cutFirst w c)
   unfolding cutFirst
   first-under = cut-under w o (listed (take c (order w)))
+
+  pub first-reduced : reduce (cutFirst w c) ≡ cutFirst w c
+  unfolding cutFirst
+  first-reduced = cut-reduced w o (listed (take c (order w))) 0 (omega arith)
 
   first-root : listed (take c (order w)) (root w) ≡ true → cutFirst w c ≡ falseOf (vars w)
   unfolding cutFirst

@@ -101,7 +101,7 @@ module _ (w : List ℕ) (t : ℕ) (a : Accepted w) where
   ordered = accepted-ordered w a
 
   -- Where the search begins the last cut that it may come to fits.
-  search-by : (P : List ℕ → Type 0) → ((c : ℕ) → size (cutFirst w c) ≤ t → P (cutFirst w c)) → 2 < t → t < size w
+  pub search-by : (P : List ℕ → Type 0) → ((c : ℕ) → size (cutFirst w c) ≤ t → P (cutFirst w c)) → 2 < t → t < size w
       → P (sizeSearch w t (size w - t) 0 (size w - t) 0 .words)
   search-by P each low high =
       let fits = first-size w ordered (size w - t) (omega arith) in
@@ -139,7 +139,7 @@ over-by-negation w u a under =
           (λ e. ap not e);
     }
 
-back-words : (a : Answer) → back a .words ≡ negated (a .words)
+pub back-words : (a : Answer) → back a .words ≡ negated (a .words)
 unfolding back
 back-words a = refl
 
@@ -249,7 +249,7 @@ module _ (w : List ℕ) (k : ℕ) (a : Accepted w) (open-target : Open w k) wher
       (λ e. let none = one-count w e in absurd (omega arith))
       (λ x. by-eq (size w) 2 (λ e. absurd (open-target e h (omega arith))) (λ y. omega arith))
 
-  count-search-by : (P : List ℕ → Type 0) → ((c : ℕ) → countOf (cutFirst w c) ≤ k → P (cutFirst w c)) → 0 < k → k < countOf w
+  pub count-search-by : (P : List ℕ → Type 0) → ((c : ℕ) → countOf (cutFirst w c) ≤ k → P (cutFirst w c)) → 0 < k → k < countOf w
       → P (countSearch w k (size w - 2) 0 (countOf w - k) 0 .words)
   count-search-by P each low high =
       by-count-rules w k P each
@@ -290,7 +290,7 @@ module _ (w : List ℕ) (k : ℕ) (a : Accepted w) (most : k ≤ 2 ^ vars w) (op
       let v = ap (λ (n : ℕ). 2 ^ n) (negated-vars w a) in
       open-target one (omega arith) (omega arith)
 
-  over-words : countOf w < k → overToCount w k .words ≡ negated (underToCount (negated w) (opposite w k) .words)
+  pub over-words : countOf w < k → overToCount w k .words ≡ negated (underToCount (negated w) (opposite w k) .words)
   over-words high = ap (λ (x : Answer). x .words) (over-count-negates w k high) ∙ back-words (underToCount (negated w) (opposite w k))
 
   by-over-count : (P : List ℕ → Type 0) → (k ≤ countOf w → P w)
@@ -300,7 +300,7 @@ module _ (w : List ℕ) (k : ℕ) (a : Accepted w) (most : k ≤ 2 ^ vars w) (op
     | no h ↦ rw (over-count-same w k (omega arith)) (same (omega arith))
   ]
 
-  negation-under : countOf w < k → Under (negated w) (underToCount (negated w) (opposite w k) .words)
+  pub negation-under : countOf w < k → Under (negated w) (underToCount (negated w) (opposite w k) .words)
   negation-under h = to-count-under (negated w) (opposite w k) (negated-accepted w a) (opposite-open h)
 
   pub over-to-count-over : Over w (overToCount w k .words)

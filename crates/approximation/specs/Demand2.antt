@@ -14,6 +14,7 @@ use Rattle.reduction.specs.Reduce.{reduce}
 use Rattle.approximation.specs.Constants.{falseOf, trueOf}
 use Rattle.approximation.specs.Cut.{listed, underBy, overBy, listOf, underSizeOf, overSizeOf, underCountOf, overCountOf, Under, Over, send}
 use Rattle.approximation.specs.Search.{Answer, goesFirst, order, underToSize, overToSize, underToCount, overToCount}
+use Rattle.approximation.specs.Met.{underSizeAnswer, overSizeAnswer, underCountAnswer, overCountAnswer, Settles}
 use Rattle.approximation.specs.Sorted.{Distinct, Sorted}
 use Rattle.approximation.specs.Rules.{UnderSize, OverSize, UnderCount, OverCount}
 
@@ -88,22 +89,29 @@ pub record Demand2 : Type 0 where
   pub empty : (w : List ℕ) → (underBy w [] ≡ reduce w) × (overBy w [] ≡ reduce w)
   pub priorities : (w : List ℕ) → Priorities w (order w)
   pub no-others : (w list : List ℕ) → Priorities w list → list ≡ order w
-  -- to a size that is not refused: on the right side, with at most t nodes; the answer and its trials are what the
-  -- sentences of Rules.antt say, and no other
+  -- to a size that is not refused, whether or not the words are to be kept as they are: on the right side, with at most t nodes
   pub size-verdict : (w : List ℕ) (t : ℕ) → SizeVerdict w t
-  pub size-under : (w : List ℕ) (t : ℕ) → Accepted w → underSizeOf w t ≡ accepted (size w) (vars w)
-      → Under w (underToSize w t .words) × (size (underToSize w t .words) ≤ t)
-  pub size-over : (w : List ℕ) (t : ℕ) → Accepted w → overSizeOf w t ≡ accepted (size w) (vars w)
-      → Over w (overToSize w t .words) × (size (overToSize w t .words) ≤ t)
+  pub size-under : (as-is : Bool) (w : List ℕ) (t : ℕ) → Accepted w → underSizeOf w t ≡ accepted (size w) (vars w)
+      → Under w (underSizeAnswer as-is w t .words) × (size (underSizeAnswer as-is w t .words) ≤ t)
+  pub size-over : (as-is : Bool) (w : List ℕ) (t : ℕ) → Accepted w → overSizeOf w t ≡ accepted (size w) (vars w)
+      → Over w (overSizeAnswer as-is w t .words) × (size (overSizeAnswer as-is w t .words) ≤ t)
+  -- to a count that is not refused, likewise: at most k valuations from below, at least k from above
+  pub count-under : (as-is : Bool) (w : List ℕ) (k : ℕ) → Accepted w → underCountOf w k ≡ accepted (size w) (vars w)
+      → Under w (underCountAnswer as-is w k .words) × (countOf (underCountAnswer as-is w k .words) ≤ k)
+  pub count-over : (as-is : Bool) (w : List ℕ) (k : ℕ) → Accepted w → overCountOf w k ≡ accepted (size w) (vars w)
+      → Over w (overCountAnswer as-is w k .words) × (k ≤ countOf (overCountAnswer as-is w k .words))
+  -- where they are to be kept these are the answers of document 01, else the same functions, reduced, after as many trials
+  pub settles-size-under : (w : List ℕ) (t : ℕ) → Accepted w → Settles (underToSize w t) (λ as-is. underSizeAnswer as-is w t)
+  pub settles-size-over : (w : List ℕ) (t : ℕ) → Accepted w → Settles (overToSize w t) (λ as-is. overSizeAnswer as-is w t)
+  pub settles-count-under : (w : List ℕ) (k : ℕ) → Accepted w → underCountOf w k ≡ accepted (size w) (vars w)
+      → Settles (underToCount w k) (λ as-is. underCountAnswer as-is w k)
+  pub settles-count-over : (w : List ℕ) (k : ℕ) → Accepted w → overCountOf w k ≡ accepted (size w) (vars w)
+      → Settles (overToCount w k) (λ as-is. overCountAnswer as-is w k)
+  -- the answers of document 01 and their trials are what the sentences of Rules.antt say, and no other
   pub under-size : (w : List ℕ) (t : ℕ) → underSizeOf w t ≡ accepted (size w) (vars w)
       → (a : Answer) → UnderSize w t a ↔ (a ≡ underToSize w t)
   pub over-size : (w : List ℕ) (t : ℕ) → Accepted w → overSizeOf w t ≡ accepted (size w) (vars w)
       → (a : Answer) → OverSize w t a ↔ (a ≡ overToSize w t)
-  -- to a count that is not refused, likewise: at most k valuations from below, at least k from above
-  pub count-under : (w : List ℕ) (k : ℕ) → Accepted w → underCountOf w k ≡ accepted (size w) (vars w)
-      → Under w (underToCount w k .words) × (countOf (underToCount w k .words) ≤ k)
-  pub count-over : (w : List ℕ) (k : ℕ) → Accepted w → overCountOf w k ≡ accepted (size w) (vars w)
-      → Over w (overToCount w k .words) × (k ≤ countOf (overToCount w k .words))
   pub under-count : (w : List ℕ) (k : ℕ) → Accepted w → underCountOf w k ≡ accepted (size w) (vars w)
       → (a : Answer) → UnderCount w k a ↔ (a ≡ underToCount w k)
   pub over-count : (w : List ℕ) (k : ℕ) → Accepted w → overCountOf w k ≡ accepted (size w) (vars w)

@@ -3,6 +3,7 @@
 --     Links      a diagram with its links sent elsewhere
 --     Cut        cutting by a list, and what refuses a list or a target
 --     Search     priorities, and cutting to a size or to a count
+--     Met        the answer to a target that is met already
 --     Sorted     what a sorted list without repeats is
 --     Rules      what document 01 says of these answers, sentence by sentence, with no fuel
 --     Demand2    what is promised of cuts
@@ -13,6 +14,7 @@ pub mod Constants
 pub mod Links
 pub mod Cut
 pub mod Search
+pub mod Met
 pub mod Sorted
 pub mod Rules
 pub mod Demand2

@@ -1,6 +1,8 @@
--- "Nights worked out by hand" of document 01, as one list of cases, each with its reply (`nights` of proofs/Nights.antt).
+-- "Nights worked out by hand" of document 01, and what document 02's E8 makes of a target that is met already, as one list of
+-- cases, each with its reply (`nights` of proofs/Nights.antt).
 use Prim.Native.Nat.{ℕ, _*_}
 use mathlib.Core.Path.{_≡_}
+use mathlib.Core.Bool.{true, false}
 use mathlib.Core.List.{List, [], _∷_, _++_, map}
 use Rattle.naturals.specs.Natural.{wordCount}
 use Rattle.diagram.specs.Diagram.{size, vars}
@@ -12,6 +14,7 @@ use Rattle.approximation.specs.Links.{table}
 use Rattle.approximation.specs.Constants.{falseOf, trueOf}
 use Rattle.approximation.specs.Cut.{underBy, overBy, listOf, underCountOf, overCountOf}
 use Rattle.approximation.specs.Search.{Answer, order, underToSize, overToSize, underToCount, overToCount}
+use Rattle.approximation.specs.Met.{underSizeAnswer, overSizeAnswer, underCountAnswer, overCountAnswer}
 
 -- x2, or x0 and x1; and x0 and x1 and x2.
 abbrev pub D : List ℕ
@@ -19,6 +22,10 @@ D = 3 ∷ 0 ∷ 0 ∷ 3 ∷ 1 ∷ 1 ∷ 2 ∷ 0 ∷ 1 ∷ 1 ∷ 2 ∷ 1 ∷ 0 �
 
 abbrev pub all-three : List ℕ
 all-three = 3 ∷ 0 ∷ 0 ∷ 3 ∷ 1 ∷ 1 ∷ 2 ∷ 0 ∷ 1 ∷ 1 ∷ 0 ∷ 2 ∷ 0 ∷ 0 ∷ 3 ∷ []
+
+-- x1, over a root with low = high.
+abbrev pub long-x1 : List ℕ
+long-x1 = 2 ∷ 0 ∷ 0 ∷ 2 ∷ 1 ∷ 1 ∷ 1 ∷ 0 ∷ 1 ∷ 0 ∷ 2 ∷ 2 ∷ []
 
 -- A reply: a refusal's number and place; numbers; or words, with their count or with the trials made.
 pub data Reply : Type 0 where
@@ -77,6 +84,16 @@ cases =
     -- C12
     ∷ (toCount overCountOf overToCount D 8, words (trueOf 3) 0)
     ∷ (toCount overCountOf overToCount D 9, refusal 16 0)
+    -- E8: size 3 is met by what is left of the array, but not by the array; size 4 is, and its words may be kept; count 2 too
+    ∷ (toSize (underSizeAnswer false) long-x1 3, words (2 ∷ 0 ∷ 0 ∷ 2 ∷ 1 ∷ 1 ∷ 1 ∷ 0 ∷ 1 ∷ []) 1)
+    ∷ (toSize (underSizeAnswer false) long-x1 4, words (2 ∷ 0 ∷ 0 ∷ 2 ∷ 1 ∷ 1 ∷ 1 ∷ 0 ∷ 1 ∷ []) 0)
+    ∷ (toSize (underSizeAnswer true) long-x1 4, words long-x1 0)
+    ∷ (toSize (overSizeAnswer false) long-x1 4, words (2 ∷ 0 ∷ 0 ∷ 2 ∷ 1 ∷ 1 ∷ 1 ∷ 0 ∷ 1 ∷ []) 0)
+    ∷ (toSize (overSizeAnswer true) long-x1 4, words long-x1 0)
+    ∷ (toCount underCountOf (underCountAnswer false) long-x1 2, words (2 ∷ 0 ∷ 0 ∷ 2 ∷ 1 ∷ 1 ∷ 1 ∷ 0 ∷ 1 ∷ []) 0)
+    ∷ (toCount underCountOf (underCountAnswer true) long-x1 2, words long-x1 0)
+    ∷ (toCount overCountOf (overCountAnswer false) long-x1 2, words (2 ∷ 0 ∷ 0 ∷ 2 ∷ 1 ∷ 1 ∷ 1 ∷ 0 ∷ 1 ∷ []) 0)
+    ∷ (toCount overCountOf (overCountAnswer true) long-x1 2, words long-x1 0)
     ∷ []
 
 -- In each case what is replied is what stands beside it.

@@ -5,7 +5,7 @@ use diagram::node::word;
 use houayletan::HouayletanVerdict;
 use houayletan::asking::houayletan_is_false;
 use houayletan::cutting::houayletan_overapproximate;
-use houayletan::cutting::houayletan_underapproximate_to_size;
+use houayletan::cutting::houayletan_underapproximate_to_size_2;
 use houayletan::houayletan_exact_cardinality;
 use houayletan::houayletan_validate;
 use libc::STDOUT_FILENO;
@@ -59,7 +59,7 @@ fn cut(words: &[u32], room: &mut [u32], output: &mut [u32]) {
 }
 
 fn cut_to_size(words: &[u32], room: &mut [u32], output: &mut [u32]) {
-    let answer = houayletan_underapproximate_to_size(words, 4, room, output);
+    let answer = houayletan_underapproximate_to_size_2(words, 4, 0, room, output);
     let verdict = answer.verdict;
     say_verdict(verdict);
     say(b", nodes ", answer.nodes as u64);

@@ -1,4 +1,4 @@
--- The answers to a count target that take no search, and what a search begins with.
+-- The answer to a count target that takes no search, and what a search begins with.
 use Prim.Native.Nat.{ℕ, _+_, _-_, _*_, _≤_, _<_, max}
 use mathlib.Core.Path.{_≡_, refl, sym, _∙_}
 use mathlib.Core.Bool.{true, false}
@@ -21,7 +21,7 @@ use Rattle.weights.proofs.Ascent.{rises}
 use Rattle.approximation.specs.Cut.{listed}
 use Rattle.approximation.specs.Search.{Answer, underToCount}
 use Rattle.approximation.proofs.Listing.{under-accepted-open}
-use Rattle.approximation.proofs.Targets.{one-count, to-count-none, to-count-same, search-many}
+use Rattle.approximation.proofs.Targets.{one-count, to-count-none, search-many}
 use Rattle.priorities.specs.Prioritised.{Fits, Prioritised}
 use Rattle.cuts.specs.Marks.{markedIn}
 use Rattle.cuts.proofs.Rooms.{drop-more}
@@ -31,9 +31,9 @@ use Rattle.counts.proofs.Nodes.{total-valuations}
 use Rattle.recounts.proofs.Counting.{whole-lent, whole-put, whole-behind, whole-stale}
 use Rattle.trials.specs.Trials.{Searching, Preparing, Found}
 use Rattle.trials.specs.First.{Unmarkable, Unmarked}
-use Rattle.trials.specs.Answers.{Constant, Keeping, Kept}
+use Rattle.trials.specs.Answers.{Constant}
 use Rattle.trials.proofs.Readying.{ready-ordered, ready-marks}
-use Rattle.trials.proofs.Early.{searching-ordered, searching-few, searching-keeps, searching-kept, falsely}
+use Rattle.trials.proofs.Early.{searching-ordered, searching-few, falsely}
 use Rattle.count_search.specs.Rounds.{Counted, Taken, Seeking, Aiming, Weighing, Weighed, Above}
 
 -- ---- the count
@@ -59,7 +59,7 @@ module _ {w r : List ℕ} {n v : ℕ} (a : Searching w r n v) where
       record {
         count = holds-as (total-valuations w (searching-ordered a)) (t .total);
         kept = part-kept (linksFrom n) (countsTo n) r part (omega arith) counted-inside same;
-        beyond = drop-more (countsTo n) (searchTo (most w)) after r (omega arith) (part-beyond (linksFrom n) (countsTo n) r part (omega arith) counted-inside same);
+        beyond = drop-more (countsTo n) (countsTo (most w)) after r (omega arith) (part-beyond (linksFrom n) (countsTo n) r part (omega arith) counted-inside same);
         whole = λ two.
             whole-put (record { ordered = searching-ordered a; nodes = is; two = omega arith }) (countsTo n) r (omega arith) counted-inside same
             (t .head two) (t .worths two);
@@ -72,6 +72,9 @@ module _ {w r : List ℕ} {n v : ℕ} (a : Searching w r n v) where
         let kept = x .kept in
         record { accepted = a .accepted; is-size = a .is-size; is-vars = a .is-vars; long = omega arith }
 
+    pub counted-beyond : drop (searchTo (most w)) b ≡ drop (searchTo (most w)) r
+    counted-beyond = drop-more (countsTo (most w)) (searchTo (most w)) b r (omega arith) (x .beyond)
+
     -- what is found where it was counted is found
     pub counted-found : {d : Answer} {after : List ℕ} {j trials : ℕ} → Found w d b after j trials → Found w d r after j trials
     counted-found f = record {
@@ -81,7 +84,7 @@ module _ {w r : List ℕ} {n v : ℕ} (a : Searching w r n v) where
       fits = f .fits;
       kept = f .kept ∙ x .kept;
       made = f .made;
-      beyond = f .beyond ∙ x .beyond;
+      beyond = f .beyond ∙ counted-beyond;
     }
 
 -- ---- the answers
@@ -97,15 +100,6 @@ module _ {w r : List ℕ} {k n v : ℕ} (a : Aiming w r k n v) where
   aiming-none e c = falsely (a .searching) c (to-count-none w k e)
 
   module _ {heads b count : List ℕ} (x : Counted w heads r b count) where
-    pub aiming-keeps : {m : ℕ} → m ≡ max n 2 → Keeping w b m
-    aiming-keeps is-m = searching-keeps (counted-searches (a .searching) x) is-m
-
-    pub aiming-kept : (k ≡ 0 → ⊥) → value count ≤ k → {m : ℕ} → m ≡ max n 2 → {after : List ℕ} → Kept w m b after → Found w (underToCount w k) r after n 0
-    aiming-kept ne met is-m y =
-        let e = x .count .worth in
-        counted-found (a .searching) x
-        (searching-kept (counted-searches (a .searching) x) is-m y (to-count-same w k (omega arith) (omega arith)))
-
     pub aiming-above : (k ≡ 0 → ⊥) → k < value count → Above w heads b k (value count) n v
     aiming-above ne high =
         let e = x .count .worth in

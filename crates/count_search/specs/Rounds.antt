@@ -55,7 +55,7 @@ pub record Seeking (w heads sent r : List ℕ) (k count n v : ℕ) : Type 0 wher
 pub record Counted (w heads r after words : List ℕ) : Type 0 where
   pub count : Holds (countOf w) words
   pub kept : length after ≡ length r
-  pub beyond : drop (searchTo (most w)) after ≡ drop (searchTo (most w)) r
+  pub beyond : drop (countsTo (most w)) after ≡ drop (countsTo (most w)) r
   pub whole : 2 ≤ size w → Whole w heads after
 
 -- A room that is long enough, and a target that is not refused.

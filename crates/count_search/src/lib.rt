@@ -4,21 +4,15 @@
 mod rounds;
 
 use counts::total::total;
-use diagram::lengths::most;
 use diagram::limits::MAX_WORDS;
-use diagram::node::BddPointer;
 use levels::CHAINS;
 use naturals::Natural;
-use naturals::at_most;
-use naturals::is_zero;
 use priorities::prioritise;
 use room_map::COUNTS_END;
 use room_map::LINKS;
 use room_map::WEIGHTS_END;
 use rounds::search;
 use trials::answers::Answer;
-use trials::answers::constantly;
-use trials::answers::keep;
 use trials::first::unmark;
 use weights::weigh::weigh_counted;
 ghost use mathlib.Core.Path.{_≡_};
@@ -27,7 +21,7 @@ ghost use Rattle.naturals.specs.Natural.{value};
 ghost use Rattle.levels.specs.Chains.{chainCount};
 ghost use Rattle.approximation.specs.Search.{underToCount};
 ghost use Rattle.trials.specs.Trials.{Searching, Found};
-ghost use Rattle.count_search.specs.Rounds.{Counted, Aiming, Weighing, Weighed, Above};
+ghost use Rattle.count_search.specs.Rounds.{Counted, Weighing, Weighed, Above};
 
 // The weights, behind what was counted, and the non-terminals by priority.
 fn prepare_counted(words: &[u32], heads: &[u32], room: &mut [u32], nodes: usize, vars: u32)
@@ -82,26 +76,4 @@ pub fn count_of(
         vars,
         true,
     )
-}
-
-pub fn under_count(
-    words: &[u32],
-    room: &mut [u32],
-    target: Natural,
-    nodes: usize,
-    vars: u32,
-) -> Answer
-    requires { ⌜ Aiming (now words) (now room) (value (target .words)) nodes vars ⌝ }
-    ensures { λ r. ⌜ Found (now (words .entry)) (underToCount (now (words .entry)) (value (target .words))) (now (room .entry)) (now (room .exit)) (r .nodes) (r .trials) ⌝ }
-{
-    if is_zero(target) {
-        return constantly(room, BddPointer(0), nodes, vars);
-    }
-    let mut heads = [0u32; CHAINS];
-    let count = count_of(words, &mut heads, room, nodes, vars);
-    if at_most(count, target) {
-        keep(words, room, most(nodes));
-        return Answer { nodes, trials: 0 };
-    }
-    seek(words, &heads, room, target, count, nodes, vars)
 }

@@ -1,7 +1,8 @@
 // Runs the cuts over the cases of standard input and prints a line for each. A case is a line: the letter of the operation,
 // right after it the length of the working room, and then, with blanks between, the word that the room is filled with beforehand,
 // the same two of the output, how many words the list or the target has, these words, and the words of the diagram. Letters: u
-// and o cut by a list, s and t to a size, c and d to a count; u, s and c from below, o, t and d from above.
+// and o cut by a list, s and t to a size, c and d to a count; u, s and c from below, o, t and d from above. S, T, C and D are asked to
+// leave words that meet the target as they are.
 // The answer is the verdict; how many nodes and trials were answered; of the room afterwards how many words at its front are
 // zero and how many after these are as they were; how many words of the output beyond the result are as they were; and the
 // result's words. Both files are made by tests/cuts_cases.py, which has the Rust text answer what document 01 does not refuse.
@@ -113,8 +114,23 @@ fn count_of(list: &[u32]) -> Natural {
     read.natural
 }
 
+// Capitals are the letters below it.
+const CAPITALS_END: u8 = 91;
+
+fn is_capital(letter: u8) -> bool {
+    letter < CAPITALS_END
+}
+
+fn small(letter: u8) -> u8 {
+    if letter < CAPITALS_END {
+        return letter + 32;
+    }
+    letter
+}
+
 fn ask(
     letter: u8,
+    as_is: bool,
     words: &[u32],
     list: &[u32],
     room: &mut [u32],
@@ -127,16 +143,16 @@ fn ask(
         return by_list(overapproximate(words, list, room, output));
     }
     if letter == 115 {
-        return underapproximate_to_size(words, word(list, 0), room, output);
+        return underapproximate_to_size(words, word(list, 0), as_is, room, output);
     }
     if letter == 116 {
-        return overapproximate_to_size(words, word(list, 0), room, output);
+        return overapproximate_to_size(words, word(list, 0), as_is, room, output);
     }
     if letter == 99 {
-        return underapproximate_to_cardinality(words, count_of(list), room, output);
+        return underapproximate_to_cardinality(words, count_of(list), as_is, room, output);
     }
     if letter == 100 {
-        return overapproximate_to_cardinality(words, count_of(list), room, output);
+        return overapproximate_to_cardinality(words, count_of(list), as_is, room, output);
     }
     refused_letter()
 }
@@ -152,7 +168,7 @@ fn run_case(
 ) {
     fill(output, filled);
     fill(room, marked);
-    let answer = ask(letter, words, list, room, output);
+    let answer = ask(small(letter), is_capital(letter), words, list, room, output);
     let verdict = answer.verdict;
     say_verdict(verdict);
     say(b", answer nodes ", answer.nodes as u64);

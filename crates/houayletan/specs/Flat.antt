@@ -1,8 +1,9 @@
 -- The answers as C and Rust see them: each operation's own promise, and its verdict as document 01's number and values.
 use Prim.Native.Nat.{ℕ}
 use mathlib.Core.Path.{_≡_}
-use mathlib.Core.Bool.{Bool, cond}
+use mathlib.Core.Bool.{Bool, cond, not}
 use mathlib.Core.List.{List}
+use lib.Dec.{eqb}
 use lib.Ieee.{Float}
 use Rattle.diagram.specs.Verdict.{Outcome, accepted, refused, said}
 use Rattle.diagram.specs.declared.verdict.Verdict.{Verdict}
@@ -40,6 +41,10 @@ FlatDiagram promise r = Flat (λ v. promise v (r .nodes)) (r .verdict)
 
 abbrev pub FlatTarget : (Verdict → ℕ → ℕ → Type 0) → HouayletanApproximation → Type 0
 FlatTarget promise r = Flat (λ v. promise v (r .nodes) (r .trials)) (r .verdict)
+
+-- A flag as C has it: 0 is a no, anything else a yes.
+abbrev pub flagged : ℕ → Bool
+flagged x = not (eqb x 0)
 
 -- A yes as 1 and a no as 0.
 abbrev pub bit : Bool → ℕ

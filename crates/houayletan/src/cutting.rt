@@ -1,4 +1,5 @@
-// Cuts by a list, to a size and to a count.
+// Cuts by a list, to a size and to a count. The names of those to a target end in 2: before document 02's E8 they took no flag, and
+// what was compiled against that must not link.
 use crate::HouayletanApproximation;
 use crate::HouayletanDiagram;
 use crate::HouayletanNatural;
@@ -17,7 +18,7 @@ ghost use Rattle.naturals.specs.Natural.{value};
 ghost use Rattle.diagram.specs.Verdict.{said};
 ghost use Rattle.list_cuts.specs.Approximates.{Approximates};
 ghost use Rattle.targets.specs.Targets.{UnderToSize, OverToSize, UnderToCount, OverToCount};
-ghost use Rattle.houayletan.specs.Flat.{flatOf, FlatDiagram, FlatTarget};
+ghost use Rattle.houayletan.specs.Flat.{flatOf, flagged, FlatDiagram, FlatTarget};
 
 fn flat_cut(cut: Approximation) -> HouayletanDiagram
     ensures { λ r. ⌜ (r .verdict ≡ flatOf (said (cut .verdict))) × (r .nodes ≡ cut .nodes) ⌝ }
@@ -66,56 +67,72 @@ pub extern "C" fn houayletan_overapproximate(
     flat_cut(overapproximate(words, list, room, output))
 }
 
-// At most so many nodes, for a target of two or more; holds only where the diagram does.
+// At most so many nodes; holds only where the diagram does.
 #[no_mangle]
-pub extern "C" fn houayletan_underapproximate_to_size(
+pub extern "C" fn houayletan_underapproximate_to_size_2(
     words: &[u32],
     target: u32,
+    as_is: u32,
     room: &mut [u32],
     output: &mut [u32],
 ) -> HouayletanApproximation
-    ensures { λ r. ⌜ FlatTarget (UnderToSize (now (words .entry)) target (now (room .entry)) (now (room .exit)) (now (output .entry)) (now (output .exit))) r ⌝ }
+    ensures { λ r. ⌜ FlatTarget (UnderToSize (flagged as_is) (now (words .entry)) target (now (room .entry)) (now (room .exit)) (now (output .entry)) (now (output .exit))) r ⌝ }
 {
-    flat_target(underapproximate_to_size(words, target, room, output))
+    flat_target(underapproximate_to_size(words, target, as_is != 0, room, output))
 }
 
-// At most so many nodes, for a target of two or more; holds wherever the diagram does.
+// At most so many nodes; holds wherever the diagram does.
 #[no_mangle]
-pub extern "C" fn houayletan_overapproximate_to_size(
+pub extern "C" fn houayletan_overapproximate_to_size_2(
     words: &[u32],
     target: u32,
+    as_is: u32,
     room: &mut [u32],
     output: &mut [u32],
 ) -> HouayletanApproximation
-    ensures { λ r. ⌜ FlatTarget (OverToSize (now (words .entry)) target (now (room .entry)) (now (room .exit)) (now (output .entry)) (now (output .exit))) r ⌝ }
+    ensures { λ r. ⌜ FlatTarget (OverToSize (flagged as_is) (now (words .entry)) target (now (room .entry)) (now (room .exit)) (now (output .entry)) (now (output .exit))) r ⌝ }
 {
-    flat_target(overapproximate_to_size(words, target, room, output))
+    flat_target(overapproximate_to_size(words, target, as_is != 0, room, output))
 }
 
 // At most so many valuations; holds only where the diagram does.
 #[no_mangle]
-pub extern "C" fn houayletan_underapproximate_to_cardinality(
+pub extern "C" fn houayletan_underapproximate_to_cardinality_2(
     words: &[u32],
     target: HouayletanNatural,
+    as_is: u32,
     room: &mut [u32],
     output: &mut [u32],
 ) -> HouayletanApproximation
-    ensures { λ r. ⌜ FlatTarget (UnderToCount (now (words .entry)) (value (target .words)) (now (room .entry)) (now (room .exit)) (now (output .entry)) (now (output .exit))) r ⌝ }
+    ensures { λ r. ⌜ FlatTarget (UnderToCount (flagged as_is) (now (words .entry)) (value (target .words)) (now (room .entry)) (now (room .exit)) (now (output .entry)) (now (output .exit))) r ⌝ }
 {
     let words_of = target.words;
-    flat_target(underapproximate_to_cardinality(words, Natural { words: words_of }, room, output))
+    flat_target(underapproximate_to_cardinality(
+        words,
+        Natural { words: words_of },
+        as_is != 0,
+        room,
+        output,
+    ))
 }
 
 // At least so many valuations; holds wherever the diagram does.
 #[no_mangle]
-pub extern "C" fn houayletan_overapproximate_to_cardinality(
+pub extern "C" fn houayletan_overapproximate_to_cardinality_2(
     words: &[u32],
     target: HouayletanNatural,
+    as_is: u32,
     room: &mut [u32],
     output: &mut [u32],
 ) -> HouayletanApproximation
-    ensures { λ r. ⌜ FlatTarget (OverToCount (now (words .entry)) (value (target .words)) (now (room .entry)) (now (room .exit)) (now (output .entry)) (now (output .exit))) r ⌝ }
+    ensures { λ r. ⌜ FlatTarget (OverToCount (flagged as_is) (now (words .entry)) (value (target .words)) (now (room .entry)) (now (room .exit)) (now (output .entry)) (now (output .exit))) r ⌝ }
 {
     let words_of = target.words;
-    flat_target(overapproximate_to_cardinality(words, Natural { words: words_of }, room, output))
+    flat_target(overapproximate_to_cardinality(
+        words,
+        Natural { words: words_of },
+        as_is != 0,
+        room,
+        output,
+    ))
 }

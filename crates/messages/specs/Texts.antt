@@ -14,10 +14,10 @@ use Rattle.request.specs.Request.{Aim, nodes, cases}
 -- ---- words that ask for no cut
 
 abbrev pub helpText : List ℕ
-helpText = bytes "shrink keep size N       at most N nodes: cases are added until it fits\nshrink keep cases N      at least N cases\nshrink keep hex N        at least N cases, N in hexadecimal as weigh prints it\nshrink suppress size N   at most N nodes: cases are lost until it fits\nshrink suppress cases N  at most N cases\nshrink suppress hex N    at most N cases, N in hexadecimal as weigh prints it\nReads a block file on standard input and writes it cut to fit to standard output, the summary to standard error.\nkeep only adds cases, suppress only loses them. Numbers are decimal but for hex, with no zeros in front.\n"
+helpText = bytes "shrink keep size N       at most N nodes: cases are added until it fits\nshrink keep cases N      at least N cases\nshrink keep hex N        at least N cases, N in hexadecimal as weigh prints it\nshrink suppress size N   at most N nodes: cases are lost until it fits\nshrink suppress cases N  at most N cases\nshrink suppress hex N    at most N cases, N in hexadecimal as weigh prints it\nA condition that fits already loses no case and gains none, and comes out in the fewest nodes; as-is after N leaves its nodes as they are.\nReads a block file on standard input and writes it cut to fit to standard output, the summary to standard error.\nkeep only adds cases, suppress only loses them. Numbers are decimal but for hex, with no zeros in front.\n"
 
 abbrev pub unknownText : List ℕ
-unknownText = bytes "shrink: the words are keep or suppress, size or cases or hex, and a number; shrink alone prints its help\n"
+unknownText = bytes "shrink: the words are keep or suppress, size or cases or hex, a number, and as-is where it is wanted; shrink alone prints its help\n"
 
 abbrev pub whichText : List ℕ
 whichText = bytes "shrink: count does not say which base its number is in: write cases for decimal, hex for hexadecimal\n"

@@ -50,22 +50,22 @@ exchanged-cond false x y = refl
 -- ---- more than two nodes
 
 module _ (w : List ℕ) (f : Formed w) (m : 2 < size w) where
-  same-size : size (negated w) ≡ size w
-  same-size = omega (arith, more-length w f m)
+  pub negated-size : size (negated w) ≡ size w
+  negated-size = omega (arith, more-length w f m)
 
   var-end : (p : ℕ) → p < 2 → varOf (negated w) p ≡ varOf w p
   var-end zero h = word-end w f 0 (omega arith) (omega (arith, more-length w f m))
   var-end (suc zero) h = word-end w f 3 (omega arith) (omega (arith, more-length w f m)) ∙ sym (f .one-terminal (omega arith) .var)
   var-end (suc (suc p)) h = absurd (omega arith)
 
-  same-var : (p : ℕ) → varOf (negated w) p ≡ varOf w p
-  same-var p = by-two p (var-end p) (λ two. word-var w f m (3 * p) (omega arith) (omega arith))
+  pub negated-var : (p : ℕ) → varOf (negated w) p ≡ varOf w p
+  negated-var p = by-two p (var-end p) (λ two. word-var w f m (3 * p) (omega arith) (omega arith))
 
-  low-is : (p : ℕ) → 2 ≤ p → p < size w → lowOf (negated w) p ≡ exchanged (lowOf w p)
-  low-is p two h = word-link w f m (3 * p + 1) (omega arith) (omega (arith, f .whole)) (λ z. omega arith)
+  pub negated-low : (p : ℕ) → 2 ≤ p → p < size w → lowOf (negated w) p ≡ exchanged (lowOf w p)
+  negated-low p two h = word-link w f m (3 * p + 1) (omega arith) (omega (arith, f .whole)) (λ z. omega arith)
 
-  high-is : (p : ℕ) → 2 ≤ p → p < size w → highOf (negated w) p ≡ exchanged (highOf w p)
-  high-is p two h = word-link w f m (3 * p + 2) (omega arith) (omega (arith, f .whole)) (λ z. omega arith)
+  pub negated-high : (p : ℕ) → 2 ≤ p → p < size w → highOf (negated w) p ≡ exchanged (highOf w p)
+  negated-high p two h = word-link w f m (3 * p + 2) (omega arith) (omega (arith, f .whole)) (λ z. omega arith)
 
   exchanged-in : (x : ℕ) → x < size w → exchanged x < size w
   exchanged-in x h = by-two x (λ t. rw (exchanged-low x t) (omega arith)) (λ two. rw (exchanged-high x two) h)
@@ -80,13 +80,13 @@ module _ (w : List ℕ) (f : Formed w) (m : 2 < size w) where
       ends-same (suc (suc x)) t = absurd (omega arith)
 
   root-same : root (negated w) ≡ exchanged (root w)
-  root-same = ap (λ (n : ℕ). n - 1) same-size ∙ sym (exchanged-high (root w) (omega arith))
+  root-same = ap (λ (n : ℕ). n - 1) negated-size ∙ sym (exchanged-high (root w) (omega arith))
 
   step-mirror : (bs : List Bool) (p : ℕ) → p < size w → step (negated w) bs (exchanged p) ≡ exchanged (step w bs p)
   step-mirror bs p h = by-two p
       (λ t. step-ends (negated w) bs (exchanged p) (rw (exchanged-low p t) (omega arith)) ∙ sym (ap exchanged (step-ends w bs p t)))
       (λ two.
-      rw (exchanged-high p two, step-goes (negated w) bs p two, step-goes w bs p two, same-var p, low-is p two h, high-is p two h)
+      rw (exchanged-high p two, step-goes (negated w) bs p two, step-goes w bs p two, negated-var p, negated-low p two h, negated-high p two h)
       (exchanged-cond (getD bs (varOf w p) false) (highOf w p) (lowOf w p)))
 
   step-in : (bs : List Bool) (p : ℕ) → p < size w → step w bs p < size w
@@ -106,7 +106,7 @@ module _ (w : List ℕ) (f : Formed w) (m : 2 < size w) where
   holds-more : Ordered w → (bs : List Bool) → holds (negated w) bs ≡ not (holds w bs)
   unfolding holds
   holds-more o bs =
-      rw (same-var 0, root-same, walk-mirror bs (vars w) (root w) (root-in w o)) (exchanged-one (walk w bs (vars w) (root w)) (path-ends w o bs))
+      rw (negated-var 0, root-same, walk-mirror bs (vars w) (root w) (root-in w o)) (exchanged-one (walk w bs (vars w) (root w)) (path-ends w o bs))
 
   mirror-reach : (p : ℕ) → Reach w (root w) p → (p < size w) × Reach (negated w) (root (negated w)) (exchanged p)
   mirror-reach p start = (omega (arith, f .some), subst (λ (x : ℕ). Reach (negated w) (root (negated w)) x) root-same start)
@@ -114,32 +114,32 @@ module _ (w : List ℕ) (f : Formed w) (m : 2 < size w) where
       let i = mirror-reach q r in
       let g = f .ranges q two (i .0) in
       let s : Reach (negated w) (root (negated w)) q = rw (exchanged-high q two) at (i .1) in
-      (g .low, subst (λ (x : ℕ). Reach (negated w) (root (negated w)) x) (low-is q two (i .0)) (by-low s two))
+      (g .low, subst (λ (x : ℕ). Reach (negated w) (root (negated w)) x) (negated-low q two (i .0)) (by-low s two))
   mirror-reach p (by-high {p = q} r two) =
       let i = mirror-reach q r in
       let g = f .ranges q two (i .0) in
       let s : Reach (negated w) (root (negated w)) q = rw (exchanged-high q two) at (i .1) in
-      (g .high, subst (λ (x : ℕ). Reach (negated w) (root (negated w)) x) (high-is q two (i .0)) (by-high s two))
+      (g .high, subst (λ (x : ℕ). Reach (negated w) (root (negated w)) x) (negated-high q two (i .0)) (by-high s two))
 
   formed-more : Formed (negated w)
   formed-more = record {
     whole = omega (arith, more-length w f m, f .whole);
-    some = omega (arith, same-size);
-    few = rw same-size (f .few);
+    some = omega (arith, negated-size);
+    few = rw negated-size (f .few);
     zero-terminal = record { var = refl; low = word-end w f 1 (omega arith) (omega (arith, more-length w f m)); high = word-end w f 2 (omega arith) (omega (arith, more-length w f m)) };
     one-terminal = λ l. record {
-      var = same-var 1 ∙ f .one-terminal (omega arith) .var ∙ sym (same-var 0);
+      var = negated-var 1 ∙ f .one-terminal (omega arith) .var ∙ sym (negated-var 0);
       low = word-end w f 4 (omega arith) (omega (arith, more-length w f m));
       high = word-end w f 5 (omega arith) (omega (arith, more-length w f m));
     };
-    variables = rw (same-var 0) (f .variables);
+    variables = rw (negated-var 0) (f .variables);
     ranges = λ p two h.
-        let i : p < size w = rw same-size at h in
+        let i : p < size w = rw negated-size at h in
         let g = f .ranges p two i in
         record {
-          var = rw (same-var p, same-var 0) (g .var);
-          low = rw (low-is p two i, same-size) (exchanged-in (lowOf w p) (g .low));
-          high = rw (high-is p two i, same-size) (exchanged-in (highOf w p) (g .high));
+          var = rw (negated-var p, negated-var 0) (g .var);
+          low = rw (negated-low p two i, negated-size) (exchanged-in (lowOf w p) (g .low));
+          high = rw (negated-high p two i, negated-size) (exchanged-in (highOf w p) (g .high));
         };
   }
 
@@ -147,26 +147,26 @@ module _ (w : List ℕ) (f : Formed w) (m : 2 < size w) where
   accepted-more a = record {
     formed = formed-more;
     ordered = λ p two h r.
-        let i : p < size w = rw same-size at h in
+        let i : p < size w = rw negated-size at h in
         let g = accepted-ordered w a .ordered p two i in
         record {
-          low = rw (low-is p two i, same-var p, same-var (exchanged (lowOf w p)), exchanged-var (lowOf w p)) (g .low);
-          high = rw (high-is p two i, same-var p, same-var (exchanged (highOf w p)), exchanged-var (highOf w p)) (g .high);
+          low = rw (negated-low p two i, negated-var p, negated-var (exchanged (lowOf w p)), exchanged-var (lowOf w p)) (g .low);
+          high = rw (negated-high p two i, negated-var p, negated-var (exchanged (highOf w p)), exchanged-var (highOf w p)) (g .high);
         };
     reached = λ p two h.
-        let i : p < size w = rw same-size at h in
+        let i : p < size w = rw negated-size at h in
         rw (exchanged-high p two) at (mirror-reach p (a .reached p two i) .1);
   }
 
   back : (i : ℕ) → i < length w → getD (negated (negated w)) i 0 ≡ getD w i 0
   back i h =
-      let n : 2 < size (negated w) = omega (arith, same-size) in
+      let n : 2 < size (negated w) = omega (arith, negated-size) in
       let l = more-length w f m in
       let l′ = more-length (negated w) formed-more n in
       elim (decLt i 6) [
         | yes early ↦
             let at : getD w i 0 ≡ getD (ends (vars w)) i 0 = sym (getD-take 6 w i 0 early) ∙ ap (λ (x : List ℕ). getD x i 0) (front w f m) in
-            word-end (negated w) formed-more i early (omega arith) ∙ ap (λ (v : ℕ). getD (ends v) i 0) (same-var 0) ∙ sym at
+            word-end (negated w) formed-more i early (omega arith) ∙ ap (λ (v : ℕ). getD (ends v) i 0) (negated-var 0) ∙ sym at
         | no later ↦ by-eq (i % 3) 0
             (λ e. word-var (negated w) formed-more n i (omega arith) e ∙ word-var w f m i (omega arith) e)
             (λ e.
@@ -177,7 +177,7 @@ module _ (w : List ℕ) (f : Formed w) (m : 2 < size w) where
 
   twice-more : negated (negated w) ≡ w
   twice-more =
-      let n : 2 < size (negated w) = omega (arith, same-size) in
+      let n : 2 < size (negated w) = omega (arith, negated-size) in
       let l = more-length (negated w) formed-more n ∙ more-length w f m in
       ext-getD 0 (negated (negated w)) w l (λ i h. back i (omega arith))
 
@@ -187,7 +187,7 @@ holds-at : (w : List ℕ) (bs : List Bool) → root w < 2 → holds w bs ≡ eqb
 unfolding holds
 holds-at w bs h = ap (λ (x : ℕ). eqb x 1) (walk-ends w bs (vars w) (root w) h)
 
-false-words : (w : List ℕ) → Formed w → size w ≡ 1 → w ≡ vars w ∷ 0 ∷ 0 ∷ []
+pub false-words : (w : List ℕ) → Formed w → size w ≡ 1 → w ≡ vars w ∷ 0 ∷ 0 ∷ []
 false-words w f e = ext-getD 0 w (vars w ∷ 0 ∷ 0 ∷ []) (omega (arith, f .whole)) (λ i h. at i (omega (arith, f .whole)))
   where
     at : (i : ℕ) → i < 3 → getD w i 0 ≡ getD (vars w ∷ 0 ∷ 0 ∷ []) i 0
@@ -196,7 +196,7 @@ false-words w f e = ext-getD 0 w (vars w ∷ 0 ∷ 0 ∷ []) (omega (arith, f .w
     at (suc (suc zero)) h = f .zero-terminal .high
     at (suc (suc (suc i))) h = absurd (omega arith)
 
-true-words : (w : List ℕ) → Formed w → size w ≡ 2 → w ≡ ends (vars w)
+pub true-words : (w : List ℕ) → Formed w → size w ≡ 2 → w ≡ ends (vars w)
 true-words w f e = ext-getD 0 w (ends (vars w)) (omega (arith, f .whole)) (λ i h. at i (omega (arith, f .whole)))
   where
     at : (i : ℕ) → i < 6 → getD w i 0 ≡ getD (ends (vars w)) i 0
@@ -248,7 +248,7 @@ module _ (w : List ℕ) (a : Accepted w) where
   negated-vars = by-size w f
       (λ e. ap (λ (x : List ℕ). vars x) (negated-false w e))
       (λ e. ap (λ (x : List ℕ). vars x) (negated-true w e))
-      (λ m. same-var w f m 0)
+      (λ m. negated-var w f m 0)
 
   pub negated-accepted : Accepted (negated w)
   negated-accepted = by-size w f
@@ -283,13 +283,13 @@ module _ (w : List ℕ) (a : Accepted w) where
   negated-most = by-size w f
       (λ e. rw (negated-false w e) (omega arith))
       (λ e. rw (negated-true w e) (omega arith))
-      (λ m. omega (arith, same-size w f m))
+      (λ m. omega (arith, negated-size w f m))
 
   pub negated-is-two : size (negated w) ≡ 2 → size w ≡ 1
   negated-is-two h = by-size w f
       (λ e. e)
       (λ e. let x : size (vars w ∷ 0 ∷ 0 ∷ []) ≡ 2 = rw (negated-true w e) at h in absurd (omega arith))
-      (λ m. omega (arith, same-size w f m))
+      (λ m. omega (arith, negated-size w f m))
 
 pub opposites : Opposites
 opposites = record { variables = negated-vars; opposite = negated-holds; accepted = negated-accepted; twice = negated-twice }

@@ -54,13 +54,7 @@ fn hand_over(words: &[u32], room: &[u32], output: &mut [u32], count: usize)
 }
 
 // Reduces an ordered array in a room that is zero, and gives the number of nodes. It has no more than the array.
-pub(crate) fn answer(
-    words: &[u32],
-    room: &mut [u32],
-    output: &mut [u32],
-    nodes: usize,
-    vars: u32,
-) -> usize
+pub fn answer(words: &[u32], room: &mut [u32], output: &mut [u32], nodes: usize, vars: u32) -> usize
     requires { ⌜ Lent (now words) (now room) (now output) nodes vars ⌝ }
     ensures { λ r. ⌜ Answered (now (words .entry)) (now (room .entry)) (now (output .entry)) (now (room .exit)) (now (output .exit)) r ⌝ }
 {

@@ -9,7 +9,7 @@ use Rattle.naturals.specs.Natural.{value, limit, Answers, Holds}
 use Rattle.naturals.specs.declared.Fit.{Fit}
 use Rattle.writing.specs.Writing.{bytes}
 use Rattle.text.specs.Digits.{Reading, number, none, parsed, isNumber, numberOf, Parses}
-use Rattle.request.specs.Request.{alike, Aim, nodes, cases, Meaning, help, unknown, which, cut, ifNumber, aimed, requestOf, aimOf, meant}
+use Rattle.request.specs.Request.{alike, Aim, nodes, cases, Meaning, help, unknown, which, cut, ifNumber, aimed, directed, requestOf, aimOf, meant}
 use Rattle.request.specs.declared.Asked.the-variants.{Help, Unknown, Which, Cut}
 use Rattle.request.specs.declared.Request.{Request}
 
@@ -24,75 +24,91 @@ is-unknown r e = rw e
 pub is-which : (r : Request) → r .asked ≡ Which → meant r ≡ which
 is-which r e = rw e
 
-pub is-cut : (r : Request) → r .asked ≡ Cut → meant r ≡ cut (r .target .keep) (aimOf (r .target))
+pub is-cut : (r : Request) → r .asked ≡ Cut → meant r ≡ cut (r .target .keep) (r .target .as_is) (aimOf (r .target))
 is-cut r e = rw e
 
 -- ---- a number that was read, or none
 
-if-is : (keep : Bool) (aim : ℕ → Aim) (r : Reading) → cond (isNumber r) (cut keep (aim (cond (isNumber r) (numberOf r) 0))) unknown ≡ ifNumber keep aim r
-if-is keep aim (number n) = refl
-if-is keep aim none = refl
+if-is : (keep as-is : Bool) (aim : ℕ → Aim) (r : Reading) → cond (isNumber r) (cut keep as-is (aim (cond (isNumber r) (numberOf r) 0))) unknown ≡ ifNumber keep as-is aim r
+if-is keep as-is aim (number n) = refl
+if-is keep as-is aim none = refl
 
-parsed-is : (keep : Bool) (r : Reading) {valid : Bool} {n : ℕ} → Parses r valid n → cond valid (cut keep (nodes n)) unknown ≡ ifNumber keep nodes r
-parsed-is keep (number n) p = rw (p .said, p .worth)
-parsed-is keep none p = rw (p .said)
+parsed-is : (keep as-is : Bool) (r : Reading) {valid : Bool} {n : ℕ} → Parses r valid n → cond valid (cut keep as-is (nodes n)) unknown ≡ ifNumber keep as-is nodes r
+parsed-is keep as-is (number n) p = rw (p .said, p .worth)
+parsed-is keep as-is none p = rw (p .said)
 
-pub if-parsed : (keep : Bool) (text : List ℕ) {valid : Bool} {n : ℕ} → Parses (parsed 10 (2 ^ 32) text) valid n
-    → cond valid (cut keep (nodes n)) unknown ≡ ifNumber keep nodes (parsed 10 (2 ^ 32) text)
-if-parsed keep text p = parsed-is keep (parsed 10 (2 ^ 32) text) p
+pub if-parsed : (keep as-is : Bool) (text : List ℕ) {valid : Bool} {n : ℕ} → Parses (parsed 10 (2 ^ 32) text) valid n
+    → cond valid (cut keep as-is (nodes n)) unknown ≡ ifNumber keep as-is nodes (parsed 10 (2 ^ 32) text)
+if-parsed keep as-is text p = parsed-is keep as-is (parsed 10 (2 ^ 32) text) p
 
-pub if-answered : (keep : Bool) (base : ℕ) (text : List ℕ) (fit : Fit) → Answers (isNumber (parsed base limit text)) (numberOf (parsed base limit text)) fit
-    → cond (fit .fits) (cut keep (cases (value (fit .natural .words)))) unknown ≡ ifNumber keep cases (parsed base limit text)
-if-answered keep base text fit a = rw (a .said, a .holds .worth) (if-is keep cases (parsed base limit text))
+pub if-answered : (keep as-is : Bool) (base : ℕ) (text : List ℕ) (fit : Fit) → Answers (isNumber (parsed base limit text)) (numberOf (parsed base limit text)) fit
+    → cond (fit .fits) (cut keep as-is (cases (value (fit .natural .words)))) unknown ≡ ifNumber keep as-is cases (parsed base limit text)
+if-answered keep as-is base text fit a = rw (a .said, a .holds .worth) (if-is keep as-is cases (parsed base limit text))
 
 -- ---- the second word
 
-module _ (keep : Bool) (k n : List ℕ) {a : Bool} (ea : a ≡ alike k (bytes "size")) where
-  pub aims-size : {m : Meaning} → a ≡ true → m ≡ ifNumber keep nodes (parsed 10 (2 ^ 32) n) → m ≡ aimed keep k n
+module _ (keep as-is : Bool) (k n : List ℕ) {a : Bool} (ea : a ≡ alike k (bytes "size")) where
+  pub aims-size : {m : Meaning} → a ≡ true → m ≡ ifNumber keep as-is nodes (parsed 10 (2 ^ 32) n) → m ≡ aimed keep as-is k n
   unfolding aimed
   aims-size f e = rw (sym ea, f) e
 
   module _ (fa : a ≡ false) {b : Bool} (eb : b ≡ alike k (bytes "cases")) where
-    pub aims-cases : {m : Meaning} → b ≡ true → m ≡ ifNumber keep cases (parsed 10 limit n) → m ≡ aimed keep k n
+    pub aims-cases : {m : Meaning} → b ≡ true → m ≡ ifNumber keep as-is cases (parsed 10 limit n) → m ≡ aimed keep as-is k n
     unfolding aimed
     aims-cases f e = rw (sym ea, fa, sym eb, f) e
 
     module _ (fb : b ≡ false) {d : Bool} (ed : d ≡ alike k (bytes "hex")) where
-      pub aims-hex : {m : Meaning} → d ≡ true → m ≡ ifNumber keep cases (parsed 16 limit n) → m ≡ aimed keep k n
+      pub aims-hex : {m : Meaning} → d ≡ true → m ≡ ifNumber keep as-is cases (parsed 16 limit n) → m ≡ aimed keep as-is k n
       unfolding aimed
       aims-hex f e = rw (sym ea, fa, sym eb, fb, sym ed, f) e
 
       module _ (fd : d ≡ false) {g : Bool} (eg : g ≡ alike k (bytes "count")) {m : Meaning} where
-        pub aims-which : g ≡ true → m ≡ which → m ≡ aimed keep k n
+        pub aims-which : g ≡ true → m ≡ which → m ≡ aimed keep as-is k n
         unfolding aimed
         aims-which f e = rw (sym ea, fa, sym eb, fb, sym ed, fd, sym eg, f) e
 
-        pub aims-none : g ≡ false → m ≡ unknown → m ≡ aimed keep k n
+        pub aims-none : g ≡ false → m ≡ unknown → m ≡ aimed keep as-is k n
         unfolding aimed
         aims-none f e = rw (sym ea, fa, sym eb, fb, sym ed, fd, sym eg, f) e
 
--- ---- how many words, and the first
+-- ---- the first word
 
-module _ (count : ℕ) (d k n : List ℕ) {m : Meaning} where
-  pub asks-help : count ≡ 0 → m ≡ help → m ≡ requestOf count d k n
+module _ (as-is : Bool) (d k n : List ℕ) {m : Meaning} {a : Bool} (ea : a ≡ alike d (bytes "keep")) where
+  pub directs-keep : a ≡ true → m ≡ aimed true as-is k n → m ≡ directed as-is d k n
+  unfolding directed
+  directs-keep f e = rw (sym ea, f) e
+
+  module _ (fa : a ≡ false) {b : Bool} (eb : b ≡ alike d (bytes "suppress")) where
+    pub directs-suppress : b ≡ true → m ≡ aimed false as-is k n → m ≡ directed as-is d k n
+    unfolding directed
+    directs-suppress f e = rw (sym ea, fa, sym eb, f) e
+
+    pub directs-none : b ≡ false → m ≡ unknown → m ≡ directed as-is d k n
+    unfolding directed
+    directs-none f e = rw (sym ea, fa, sym eb, f) e
+
+-- ---- how many words, and the fourth
+
+module _ (count : ℕ) (d k n f : List ℕ) {m : Meaning} where
+  pub asks-help : count ≡ 0 → m ≡ help → m ≡ requestOf count d k n f
   unfolding requestOf
   asks-help h e = rw (eq-eqb count 0 h) e
 
   module _ (some : count ≢ 0) where
-    pub asks-others : count ≢ 3 → m ≡ unknown → m ≡ requestOf count d k n
+    pub asks-three : count ≡ 3 → m ≡ directed false d k n → m ≡ requestOf count d k n f
     unfolding requestOf
-    asks-others h e = rw (ne-eqb count 0 some, ne-eqb count 3 h) e
+    asks-three h e = rw (ne-eqb count 0 some, eq-eqb count 3 h) e
 
-    module _ (three : count ≡ 3) {a : Bool} (ea : a ≡ alike d (bytes "keep")) where
-      pub asks-keep : a ≡ true → m ≡ aimed true k n → m ≡ requestOf count d k n
+    module _ (more : count ≢ 3) where
+      pub asks-others : count ≢ 4 → m ≡ unknown → m ≡ requestOf count d k n f
       unfolding requestOf
-      asks-keep f e = rw (ne-eqb count 0 some, eq-eqb count 3 three, sym ea, f) e
+      asks-others h e = rw (ne-eqb count 0 some, ne-eqb count 3 more, ne-eqb count 4 h) e
 
-      module _ (fa : a ≡ false) {b : Bool} (eb : b ≡ alike d (bytes "suppress")) where
-        pub asks-suppress : b ≡ true → m ≡ aimed false k n → m ≡ requestOf count d k n
+      module _ (four : count ≡ 4) {a : Bool} (ea : a ≡ alike f (bytes "as-is")) where
+        pub asks-as-is : a ≡ true → m ≡ directed true d k n → m ≡ requestOf count d k n f
         unfolding requestOf
-        asks-suppress f e = rw (ne-eqb count 0 some, eq-eqb count 3 three, sym ea, fa, sym eb, f) e
+        asks-as-is g e = rw (ne-eqb count 0 some, ne-eqb count 3 more, eq-eqb count 4 four, sym ea, g) e
 
-        pub asks-none : b ≡ false → m ≡ unknown → m ≡ requestOf count d k n
+        pub asks-none : a ≡ false → m ≡ unknown → m ≡ requestOf count d k n f
         unfolding requestOf
-        asks-none f e = rw (ne-eqb count 0 some, eq-eqb count 3 three, sym ea, fa, sym eb, f) e
+        asks-none g e = rw (ne-eqb count 0 some, ne-eqb count 3 more, eq-eqb count 4 four, sym ea, g) e

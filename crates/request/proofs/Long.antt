@@ -10,7 +10,7 @@ use Rattle.naturals.specs.Natural.{limit}
 use Rattle.writing.specs.Writing.{bytes}
 use Rattle.text.specs.Digits.{decimalDigits, hexadecimalDigits, decimal, hexadecimal, Reading, number, none, padded, parsed, Exactly}
 use Rattle.text.proofs.Numerals.{decimal-length, hexadecimal-length, decimal-exactly, natural-exactly, hexadecimal-exactly}
-use Rattle.request.specs.Request.{alike, unknown, aimed, requestOf, wordBuffer, Buffered}
+use Rattle.request.specs.Request.{alike, unknown, aimed, directed, requestOf, wordBuffer, Buffered}
 use Rattle.request.proofs.Alike.{unlike-lengths}
 
 -- ---- a number
@@ -39,9 +39,9 @@ nothing : (base bound : ℕ) → parsed base bound [] ≡ none
 unfolding parsed padded
 nothing base bound = refl
 
-aimed-long : (keep : Bool) (kind text : List ℕ) → wordBuffer < length text → aimed keep kind text ≡ aimed keep kind []
+aimed-long : (keep as-is : Bool) (kind text : List ℕ) → wordBuffer < length text → aimed keep as-is kind text ≡ aimed keep as-is kind []
 unfolding aimed
-aimed-long keep kind text h = rw (no-size text h, no-cases text h, no-hex text h, nothing 10 (2 ^ 32), nothing 10 limit, nothing 16 limit) refl
+aimed-long keep as-is kind text h = rw (no-size text h, no-cases text h, no-hex text h, nothing 10 (2 ^ 32), nothing 10 limit, nothing 16 limit) refl
 
 -- ---- another word
 
@@ -49,27 +49,45 @@ module _ (word : List ℕ) (long : wordBuffer < length word) where
   unlike : (known : List ℕ) → length known ≤ wordBuffer → alike word known ≡ false
   unlike known h = sym (unlike-lengths word known (λ e. absurd (omega arith)))
 
-  kind-unknown : (keep : Bool) (text : List ℕ) → aimed keep word text ≡ unknown
+  kind-unknown : (keep as-is : Bool) (text : List ℕ) → aimed keep as-is word text ≡ unknown
   unfolding aimed
-  kind-unknown keep text =
+  kind-unknown keep as-is text =
       rw (unlike (bytes "size") (omega arith), unlike (bytes "cases") (omega arith), unlike (bytes "hex") (omega arith), unlike (bytes "count") (omega arith)) refl
 
-empty-unknown : (keep : Bool) (text : List ℕ) → aimed keep [] text ≡ unknown
+empty-unknown : (keep as-is : Bool) (text : List ℕ) → aimed keep as-is [] text ≡ unknown
 unfolding aimed alike
-empty-unknown keep text = refl
+empty-unknown keep as-is text = refl
 
-direction-long : (count : ℕ) (direction kind text : List ℕ) → wordBuffer < length direction → requestOf count direction kind text ≡ requestOf count [] kind text
-unfolding requestOf alike
-direction-long count direction kind text h = rw (unlike direction h (bytes "keep") (omega arith), unlike direction h (bytes "suppress") (omega arith)) refl
+module _ (as-is : Bool) where
+  direction-same : (direction kind text : List ℕ) → wordBuffer < length direction → directed as-is direction kind text ≡ directed as-is [] kind text
+  unfolding directed alike
+  direction-same direction kind text h = rw (unlike direction h (bytes "keep") (omega arith), unlike direction h (bytes "suppress") (omega arith)) refl
 
-kind-long : (count : ℕ) (direction kind text : List ℕ) → wordBuffer < length kind → requestOf count direction kind text ≡ requestOf count direction [] text
-unfolding requestOf
-kind-long count direction kind text h =
-    rw (kind-unknown kind h true text, kind-unknown kind h false text, empty-unknown true text, empty-unknown false text) refl
+  kind-same : (direction kind text : List ℕ) → wordBuffer < length kind → directed as-is direction kind text ≡ directed as-is direction [] text
+  unfolding directed
+  kind-same direction kind text h =
+      rw (kind-unknown kind h true as-is text, kind-unknown kind h false as-is text, empty-unknown true as-is text, empty-unknown false as-is text) refl
 
-number-long : (count : ℕ) (direction kind text : List ℕ) → wordBuffer < length text → requestOf count direction kind text ≡ requestOf count direction kind []
-unfolding requestOf
-number-long count direction kind text h = rw (aimed-long true kind text h, aimed-long false kind text h) refl
+  number-same : (direction kind text : List ℕ) → wordBuffer < length text → directed as-is direction kind text ≡ directed as-is direction kind []
+  unfolding directed
+  number-same direction kind text h = rw (aimed-long true as-is kind text h, aimed-long false as-is kind text h) refl
+
+module _ (count : ℕ) (direction kind text flag : List ℕ) where
+  direction-long : wordBuffer < length direction → requestOf count direction kind text flag ≡ requestOf count [] kind text flag
+  unfolding requestOf
+  direction-long h = rw (direction-same true direction kind text h, direction-same false direction kind text h) refl
+
+  kind-long : wordBuffer < length kind → requestOf count direction kind text flag ≡ requestOf count direction [] text flag
+  unfolding requestOf
+  kind-long h = rw (kind-same true direction kind text h, kind-same false direction kind text h) refl
+
+  number-long : wordBuffer < length text → requestOf count direction kind text flag ≡ requestOf count direction kind [] flag
+  unfolding requestOf
+  number-long h = rw (number-same true direction kind text h, number-same false direction kind text h) refl
+
+  flag-long : wordBuffer < length flag → requestOf count direction kind text flag ≡ requestOf count direction kind text []
+  unfolding requestOf alike
+  flag-long h = rw (unlike flag h (bytes "as-is") (omega arith)) refl
 
 pub buffered : Buffered
-buffered = record { direction-long = direction-long; kind-long = kind-long; number-long = number-long }
+buffered = record { direction-long = direction-long; kind-long = kind-long; number-long = number-long; flag-long = flag-long }

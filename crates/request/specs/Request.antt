@@ -25,33 +25,41 @@ pub data Aim : Type 0 where
   nodes : ℕ → Aim
   cases : ℕ → Aim
 
--- What words mean: help; words that are not taken; `count`, which does not name its base; or a cut, `true` for keep.
+-- What words mean: help; words that are not taken; `count`, which does not name its base; or a cut, `true` for keep, then `true`
+-- where a diagram that meets the target already is to keep its words.
 pub data Meaning : Type 0 where
   help : Meaning
   unknown : Meaning
   which : Meaning
-  cut : Bool → Aim → Meaning
+  cut : Bool → Bool → Aim → Meaning
 
-abbrev pub ifNumber : Bool → (ℕ → Aim) → Reading → Meaning
-ifNumber keep aim (number n) = cut keep (aim n)
-ifNumber keep aim none = unknown
+abbrev pub ifNumber : Bool → Bool → (ℕ → Aim) → Reading → Meaning
+ifNumber keep as-is aim (number n) = cut keep as-is (aim n)
+ifNumber keep as-is aim none = unknown
 
 -- By the second word and the third: `size` and `cases` are decimal, `hex` is in lower-case hexadecimal.
-unfoldable pub aimed : Bool → List ℕ → List ℕ → Meaning
-aimed keep kind text =
-    cond (alike kind (bytes "size")) (ifNumber keep nodes (parsed 10 (2 ^ 32) text))
-    (cond (alike kind (bytes "cases")) (ifNumber keep cases (parsed 10 limit text))
-    (cond (alike kind (bytes "hex")) (ifNumber keep cases (parsed 16 limit text))
+unfoldable pub aimed : Bool → Bool → List ℕ → List ℕ → Meaning
+aimed keep as-is kind text =
+    cond (alike kind (bytes "size")) (ifNumber keep as-is nodes (parsed 10 (2 ^ 32) text))
+    (cond (alike kind (bytes "cases")) (ifNumber keep as-is cases (parsed 10 limit text))
+    (cond (alike kind (bytes "hex")) (ifNumber keep as-is cases (parsed 16 limit text))
     (cond (alike kind (bytes "count")) which
     unknown)))
 
--- By how many words there are, and the three words where there are three.
-unfoldable pub requestOf : ℕ → List ℕ → List ℕ → List ℕ → Meaning
-requestOf count direction kind text =
+-- By the first word.
+unfoldable pub directed : Bool → List ℕ → List ℕ → List ℕ → Meaning
+directed as-is direction kind text =
+    cond (alike direction (bytes "keep")) (aimed true as-is kind text)
+    (cond (alike direction (bytes "suppress")) (aimed false as-is kind text)
+    unknown)
+
+-- By how many words there are: three, or a fourth that says to keep the words of what meets the target already.
+unfoldable pub requestOf : ℕ → List ℕ → List ℕ → List ℕ → List ℕ → Meaning
+requestOf count direction kind text flag =
     cond (eqb count 0) help
-    (cond (not (eqb count 3)) unknown
-    (cond (alike direction (bytes "keep")) (aimed true kind text)
-    (cond (alike direction (bytes "suppress")) (aimed false kind text)
+    (cond (eqb count 3) (directed false direction kind text)
+    (cond (not (eqb count 4)) unknown
+    (cond (alike flag (bytes "as-is")) (directed true direction kind text)
     unknown)))
 
 -- ---- how long a word may be
@@ -62,9 +70,10 @@ wordBuffer = decimalDigits
 
 -- A longer word means what an empty one means, which is what the program reads in its place (proofs/Long.antt).
 pub record Buffered : Type 0 where
-  pub direction-long : (count : ℕ) (direction kind text : List ℕ) → wordBuffer < length direction → requestOf count direction kind text ≡ requestOf count [] kind text
-  pub kind-long : (count : ℕ) (direction kind text : List ℕ) → wordBuffer < length kind → requestOf count direction kind text ≡ requestOf count direction [] text
-  pub number-long : (count : ℕ) (direction kind text : List ℕ) → wordBuffer < length text → requestOf count direction kind text ≡ requestOf count direction kind []
+  pub direction-long : (count : ℕ) (direction kind text flag : List ℕ) → wordBuffer < length direction → requestOf count direction kind text flag ≡ requestOf count [] kind text flag
+  pub kind-long : (count : ℕ) (direction kind text flag : List ℕ) → wordBuffer < length kind → requestOf count direction kind text flag ≡ requestOf count direction [] text flag
+  pub number-long : (count : ℕ) (direction kind text flag : List ℕ) → wordBuffer < length text → requestOf count direction kind text flag ≡ requestOf count direction kind [] flag
+  pub flag-long : (count : ℕ) (direction kind text flag : List ℕ) → wordBuffer < length flag → requestOf count direction kind text flag ≡ requestOf count direction kind text []
 
 -- ---- the same as the code has it
 
@@ -75,7 +84,7 @@ abbrev pub comes : Asked → Target → Meaning
 comes Help t = help
 comes Unknown t = unknown
 comes Which t = which
-comes Cut t = cut (t .keep) (aimOf t)
+comes Cut t = cut (t .keep) (t .as_is) (aimOf t)
 
 abbrev pub meant : Request → Meaning
 meant r = comes (r .asked) (r .target)

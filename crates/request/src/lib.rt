@@ -1,4 +1,4 @@
-// The words of a request to shrink: `keep` or `suppress`; `size`, `cases` or `hex`; and a number.
+// The words of a request to shrink: `keep` or `suppress`; `size`, `cases` or `hex`; a number; and where it is wanted `as-is`.
 pub mod words;
 
 use naturals::Fit;
@@ -13,7 +13,7 @@ use words::same;
 ghost use mathlib.Core.Path.{_≡_};
 ghost use mathlib.Core.Bool.{cond};
 ghost use Rattle.naturals.specs.Natural.{value};
-ghost use Rattle.request.specs.Request.{nodes, cases, unknown, cut, meant, aimed, requestOf};
+ghost use Rattle.request.specs.Request.{nodes, cases, unknown, cut, meant, aimed, directed, requestOf};
 
 // No word that is taken is longer, so a longer one may be read as an empty one (`wordBuffer` and `Buffered` of specs/Request.antt).
 pub const WORD: usize = DECIMAL;
@@ -27,9 +27,10 @@ pub enum Asked {
 }
 
 // What to cut to: a number of cases where `counted`, else a number of nodes. There is no field that says to
-// underapproximate or to overapproximate: `keep` decides it.
+// underapproximate or to overapproximate: `keep` decides it. Where `as_is`, a diagram that meets the target already keeps its words.
 pub struct Target {
     pub keep: bool,
+    pub as_is: bool,
     pub counted: bool,
     pub size: u32,
     pub count: Natural,
@@ -45,6 +46,7 @@ fn no_cut(asked: Asked) -> Request
 {
     let target = Target {
         keep: false,
+        as_is: false,
         counted: false,
         size: 0,
         count: zero(),
@@ -52,14 +54,15 @@ fn no_cut(asked: Asked) -> Request
     Request { asked, target }
 }
 
-fn by_size(keep: bool, read: Number) -> Request
-    ensures { λ r. ⌜ meant r ≡ cond (read .valid) (cut keep (nodes (read .value))) unknown ⌝ }
+fn by_size(keep: bool, as_is: bool, read: Number) -> Request
+    ensures { λ r. ⌜ meant r ≡ cond (read .valid) (cut keep as_is (nodes (read .value))) unknown ⌝ }
 {
     if !read.valid {
         return no_cut(Asked::Unknown);
     }
     let target = Target {
         keep,
+        as_is,
         counted: false,
         size: read.value,
         count: zero(),
@@ -70,8 +73,8 @@ fn by_size(keep: bool, read: Number) -> Request
     }
 }
 
-fn by_count(keep: bool, read: Fit) -> Request
-    ensures { λ r. ⌜ meant r ≡ cond (read .fits) (cut keep (cases (value (read .natural .words)))) unknown ⌝ }
+fn by_count(keep: bool, as_is: bool, read: Fit) -> Request
+    ensures { λ r. ⌜ meant r ≡ cond (read .fits) (cut keep as_is (cases (value (read .natural .words)))) unknown ⌝ }
 {
     if !read.fits {
         return no_cut(Asked::Unknown);
@@ -79,6 +82,7 @@ fn by_count(keep: bool, read: Fit) -> Request
     let count = read.natural;
     let target = Target {
         keep,
+        as_is,
         counted: true,
         size: 0,
         count,
@@ -90,17 +94,17 @@ fn by_count(keep: bool, read: Fit) -> Request
 }
 
 // The second word says what the third counts, and in which base.
-fn aim(keep: bool, kind: &[u8], number: &[u8]) -> Request
-    ensures { λ r. ⌜ meant r ≡ aimed keep (now (kind .entry)) (now (number .entry)) ⌝ }
+fn aim(keep: bool, as_is: bool, kind: &[u8], number: &[u8]) -> Request
+    ensures { λ r. ⌜ meant r ≡ aimed keep as_is (now (kind .entry)) (now (number .entry)) ⌝ }
 {
     if same(kind, b"size") {
-        return by_size(keep, parse_decimal(number));
+        return by_size(keep, as_is, parse_decimal(number));
     }
     if same(kind, b"cases") {
-        return by_count(keep, parse_natural(number));
+        return by_count(keep, as_is, parse_natural(number));
     }
     if same(kind, b"hex") {
-        return by_count(keep, parse_hexadecimal(number));
+        return by_count(keep, as_is, parse_hexadecimal(number));
     }
     if same(kind, b"count") {
         return no_cut(Asked::Which);
@@ -108,21 +112,34 @@ fn aim(keep: bool, kind: &[u8], number: &[u8]) -> Request
     no_cut(Asked::Unknown)
 }
 
+// The first word says which way to cut.
+fn direct(as_is: bool, direction: &[u8], kind: &[u8], number: &[u8]) -> Request
+    ensures { λ r. ⌜ meant r ≡ directed as_is (now (direction .entry)) (now (kind .entry)) (now (number .entry)) ⌝ }
+{
+    if same(direction, b"keep") {
+        return aim(true, as_is, kind, number);
+    }
+    if same(direction, b"suppress") {
+        return aim(false, as_is, kind, number);
+    }
+    no_cut(Asked::Unknown)
+}
+
 // `count` is how many words there are.
-pub fn ask(count: usize, direction: &[u8], kind: &[u8], number: &[u8]) -> Request
-    ensures { λ r. ⌜ meant r ≡ requestOf count (now (direction .entry)) (now (kind .entry)) (now (number .entry)) ⌝ }
+pub fn ask(count: usize, direction: &[u8], kind: &[u8], number: &[u8], flag: &[u8]) -> Request
+    ensures { λ r. ⌜ meant r ≡ requestOf count (now (direction .entry)) (now (kind .entry)) (now (number .entry)) (now (flag .entry)) ⌝ }
 {
     if count == 0 {
         return no_cut(Asked::Help);
     }
-    if count != 3 {
+    if count == 3 {
+        return direct(false, direction, kind, number);
+    }
+    if count != 4 {
         return no_cut(Asked::Unknown);
     }
-    if same(direction, b"keep") {
-        return aim(true, kind, number);
-    }
-    if same(direction, b"suppress") {
-        return aim(false, kind, number);
+    if same(flag, b"as-is") {
+        return direct(true, direction, kind, number);
     }
     no_cut(Asked::Unknown)
 }

@@ -8,9 +8,9 @@ use Rattle.request.specs.Request.{requestOf}
 use Rattle.shrinking.specs.Shrinking.{done, fileBytes, textBytes, fileBuffer}
 
 -- So many bytes of a file and of a text are the answer to some words and an input.
-pub record Answered (count : ℕ) (direction kind number input : List ℕ) (file text : ℕ) : Type 0 where
-  pub output : file ≡ length (fileBytes (done (requestOf count direction kind number) input fileBuffer))
-  pub said : text ≡ length (textBytes (done (requestOf count direction kind number) input fileBuffer))
+pub record Answered (count : ℕ) (direction kind number flag input : List ℕ) (file text : ℕ) : Type 0 where
+  pub output : file ≡ length (fileBytes (done (requestOf count direction kind number flag) input fileBuffer))
+  pub said : text ≡ length (textBytes (done (requestOf count direction kind number flag) input fileBuffer))
 
 -- There are words and an input that were answered.
 pub record Ran (file text : ℕ) : Type 0 where
@@ -18,5 +18,6 @@ pub record Ran (file text : ℕ) : Type 0 where
   pub direction : List ℕ
   pub kind : List ℕ
   pub number : List ℕ
+  pub flag : List ℕ
   pub input : List ℕ
-  pub answered : Answered count direction kind number input file text
+  pub answered : Answered count direction kind number flag input file text

@@ -1,4 +1,4 @@
-// `shrink keep size 40`, `shrink suppress cases 7936`: a block file on standard input, cut to fit, on standard output. The
+// `shrink keep size 40`, `shrink suppress cases 7936 as-is`: a block file on standard input, cut to fit, on standard output. The
 // summary, the one line of a refusal and the help go to standard error. What is written is decided by `answer` of
 // crates/shrinking alone: here the words are fetched, the input is read, and both channels are written.
 use blocks::layout::BLOCK;
@@ -45,12 +45,28 @@ fn deliver(file: &[u8], text: &[u8], ends: Ends) {
     show(STDERR_FILENO, text, ends.text);
 }
 
-fn run(count: usize, direction: &[u8], kind: &[u8], number: &[u8], bytes: &[u8]) -> Ends
-    ensures { λ r. ⌜ Answered count (now (direction .entry)) (now (kind .entry)) (now (number .entry)) (now (bytes .entry)) (r .file) (r .text) ⌝ }
+fn run(
+    count: usize,
+    direction: &[u8],
+    kind: &[u8],
+    number: &[u8],
+    flag: &[u8],
+    bytes: &[u8],
+) -> Ends
+    ensures { λ r. ⌜ Answered count (now (direction .entry)) (now (kind .entry)) (now (number .entry)) (now (flag .entry)) (now (bytes .entry)) (r .file) (r .text) ⌝ }
 {
     let mut file = [0u8; FILE];
     let mut text = [0u8; SUMMARY];
-    let ends = answer(count, direction, kind, number, bytes, &mut file, &mut text);
+    let ends = answer(
+        count,
+        direction,
+        kind,
+        number,
+        flag,
+        bytes,
+        &mut file,
+        &mut text,
+    );
     deliver(&file, &text, ends);
     ends
 }
@@ -74,14 +90,14 @@ fn word_count() -> usize {
     words - 1
 }
 
-fn read_and_run(direction: &[u8], kind: &[u8], number: &[u8]) -> Ends
+fn read_and_run(direction: &[u8], kind: &[u8], number: &[u8], flag: &[u8]) -> Ends
     ensures { λ r. ⌜ Ran (r .file) (r .text) ⌝ }
 {
     let mut bytes = blank_input();
     let count = word_count();
-    let wanted = wants_input(count, direction, kind, number);
+    let wanted = wants_input(count, direction, kind, number, flag);
     let length = read_input(wanted, &mut bytes);
-    run(count, direction, kind, number, &bytes[..length])
+    run(count, direction, kind, number, flag, &bytes[..length])
 }
 
 // The whole program, for its crate and for the test programs. It answers how many bytes it had for each channel.
@@ -91,8 +107,15 @@ pub fn run_program() -> Ends
     let mut direction = blank_word();
     let mut kind = blank_word();
     let mut number = blank_word();
+    let mut flag = blank_word();
     let first = os::arg(1, &mut direction);
     let second = os::arg(2, &mut kind);
     let third = os::arg(3, &mut number);
-    read_and_run(&direction[..first], &kind[..second], &number[..third])
+    let fourth = os::arg(4, &mut flag);
+    read_and_run(
+        &direction[..first],
+        &kind[..second],
+        &number[..third],
+        &flag[..fourth],
+    )
 }

@@ -51,13 +51,13 @@ module _ (keep : Bool) (aim : Aim) (w a : List ℕ) (trials : ℕ) (file left : 
 
 -- ---- the diagram
 
-module _ (keep : Bool) (aim : Aim) (w room room′ out out′ : List ℕ) {r : Verdict} {k trials : ℕ} (m : Wants w keep aim room room′ out out′ r k trials)
+module _ (keep as-is : Bool) (aim : Aim) (w room room′ out out′ : List ℕ) {r : Verdict} {k trials : ℕ} (m : Wants w keep as-is aim room room′ out out′ r k trials)
     (lent : length out ≡ maxStoredWords) (roomy : length room ≡ roomLent) where
   verdict-is : said r ≡ wantedVerdict keep aim w roomLent maxStoredWords
   verdict-is = rw (lent, roomy) at (m .builds .answers .verdict)
 
   pub diagram-refused : {n p : ℕ} {file text text′ : List ℕ} {end text-end : ℕ} → r ≡ No n p → (end ≡ 0) × Wrote (refusalText n p) text 0 text′ text-end
-      → Shrinks (diagramDone keep aim w (length file)) file file text text′ end text-end
+      → Shrinks (diagramDone keep as-is aim w (length file)) file file text text′ end text-end
   unfolding diagramDone
   diagram-refused e t = rw (sym verdict-is, e) (record { stored = refl; stored-end = t .0; told = t .1 })
 
@@ -65,31 +65,31 @@ module _ (keep : Bool) (aim : Aim) (w room room′ out out′ : List ℕ) {r : V
     accepted-is : wantedVerdict keep aim w (length room) (length out) ≡ accepted n v
     accepted-is = sym (m .builds .answers .verdict) ∙ ap said e
 
-    out-is : out′ ≡ wanted keep aim w .words ++ drop (length (wanted keep aim w .words)) out
+    out-is : out′ ≡ wanted keep as-is aim w .words ++ drop (length (wanted keep as-is aim w .words)) out
     out-is = rw accepted-is at (m .builds .answers .output)
 
-    answer : Accepted (wanted keep aim w .words)
-    answer = answer-accepted w (length room) (length out) keep aim accepted-is
+    answer : Accepted (wanted keep as-is aim w .words)
+    answer = answer-accepted as-is w (length room) (length out) keep aim accepted-is
 
-    count-is : k ≡ size (wanted keep aim w .words)
+    count-is : k ≡ size (wanted keep as-is aim w .words)
     count-is = rw accepted-is at (m .builds .nodes)
 
-    trials-is : trials ≡ wanted keep aim w .trials
+    trials-is : trials ≡ wanted keep as-is aim w .trials
     trials-is = rw accepted-is at (m .trials)
 
-    answer-few : length (wanted keep aim w .words) ≤ maxStoredWords
+    answer-few : length (wanted keep as-is aim w .words) ≤ maxStoredWords
     answer-few =
-        let l : length (wanted keep aim w .words ++ drop (length (wanted keep aim w .words)) out) ≡ length (wanted keep aim w .words) + length (drop (length (wanted keep aim w .words)) out) = length-append (wanted keep aim w .words) _ in
-        let o : length out′ ≡ length (wanted keep aim w .words ++ drop (length (wanted keep aim w .words)) out) = ap length out-is in
+        let l : length (wanted keep as-is aim w .words ++ drop (length (wanted keep as-is aim w .words)) out) ≡ length (wanted keep as-is aim w .words) + length (drop (length (wanted keep as-is aim w .words)) out) = length-append (wanted keep as-is aim w .words) _ in
+        let o : length out′ ≡ length (wanted keep as-is aim w .words ++ drop (length (wanted keep as-is aim w .words)) out) = ap length out-is in
         omega arith
 
     pub answer-long : 3 * k ≤ maxStoredWords
     answer-long = omega (arith, answer .formed .whole, answer-few, count-is)
 
-    words-are : take (3 * k) out′ ≡ wanted keep aim w .words
+    words-are : take (3 * k) out′ ≡ wanted keep as-is aim w .words
     words-are =
-        let l : 3 * k ≡ length (wanted keep aim w .words) = omega (arith, answer .formed .whole, count-is) in
-        rw (l, out-is) (take-append-seam (wanted keep aim w .words) _)
+        let l : 3 * k ≡ length (wanted keep as-is aim w .words) = omega (arith, answer .formed .whole, count-is) in
+        rw (l, out-is) (take-append-seam (wanted keep as-is aim w .words) _)
 
     pub answer-ready : Accepted w × (size w ≤ maxStored) × Accepted (take (3 * k) out′) × (size (take (3 * k) out′) ≤ maxStored)
     answer-ready =
@@ -97,21 +97,21 @@ module _ (keep : Bool) (aim : Aim) (w room room′ out out′ : List ℕ) {r : V
         rw words-are (d .accepted, omega (arith, d .fits), answer, omega (arith, answer .formed .whole, answer-few))
 
     pub diagram-done : {file left text text′ : List ℕ} {end text-end : ℕ} → Shrinks (storing keep aim w (take (3 * k) out′) trials (length file)) file left text text′ end text-end
-        → Shrinks (diagramDone keep aim w (length file)) file left text text′ end text-end
+        → Shrinks (diagramDone keep as-is aim w (length file)) file left text text′ end text-end
     unfolding diagramDone
     diagram-done t = rw (sym verdict-is, e) (rw (words-are, trials-is) at t)
 
 -- ---- the file
 
-module _ (keep : Bool) (aim : Aim) (s blank left : List ℕ) {r : Stored} (h : ReadsFile s blank left r) (is-blank : blank ≡ replicate maxStoredWords 0) where
+module _ (keep as-is : Bool) (aim : Aim) (s blank left : List ℕ) {r : Stored} (h : ReadsFile s blank left r) (is-blank : blank ≡ replicate maxStoredWords 0) where
   pub file-refused : {k p : ℕ} {file text text′ : List ℕ} {end text-end : ℕ} → r ≡ Unread k p → (end ≡ 0) × Wrote (refusalText k p) text 0 text′ text-end
-      → Shrinks (done (cut keep aim) s (length file)) file file text text′ end text-end
+      → Shrinks (done (cut keep as-is aim) s (length file)) file file text text′ end text-end
   unfolding done
   file-refused e t = rw (sym is-blank, sym (h .is), e) (record { stored = refl; stored-end = t .0; told = t .1 })
 
   pub file-done : {n : ℕ} {file file′ text text′ : List ℕ} {end text-end : ℕ} → r ≡ Nodes n
-      → Shrinks (diagramDone keep aim (take (3 * n) left) (length file)) file file′ text text′ end text-end
-      → Shrinks (done (cut keep aim) s (length file)) file file′ text text′ end text-end
+      → Shrinks (diagramDone keep as-is aim (take (3 * n) left) (length file)) file file′ text text′ end text-end
+      → Shrinks (done (cut keep as-is aim) s (length file)) file file′ text text′ end text-end
   unfolding done
   file-done e t = rw (sym is-blank, sym (h .is), e) t
 

@@ -47,37 +47,37 @@ module _ (P : Done → Type 0) (lent : ℕ) (no : (number place : ℕ) → P (re
   unfolding storing
   storing-all keep aim w a trials = if-stored keep aim w a trials (writeOutcome a lent) refl
 
-  if-cut : (keep : Bool) (aim : Aim) (w : List ℕ) (o : Outcome) → P (ifCut keep aim w lent o)
-  if-cut keep aim w (accepted n v) = storing-all keep aim w (wanted keep aim w .words) (wanted keep aim w .trials)
-  if-cut keep aim w (rejected number place) = no number place
+  if-cut : (keep as-is : Bool) (aim : Aim) (w : List ℕ) (o : Outcome) → P (ifCut keep as-is aim w lent o)
+  if-cut keep as-is aim w (accepted n v) = storing-all keep aim w (wanted keep as-is aim w .words) (wanted keep as-is aim w .trials)
+  if-cut keep as-is aim w (rejected number place) = no number place
 
-  diagram-all : (keep : Bool) (aim : Aim) (w : List ℕ) → P (diagramDone keep aim w lent)
+  diagram-all : (keep as-is : Bool) (aim : Aim) (w : List ℕ) → P (diagramDone keep as-is aim w lent)
   unfolding diagramDone
-  diagram-all keep aim w = if-cut keep aim w (wantedVerdict keep aim w roomLent maxStoredWords)
+  diagram-all keep as-is aim w = if-cut keep as-is aim w (wantedVerdict keep aim w roomLent maxStoredWords)
 
-  read-all : (keep : Bool) (aim : Aim) (r : Reading) → P (ifRead keep aim lent r)
-  read-all keep aim (reading (stored n) left) = diagram-all keep aim (take (3 * n) left)
-  read-all keep aim (reading (unread number place) left) = no number place
+  read-all : (keep as-is : Bool) (aim : Aim) (r : Reading) → P (ifRead keep as-is aim lent r)
+  read-all keep as-is aim (reading (stored n) left) = diagram-all keep as-is aim (take (3 * n) left)
+  read-all keep as-is aim (reading (unread number place) left) = no number place
 
 pub file-fits : (m : Meaning) (s : List ℕ) (lent : ℕ) → length (fileBytes (done m s lent)) ≤ fileBuffer
 unfolding done
 file-fits help s lent = omega arith
 file-fits unknown s lent = omega arith
 file-fits which s lent = omega arith
-file-fits (cut keep aim) s lent =
+file-fits (cut keep as-is aim) s lent =
     read-all (λ d. length (fileBytes d) ≤ fileBuffer) lent (λ number place. omega arith)
     (λ k b w a trials n e. (let i = is-written a lent n e in omega (arith, file-length a, i .lengths .few)))
-    keep aim (readFile s blank)
+    keep as-is aim (readFile s blank)
 
 pub text-fits : (m : Meaning) (s : List ℕ) (lent : ℕ) → length (textBytes (done m s lent)) ≤ textBuffer
 unfolding done
 text-fits help s lent = omega arith
 text-fits unknown s lent = omega arith
 text-fits which s lent = omega arith
-text-fits (cut keep aim) s lent =
+text-fits (cut keep as-is aim) s lent =
     read-all (λ d. length (textBytes d) ≤ textBuffer) lent (λ number place. omega (arith, refusal-length number place))
     (λ k b w a trials n e. summary-length k b w a trials)
-    keep aim (readFile s blank)
+    keep as-is aim (readFile s blank)
 
 -- ---- the writer's 4
 
@@ -110,21 +110,21 @@ unfolding done
 front-is-enough help s k lent h = refl
 front-is-enough unknown s k lent h = refl
 front-is-enough which s k lent h = refl
-front-is-enough (cut keep aim) s k lent h = ap (ifRead keep aim lent) (front-enough s blank k h)
+front-is-enough (cut keep as-is aim) s k lent h = ap (ifRead keep as-is aim lent) (front-enough s blank k h)
 
 pub no-file : (m : Meaning) (s : List ℕ) (lent : ℕ) → looks m ≡ false → fileBytes (done m s lent) ≡ []
 unfolding done
 no-file help s lent e = refl
 no-file unknown s lent e = refl
 no-file which s lent e = refl
-no-file (cut keep aim) s lent e = let z : _≡_ {A = ℕ} 0 1 = cc in absurd (omega arith)
+no-file (cut keep as-is aim) s lent e = let z : _≡_ {A = ℕ} 0 1 = cc in absurd (omega arith)
 
 pub no-input : (m : Meaning) (s t : List ℕ) (lent : ℕ) → looks m ≡ false → done m s lent ≡ done m t lent
 unfolding done
 no-input help s t lent e = refl
 no-input unknown s t lent e = refl
 no-input which s t lent e = refl
-no-input (cut keep aim) s t lent e = let z : _≡_ {A = ℕ} 0 1 = cc in absurd (omega arith)
+no-input (cut keep as-is aim) s t lent e = let z : _≡_ {A = ℕ} 0 1 = cc in absurd (omega arith)
 
 -- ---- what stands in the buffers up to the ends is the whole of both answers
 

@@ -1,7 +1,7 @@
 -- What a supervisor is promised, from bytes to bytes.
 use Prim.Native.Nat.{ℕ, zero, suc, _+_, _*_, _/_, _%_, _≤_, _<_, _^_}
 use mathlib.Core.Path.{_≡_, refl, sym, ap, _∙_}
-use mathlib.Core.Bool.{Bool, true, false, cond, not}
+use mathlib.Core.Bool.{Bool, true, false, cond, not, true≢false}
 use mathlib.Core.List.{List, [], _++_}
 use mathlib.Core.Logic.{_⊎_, inl, inr}
 use native.Mathlib.Omega.{arith}
@@ -10,6 +10,7 @@ use lib.Seq.{take-at}
 use lib.Dec.{eqb}
 use Rattle.diagram.specs.Diagram.{varOf, lowOf, highOf, size, vars, Formed, Accepted}
 use Rattle.diagram.specs.Verdict.{Outcome, accepted, refused as rejected}
+use Rattle.reduction.specs.Reduce.{reduce}
 use Rattle.approximation.specs.Cut.{Under, Over}
 use Rattle.writing.specs.Writing.{bytes}
 use Rattle.writing.proofs.Laws.{by-le}
@@ -19,10 +20,10 @@ use Rattle.blocks.specs.Block.{Outcome as Stored, nodes as stored, refused as u
 use Rattle.block_file.specs.File.{Reading, reading, readFile, writeOutcome, fileOf}
 use Rattle.block_file.proofs.Storing.{is-written}
 use Rattle.block_file.proofs.Returning.{written-reads}
-use Rattle.request.specs.Request.{alike, Aim, nodes, cases, Meaning, help, unknown, which, cut, ifNumber, aimed, requestOf}
+use Rattle.request.specs.Request.{alike, Aim, nodes, cases, Meaning, help, unknown, which, cut, ifNumber, aimed, directed, requestOf}
 use Rattle.shrinking.specs.Shrinking.{ifStored, storing, wanted, wantedVerdict, ifCut, diagramDone, ifRead, blank, done, fileBytes, fileBuffer}
 use Rattle.shrinking.specs.Supervised.{output, ReadsAs, Supervised}
-use Rattle.shrinking.proofs.Wanting.{keep-nodes, keep-cases, keep-over, suppress-nodes, suppress-cases, suppress-under}
+use Rattle.shrinking.proofs.Wanting.{keep-nodes, keep-cases, keep-over, suppress-nodes, suppress-cases, suppress-under, answer-accepted, answer-least}
 use Rattle.shrinking.proofs.Fitting.{file-fits, text-fits, never-short, front-is-enough, no-file, no-input}
 use Rattle.report.specs.Report.{roomLent}
 
@@ -72,13 +73,13 @@ module _ (w : List ℕ) (f : Formed w) where
 
 -- ---- a cut of the file of w
 
-module _ (w : List ℕ) (lent n : ℕ) (small : (k : ℕ) → getD w k 0 < 2 ^ 32) (e : writeOutcome w lent ≡ stored n) (P : List ℕ → Type 0) (keep : Bool) (aim : Aim)
-    (right : (m v : ℕ) → wantedVerdict keep aim w roomLent maxStoredWords ≡ accepted m v → P (wanted keep aim w .words) × Accepted (wanted keep aim w .words)) where
+module _ (w : List ℕ) (lent n : ℕ) (small : (k : ℕ) → getD w k 0 < 2 ^ 32) (e : writeOutcome w lent ≡ stored n) (P : List ℕ → Type 0) (keep as-is : Bool) (aim : Aim)
+    (right : (m v : ℕ) → wantedVerdict keep aim w roomLent maxStoredWords ≡ accepted m v → P (wanted keep as-is aim w .words) × Accepted (wanted keep as-is aim w .words)) where
   abbrev answer : List ℕ
-  answer = wanted keep aim w .words
+  answer = wanted keep as-is aim w .words
 
   stored-reads : (o : Stored) → Accepted answer → P answer → writeOutcome answer fileBuffer ≡ o
-      → (fileBytes (ifStored keep aim w answer (wanted keep aim w .trials) o) ≡ []) ⊎ ReadsAs P (fileBytes (ifStored keep aim w answer (wanted keep aim w .trials) o))
+      → (fileBytes (ifStored keep aim w answer (wanted keep as-is aim w .trials) o) ≡ []) ⊎ ReadsAs P (fileBytes (ifStored keep aim w answer (wanted keep as-is aim w .trials) o))
   stored-reads (unread k p) a h g = inl refl
   stored-reads (stored m) a h g =
       let i = is-written answer fileBuffer m g in
@@ -88,7 +89,7 @@ module _ (w : List ℕ) (lent n : ℕ) (small : (k : ℕ) → getD w k 0 < 2 ^ 3
         true-of = h;
       })
 
-  cut-reads : (o : Outcome) → wantedVerdict keep aim w roomLent maxStoredWords ≡ o → (fileBytes (ifCut keep aim w fileBuffer o) ≡ []) ⊎ ReadsAs P (fileBytes (ifCut keep aim w fileBuffer o))
+  cut-reads : (o : Outcome) → wantedVerdict keep aim w roomLent maxStoredWords ≡ o → (fileBytes (ifCut keep as-is aim w fileBuffer o) ≡ []) ⊎ ReadsAs P (fileBytes (ifCut keep as-is aim w fileBuffer o))
   unfolding storing
   cut-reads (rejected k p) g = inl refl
   cut-reads (accepted m v) g = let r = right m v g in stored-reads (writeOutcome answer fileBuffer) (r .1) (r .0) refl
@@ -96,72 +97,113 @@ module _ (w : List ℕ) (lent n : ℕ) (small : (k : ℕ) → getD w k 0 < 2 ^ 3
   words-back : take (3 * n) (w ++ drop (length w) blank) ≡ w
   words-back = let i = is-written w lent n e in take-at w (drop (length w) blank) (3 * n) (omega (arith, i .lengths .whole, i .count))
 
-  pub file-reads : (fileBytes (done (cut keep aim) (fileOf w) fileBuffer) ≡ []) ⊎ ReadsAs P (fileBytes (done (cut keep aim) (fileOf w) fileBuffer))
+  pub file-reads : (fileBytes (done (cut keep as-is aim) (fileOf w) fileBuffer) ≡ []) ⊎ ReadsAs P (fileBytes (done (cut keep as-is aim) (fileOf w) fileBuffer))
   unfolding done diagramDone
   file-reads =
       let i = is-written w lent n e in
       let r : readFile (fileOf w) blank ≡ reading (stored n) (w ++ drop (length w) blank) = written-reads w blank lent small e (omega (arith, i .lengths .whole, i .lengths .few)) in
       rw (r, words-back) (cut-reads (wantedVerdict keep aim w roomLent maxStoredWords) refl)
 
--- ---- words that begin with keep ask for no cut or for one that keeps; likewise suppress
+-- ---- what the words come to: no cut, or one of which something is true
 
-data Turns (keep : Bool) : Meaning → Type 0 where
-  to-help : Turns keep help
-  to-unknown : Turns keep unknown
-  to-which : Turns keep which
-  to-cut : (aim : Aim) → Turns keep (cut keep aim)
+data Turns (P : Bool → Bool → Type 0) : Meaning → Type 0 where
+  to-help : Turns P help
+  to-unknown : Turns P unknown
+  to-which : Turns P which
+  to-cut : {keep as-is : Bool} (aim : Aim) → P keep as-is → Turns P (cut keep as-is aim)
 
-turns-cond : {keep : Bool} (b : Bool) {x y : Meaning} → Turns keep x → Turns keep y → Turns keep (cond b x y)
+turns-cond : {P : Bool → Bool → Type 0} (b : Bool) {x y : Meaning} → Turns P x → Turns P y → Turns P (cond b x y)
 turns-cond true x y = x
 turns-cond false x y = y
 
-turns-number : (keep : Bool) (aim : ℕ → Aim) (r : Parsed) → Turns keep (ifNumber keep aim r)
-turns-number keep aim (number n) = to-cut (aim n)
-turns-number keep aim none = to-unknown
+module _ (P : Bool → Bool → Type 0) (keep as-is : Bool) (h : P keep as-is) where
+  turns-number : (aim : ℕ → Aim) (r : Parsed) → Turns P (ifNumber keep as-is aim r)
+  turns-number aim (number n) = to-cut (aim n) h
+  turns-number aim none = to-unknown
 
-turns-aimed : (keep : Bool) (kind text : List ℕ) → Turns keep (aimed keep kind text)
-unfolding aimed
-turns-aimed keep kind text =
-    turns-cond (alike kind (bytes "size")) (turns-number keep nodes (parsed 10 (2 ^ 32) text))
-    (turns-cond (alike kind (bytes "cases")) (turns-number keep cases (parsed 10 limit text))
-    (turns-cond (alike kind (bytes "hex")) (turns-number keep cases (parsed 16 limit text))
-    (turns-cond (alike kind (bytes "count")) to-which
+  turns-aimed : (kind text : List ℕ) → Turns P (aimed keep as-is kind text)
+  unfolding aimed
+  turns-aimed kind text =
+      turns-cond (alike kind (bytes "size")) (turns-number nodes (parsed 10 (2 ^ 32) text))
+      (turns-cond (alike kind (bytes "cases")) (turns-number cases (parsed 10 limit text))
+      (turns-cond (alike kind (bytes "hex")) (turns-number cases (parsed 16 limit text))
+      (turns-cond (alike kind (bytes "count")) to-which
+      to-unknown)))
+
+-- Words that begin with keep cut no other way, and likewise suppress; three words don't keep what meets the target already.
+abbrev Towards : Bool → Bool → Bool → Type 0
+Towards way keep as-is = keep ≡ way
+
+abbrev Reducing : Bool → Bool → Type 0
+Reducing keep as-is = as-is ≡ false
+
+turns-asked : {P : Bool → Bool → Type 0} (count : ℕ) (first kind text flag : List ℕ) → ((as-is : Bool) → Turns P (directed as-is first kind text)) → Turns P (requestOf count first kind text flag)
+unfolding requestOf
+turns-asked count first kind text flag each =
+    turns-cond (eqb count 0) to-help
+    (turns-cond (eqb count 3) (each false)
+    (turns-cond (not (eqb count 4)) to-unknown
+    (turns-cond (alike flag (bytes "as-is")) (each true)
     to-unknown)))
 
-turns-keep : (count : ℕ) (kind text : List ℕ) → Turns true (requestOf count (bytes "keep") kind text)
-unfolding requestOf alike
-turns-keep count kind text = turns-cond (eqb count 0) to-help (turns-cond (not (eqb count 3)) to-unknown (turns-aimed true kind text))
+turns-keep : (count : ℕ) (kind text flag : List ℕ) → Turns (Towards true) (requestOf count (bytes "keep") kind text flag)
+unfolding directed alike
+turns-keep count kind text flag = turns-asked count (bytes "keep") kind text flag each
+  where
+    each : (as-is : Bool) → Turns (Towards true) (directed as-is (bytes "keep") kind text)
+    each as-is = turns-aimed (Towards true) true as-is refl kind text
 
-turns-suppress : (count : ℕ) (kind text : List ℕ) → Turns false (requestOf count (bytes "suppress") kind text)
-unfolding requestOf alike
-turns-suppress count kind text = turns-cond (eqb count 0) to-help (turns-cond (not (eqb count 3)) to-unknown (turns-aimed false kind text))
+turns-suppress : (count : ℕ) (kind text flag : List ℕ) → Turns (Towards false) (requestOf count (bytes "suppress") kind text flag)
+unfolding directed alike
+turns-suppress count kind text flag = turns-asked count (bytes "suppress") kind text flag each
+  where
+    each : (as-is : Bool) → Turns (Towards false) (directed as-is (bytes "suppress") kind text)
+    each as-is = turns-aimed (Towards false) false as-is refl kind text
 
-module _ (w : List ℕ) (lent n : ℕ) (small : (k : ℕ) → getD w k 0 < 2 ^ 32) (e : writeOutcome w lent ≡ stored n) where
-  keeps-by : {m : Meaning} → Turns true m → (fileBytes (done m (fileOf w) fileBuffer) ≡ []) ⊎ ReadsAs (Over w) (fileBytes (done m (fileOf w) fileBuffer))
+turns-three : (first kind text flag : List ℕ) → Turns Reducing (requestOf 3 first kind text flag)
+unfolding requestOf directed
+turns-three first kind text flag =
+    turns-cond (alike first (bytes "keep")) (turns-aimed Reducing true false refl kind text)
+    (turns-cond (alike first (bytes "suppress")) (turns-aimed Reducing false false refl kind text)
+    to-unknown)
+
+-- So the file has what the answers have.
+module _ (w : List ℕ) (lent n : ℕ) (small : (k : ℕ) → getD w k 0 < 2 ^ 32) (e : writeOutcome w lent ≡ stored n) (P : Bool → Bool → Type 0) (Q : List ℕ → Type 0)
+    (right : (keep as-is : Bool) (aim : Aim) → P keep as-is → (m v : ℕ) → wantedVerdict keep aim w roomLent maxStoredWords ≡ accepted m v
+    → Q (wanted keep as-is aim w .words)) where
+  writes : {m : Meaning} → Turns P m → (fileBytes (done m (fileOf w) fileBuffer) ≡ []) ⊎ ReadsAs Q (fileBytes (done m (fileOf w) fileBuffer))
   unfolding done
-  keeps-by to-help = inl refl
-  keeps-by to-unknown = inl refl
-  keeps-by to-which = inl refl
-  keeps-by (to-cut aim) = file-reads w lent n small e (Over w) true aim (λ m v g. (let o = keep-over w roomLent maxStoredWords aim g in (o, o .accepted)))
+  writes to-help = inl refl
+  writes to-unknown = inl refl
+  writes to-which = inl refl
+  writes (to-cut {keep = keep} {as-is = as-is} aim h) =
+      file-reads w lent n small e Q keep as-is aim (λ m v g. (right keep as-is aim h m v g, answer-accepted as-is w roomLent maxStoredWords keep aim g))
 
-  suppresses-by : {m : Meaning} → Turns false m → (fileBytes (done m (fileOf w) fileBuffer) ≡ []) ⊎ ReadsAs (Under w) (fileBytes (done m (fileOf w) fileBuffer))
-  unfolding done
-  suppresses-by to-help = inl refl
-  suppresses-by to-unknown = inl refl
-  suppresses-by to-which = inl refl
-  suppresses-by (to-cut aim) = file-reads w lent n small e (Under w) false aim (λ m v g. (let o = suppress-under w roomLent maxStoredWords aim g in (o, o .accepted)))
+module _ (w : List ℕ) where
+  keeps-right : (keep as-is : Bool) (aim : Aim) → keep ≡ true → (m v : ℕ) → wantedVerdict keep aim w roomLent maxStoredWords ≡ accepted m v → Over w (wanted keep as-is aim w .words)
+  keeps-right true as-is aim h m v g = keep-over as-is w roomLent maxStoredWords aim g
+  keeps-right false as-is aim h m v g = absurd (true≢false (sym h))
+
+  suppresses-right : (keep as-is : Bool) (aim : Aim) → keep ≡ false → (m v : ℕ) → wantedVerdict keep aim w roomLent maxStoredWords ≡ accepted m v → Under w (wanted keep as-is aim w .words)
+  suppresses-right true as-is aim h m v g = absurd (true≢false h)
+  suppresses-right false as-is aim h m v g = suppress-under as-is w roomLent maxStoredWords aim g
+
+  tidies-right : (keep as-is : Bool) (aim : Aim) → as-is ≡ false → (m v : ℕ) → wantedVerdict keep aim w roomLent maxStoredWords ≡ accepted m v
+      → reduce (wanted keep as-is aim w .words) ≡ wanted keep as-is aim w .words
+  tidies-right keep as-is aim h m v g = rw h (answer-least w roomLent maxStoredWords keep aim g)
 
 pub supervised : Supervised
 supervised =
     record {
-      keeps = λ w kind text count lent n small e. keeps-by w lent n small e (turns-keep count kind text);
-      suppresses = λ w kind text count lent n small e. suppresses-by w lent n small e (turns-suppress count kind text);
+      keeps = λ w kind text flag count lent n small e. writes w lent n small e (Towards true) (Over w) (keeps-right w) (turns-keep count kind text flag);
+      suppresses = λ w kind text flag count lent n small e. writes w lent n small e (Towards false) (Under w) (suppresses-right w) (turns-suppress count kind text flag);
+      tidies = λ w first kind text flag lent n small e. writes w lent n small e Reducing (λ a. reduce a ≡ a) (tidies-right w) (turns-three first kind text flag);
       no-file = no-file;
       no-input = no-input;
-      nodes-kept = λ w t room lent n v e. keep-nodes w room lent t e .1;
-      nodes-left = λ w t room lent n v e. suppress-nodes w room lent t e .1;
-      cases-kept = λ w k room lent n v e. keep-cases w room lent k e .1;
-      cases-left = λ w k room lent n v e. suppress-cases w room lent k e .1;
+      nodes-kept = λ as-is w t room lent n v e. keep-nodes as-is w room lent t e .1;
+      nodes-left = λ as-is w t room lent n v e. suppress-nodes as-is w room lent t e .1;
+      cases-kept = λ as-is w k room lent n v e. keep-cases as-is w room lent k e .1;
+      cases-left = λ as-is w k room lent n v e. suppress-cases as-is w room lent k e .1;
       file-fits = file-fits;
       text-fits = text-fits;
       never-short = never-short;

@@ -1,4 +1,4 @@
--- What shrinking a block file answers: `w` is the words of a diagram, `s` the bytes of a file; `keep` and `aim` are what
+-- What shrinking a block file answers: `w` is the words of a diagram, `s` the bytes of a file; `keep`, `as-is` and `aim` are what
 -- the words of a request mean.
 use Prim.Native.Nat.{ℕ, _*_}
 use mathlib.Core.Path.{_≡_}
@@ -9,7 +9,8 @@ use Rattle.diagram.specs.Diagram.{size}
 use Rattle.diagram.specs.Valuations.{countOf}
 use Rattle.diagram.specs.Verdict.{Outcome, accepted, refused as rejected}
 use Rattle.diagram.specs.declared.verdict.Verdict.{Verdict}
-use Rattle.approximation.specs.Search.{Answer, underToSize, overToSize, underToCount, overToCount}
+use Rattle.approximation.specs.Search.{Answer}
+use Rattle.approximation.specs.Met.{underSizeAnswer, overSizeAnswer, underCountAnswer, overCountAnswer}
 use Rattle.targets.specs.Targets.{underSizeVerdict, overSizeVerdict, underCountVerdict, overCountVerdict, Meets}
 use Rattle.blocks.specs.Block.{blockBytes, maxStored, maxStoredWords, Outcome as Stored, nodes as stored, refused as unread}
 use Rattle.block_file.specs.File.{blockCount, Reading, reading, readFile, writeOutcome, fileOf}
@@ -20,11 +21,11 @@ use Rattle.messages.specs.Texts.{helpText, unknownText, whichText, refusalText,
 
 -- ---- the one cut that is meant: keep goes over, suppress goes under
 
-unfoldable pub wanted : Bool → Aim → List ℕ → Answer
-wanted true (nodes t) w = overToSize w t
-wanted false (nodes t) w = underToSize w t
-wanted true (cases k) w = overToCount w k
-wanted false (cases k) w = underToCount w k
+unfoldable pub wanted : Bool → Bool → Aim → List ℕ → Answer
+wanted true as-is (nodes t) w = overSizeAnswer as-is w t
+wanted false as-is (nodes t) w = underSizeAnswer as-is w t
+wanted true as-is (cases k) w = overCountAnswer as-is w k
+wanted false as-is (cases k) w = underCountAnswer as-is w k
 
 unfoldable pub wantedVerdict : Bool → Aim → List ℕ → ℕ → ℕ → Outcome
 wantedVerdict true (nodes t) w = overSizeVerdict w t
@@ -33,8 +34,8 @@ wantedVerdict true (cases k) w = overCountVerdict w k
 wantedVerdict false (cases k) w = underCountVerdict w k
 
 -- For the code inside: what is answered of it.
-abbrev pub Wants : (w : List ℕ) (keep : Bool) (aim : Aim) (room room′ out out′ : List ℕ) → Verdict → ℕ → ℕ → Type 0
-Wants w keep aim = Meets (wantedVerdict keep aim w) (wanted keep aim w) w
+abbrev pub Wants : (w : List ℕ) (keep as-is : Bool) (aim : Aim) (room room′ out out′ : List ℕ) → Verdict → ℕ → ℕ → Type 0
+Wants w keep as-is aim = Meets (wantedVerdict keep aim w) (wanted keep as-is aim w) w
 
 -- ---- what is done
 
@@ -53,34 +54,34 @@ unfoldable pub storing : Bool → Aim → List ℕ → List ℕ → ℕ → ℕ 
 storing keep aim w a trials lent = ifStored keep aim w a trials (writeOutcome a lent)
 
 -- The words of the output and of the room are those that the most nodes of a file need.
-abbrev pub ifCut : Bool → Aim → List ℕ → ℕ → Outcome → Done
-ifCut keep aim w lent (accepted n v) = storing keep aim w (wanted keep aim w .words) (wanted keep aim w .trials) lent
-ifCut keep aim w lent (rejected number place) = refused number place
+abbrev pub ifCut : Bool → Bool → Aim → List ℕ → ℕ → Outcome → Done
+ifCut keep as-is aim w lent (accepted n v) = storing keep aim w (wanted keep as-is aim w .words) (wanted keep as-is aim w .trials) lent
+ifCut keep as-is aim w lent (rejected number place) = refused number place
 
-unfoldable pub diagramDone : Bool → Aim → List ℕ → ℕ → Done
-diagramDone keep aim w lent = ifCut keep aim w lent (wantedVerdict keep aim w roomLent maxStoredWords)
+unfoldable pub diagramDone : Bool → Bool → Aim → List ℕ → ℕ → Done
+diagramDone keep as-is aim w lent = ifCut keep as-is aim w lent (wantedVerdict keep aim w roomLent maxStoredWords)
 
 -- What the input is read into.
 abbrev pub blank : List ℕ
 blank = replicate maxStoredWords 0
 
-abbrev pub ifRead : Bool → Aim → ℕ → Reading → Done
-ifRead keep aim lent (reading (stored n) left) = diagramDone keep aim (take (3 * n) left) lent
-ifRead keep aim lent (reading (unread number place) left) = refused number place
+abbrev pub ifRead : Bool → Bool → Aim → ℕ → Reading → Done
+ifRead keep as-is aim lent (reading (stored n) left) = diagramDone keep as-is aim (take (3 * n) left) lent
+ifRead keep as-is aim lent (reading (unread number place) left) = refused number place
 
 -- By what the words mean; `lent` is the length of the file buffer.
 unfoldable pub done : Meaning → List ℕ → ℕ → Done
 done help s lent = told helpText
 done unknown s lent = told unknownText
 done which s lent = told whichText
-done (cut keep aim) s lent = ifRead keep aim lent (readFile s blank)
+done (cut keep as-is aim) s lent = ifRead keep as-is aim lent (readFile s blank)
 
 -- Whether the input is looked at: only for a cut.
 abbrev pub looks : Meaning → Bool
 looks help = false
 looks unknown = false
 looks which = false
-looks (cut keep aim) = true
+looks (cut keep as-is aim) = true
 
 -- ---- what is written of it
 

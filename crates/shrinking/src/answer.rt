@@ -36,10 +36,10 @@ fn obey(request: Request, bytes: &[u8], file: &mut [u8], text: &mut [u8]) -> End
 }
 
 // Whether the words ask for a cut: else the input is not looked at.
-pub fn wants_input(count: usize, direction: &[u8], kind: &[u8], number: &[u8]) -> bool
-    ensures { λ r. ⌜ r ≡ looks (requestOf count (now (direction .entry)) (now (kind .entry)) (now (number .entry))) ⌝ }
+pub fn wants_input(count: usize, direction: &[u8], kind: &[u8], number: &[u8], flag: &[u8]) -> bool
+    ensures { λ r. ⌜ r ≡ looks (requestOf count (now (direction .entry)) (now (kind .entry)) (now (number .entry)) (now (flag .entry))) ⌝ }
 {
-    let request = ask(count, direction, kind, number);
+    let request = ask(count, direction, kind, number, flag);
     let asked = request.asked;
     match asked {
         Asked::Cut => true,
@@ -55,12 +55,13 @@ pub fn answer(
     direction: &[u8],
     kind: &[u8],
     number: &[u8],
+    flag: &[u8],
     bytes: &[u8],
     file: &mut [u8],
     text: &mut [u8],
 ) -> Ends
-    ensures { λ r. ⌜ Shrinks (done (requestOf count (now (direction .entry)) (now (kind .entry)) (now (number .entry))) (now (bytes .entry)) (length (now (file .entry)))) (now (file .entry)) (now (file .exit)) (now (text .entry)) (now (text .exit)) (r .file) (r .text) ⌝ }
+    ensures { λ r. ⌜ Shrinks (done (requestOf count (now (direction .entry)) (now (kind .entry)) (now (number .entry)) (now (flag .entry))) (now (bytes .entry)) (length (now (file .entry)))) (now (file .entry)) (now (file .exit)) (now (text .entry)) (now (text .exit)) (r .file) (r .text) ⌝ }
 {
-    let request = ask(count, direction, kind, number);
+    let request = ask(count, direction, kind, number, flag);
     obey(request, bytes, file, text)
 }

@@ -65,7 +65,7 @@ pub(crate) fn shrink_diagram(
     file: &mut [u8],
     text: &mut [u8],
 ) -> Ends
-    ensures { λ r. ⌜ Shrinks (diagramDone (target .keep) (aimOf target) (now (words .entry)) (length (now (file .entry)))) (now (file .entry)) (now (file .exit)) (now (text .entry)) (now (text .exit)) (r .file) (r .text) ⌝ }
+    ensures { λ r. ⌜ Shrinks (diagramDone (target .keep) (target .as_is) (aimOf target) (now (words .entry)) (length (now (file .entry)))) (now (file .entry)) (now (file .exit)) (now (text .entry)) (now (text .exit)) (r .file) (r .text) ⌝ }
 {
     let mut output = [0u32; FILE_WORDS];
     let mut room = [0u32; ROOM];
@@ -86,7 +86,7 @@ pub(crate) fn shrink_diagram(
 
 // The whole cut, on the bytes of a block file.
 pub(crate) fn shrink(bytes: &[u8], target: Target, file: &mut [u8], text: &mut [u8]) -> Ends
-    ensures { λ r. ⌜ Shrinks (done (cut (target .keep) (aimOf target)) (now (bytes .entry)) (length (now (file .entry)))) (now (file .entry)) (now (file .exit)) (now (text .entry)) (now (text .exit)) (r .file) (r .text) ⌝ }
+    ensures { λ r. ⌜ Shrinks (done (cut (target .keep) (target .as_is) (aimOf target)) (now (bytes .entry)) (length (now (file .entry)))) (now (file .entry)) (now (file .exit)) (now (text .entry)) (now (text .exit)) (r .file) (r .text) ⌝ }
 {
     let mut words = [0u32; FILE_WORDS];
     let stored = read_file(bytes, &mut words);

@@ -18,22 +18,43 @@ fn show(bytes: &[u8], end: usize) {
     io::write_all(STDOUT_FILENO, &bytes[..end]);
 }
 
-fn run(direction: &[u8], kind: &[u8], number: &[u8], bytes: &[u8]) {
+fn run(count: usize, direction: &[u8], kind: &[u8], number: &[u8], flag: &[u8], bytes: &[u8]) {
     let mut file = [0u8; BLOCK];
     let mut text = [0u8; TEXT];
-    let ends = answer(3, direction, kind, number, bytes, &mut file, &mut text);
+    let ends = answer(
+        count,
+        direction,
+        kind,
+        number,
+        flag,
+        bytes,
+        &mut file,
+        &mut text,
+    );
     show(&file, ends.file);
     show(&text, ends.text);
+}
+
+fn cuts(bytes: &[u8]) {
+    // At most twelve cases. Taken for hexadecimal, 12 would be eighteen.
+    run(3, b"suppress", b"cases", b"12", b"", bytes);
+    run(3, b"keep", b"size", b"4", b"", bytes);
+    // A zero in front.
+    run(3, b"keep", b"size", b"04", b"", bytes);
+}
+
+// It fits already: reduced, and as it is. Of three words the fourth is not looked at.
+fn fits(bytes: &[u8]) {
+    run(3, b"keep", b"size", b"9", b"as-is", bytes);
+    run(4, b"keep", b"size", b"9", b"as-is", bytes);
+    run(4, b"keep", b"size", b"9", b"asis", bytes);
 }
 
 fn main() {
     let mut bytes = [0u8; BLOCK];
     io::read_full(0, &mut bytes);
-    // At most twelve cases. Taken for hexadecimal, 12 would be eighteen, and nothing would be cut.
-    run(b"suppress", b"cases", b"12", &bytes);
-    run(b"keep", b"size", b"4", &bytes);
-    // A zero in front.
-    run(b"keep", b"size", b"04", &bytes);
+    cuts(&bytes);
+    fits(&bytes);
     bytes[SUM] = 0;
-    run(b"keep", b"size", b"4", &bytes);
+    run(3, b"keep", b"size", b"4", b"", &bytes);
 }

@@ -1,5 +1,5 @@
--- The answers to a size target that take no search, and what a search begins with.
-use Prim.Native.Nat.{ℕ, _-_, _*_, _≤_, _<_, max}
+-- The answer to a size target that takes no search, and what a search begins with.
+use Prim.Native.Nat.{ℕ, _-_, _*_, _≤_, _<_}
 use mathlib.Core.Path.{_≡_, sym, ap, _∙_}
 use mathlib.Core.List.{List}
 use native.Mathlib.Omega.{arith}
@@ -7,33 +7,26 @@ use lib.ListN.{length, take}
 use Rattle.diagram.specs.Limits.{maxNodes}
 use Rattle.diagram.specs.Diagram.{size, vars}
 use Rattle.diagram.specs.Verdict.{most}
+use Rattle.diagram.proofs.Tests.{by-eq}
 use Rattle.room_map.specs.Map.{weightsTo, searchTo}
-use Rattle.approximation.specs.Constants.{falseOf, trueOf}
+use Rattle.approximation.specs.Constants.{falseOf}
 use Rattle.approximation.specs.Search.{answer, sizeSearch, underToSize}
-use Rattle.approximation.proofs.Targets.{to-size-none, to-size-true, to-size-false, to-size-same, to-size-search}
+use Rattle.approximation.proofs.Targets.{to-size-none, to-size-false, to-size-search}
 use Rattle.cuts.proofs.Rooms.{drop-more}
 use Rattle.trials.specs.Trials.{Searching, Preparing, Prepared, Found}
-use Rattle.trials.specs.Answers.{Kept}
-use Rattle.trials.proofs.Early.{searching-ordered, searching-kept}
+use Rattle.trials.proofs.Early.{searching-ordered}
 use Rattle.size_search.specs.Search.{Halving}
 
 module _ {w r : List ℕ} {n v : ℕ} (a : Searching w r n v) where
-  -- ---- the early rules
+  -- ---- the early rule
 
   module _ {t : ℕ} where
-    pub size-none : t < 2 → underToSize w t ≡ answer (falseOf (vars w)) 0
-    size-none h = to-size-none w t (omega arith)
-
-    pub size-true : t ≡ 2 → n ≡ 2 → underToSize w t ≡ answer (trueOf (vars w)) 0
-    size-true e two = to-size-true w t e (sym (a .is-size) ∙ two)
-
-    pub size-false : t ≡ 2 → (n ≡ 2 → ⊥) → underToSize w t ≡ answer (falseOf (vars w)) 0
-    size-false e ne = to-size-false w t e (λ two. ne (a .is-size ∙ two))
-
-    -- ---- the input words
-
-    pub size-kept : {m : ℕ} {after : List ℕ} → m ≡ max n 2 → Kept w m r after → (t < 2 → ⊥) → (t ≡ 2 → ⊥) → n ≤ t → Found w (underToSize w t) r after n 0
-    size-kept e k ne ne2 h = let is = a .is-size in searching-kept a e k (to-size-same w t (omega arith) (omega arith))
+    pub size-none : t ≤ 2 → t < n → underToSize w t ≡ answer (falseOf (vars w)) 0
+    size-none h more =
+        let is = a .is-size in
+        by-eq t 2
+        (λ two. to-size-false w t two (λ e. omega arith))
+        (λ ne. to-size-none w t (omega arith))
 
     -- ---- the search
 

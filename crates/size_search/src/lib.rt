@@ -1,10 +1,8 @@
 // The search for a size (document 01, "The evening's cut"). Its answer stands in the working room.
-use diagram::lengths::most;
 use diagram::limits::MAX_WORDS;
 use diagram::node::BddPointer;
 use trials::answers::Answer;
 use trials::answers::constantly;
-use trials::answers::keep;
 use trials::first::cut_first;
 use trials::first::cut_first_within;
 use trials::prepare;
@@ -53,7 +51,7 @@ fn search(
     }
 }
 
-// The search with all it needs, for a target that the early answers don't meet.
+// The search with all it needs, for a target that leaves more than a constant.
 fn searched(words: &[u32], room: &mut [u32], target: usize, nodes: usize, vars: u32) -> Answer
     requires { ⌜ Searching (now words) (now room) nodes vars × (2 < target) × (target < nodes) ⌝ }
     ensures { λ r. ⌜ Found (now (words .entry)) (underToSize (now (words .entry)) target) (now (room .entry)) (now (room .exit)) (r .nodes) (r .trials) ⌝ }
@@ -63,22 +61,13 @@ fn searched(words: &[u32], room: &mut [u32], target: usize, nodes: usize, vars: 
     search(words, &mut sent, room, target, nodes, vars)
 }
 
+// For a target that the diagram does not meet as it is.
 pub fn under_size(words: &[u32], room: &mut [u32], target: u32, nodes: usize, vars: u32) -> Answer
-    requires { ⌜ Searching (now words) (now room) nodes vars ⌝ }
+    requires { ⌜ Searching (now words) (now room) nodes vars × (target < nodes) ⌝ }
     ensures { λ r. ⌜ Found (now (words .entry)) (underToSize (now (words .entry)) target) (now (room .entry)) (now (room .exit)) (r .nodes) (r .trials) ⌝ }
 {
-    if target < 2 {
+    if target <= 2 {
         return constantly(room, BddPointer(0), nodes, vars);
-    }
-    if target == 2 {
-        if nodes == 2 {
-            return constantly(room, BddPointer(1), nodes, vars);
-        }
-        return constantly(room, BddPointer(0), nodes, vars);
-    }
-    if nodes <= target as usize {
-        keep(words, room, most(nodes));
-        return Answer { nodes, trials: 0 };
     }
     searched(words, room, target as usize, nodes, vars)
 }

@@ -20,17 +20,19 @@ use Rattle.negation.specs.Negation.{negated, Ready}
 use Rattle.negation.proofs.Words.{negated-true}
 use Rattle.negation.proofs.Meaning.{negated-vars, negated-is-two, negated-accepted, negated-count}
 use Rattle.approximation.specs.Cut.{overCountOf, Under}
-use Rattle.approximation.specs.Search.{back, underToCount, overToCount}
+use Rattle.approximation.specs.Search.{back, underToCount}
+use Rattle.approximation.specs.Met.{met, underCountAnswer, overCountAnswer}
 use Rattle.approximation.proofs.Listing.{under-open-accepted, under-count-own, over-count-own, over-accepted-open, over-accepted-most}
-use Rattle.approximation.proofs.Targets.{Open, opposite, one-count, to-count-none, over-count-same, over-count-negates, to-count-under}
+use Rattle.approximation.proofs.Targets.{Open, opposite, one-count, to-count-none, over-count-negates, to-count-under}
+use Rattle.approximation.proofs.Settling.{under-count-is-none, under-count-is-met, under-count-is-sought, over-count-is-met, over-count-is-sought}
 use Rattle.cuts.proofs.Rooms.{drop-more}
 use Rattle.recounts.specs.Kept.{Turnable, Turned}
 use Rattle.recounts.proofs.Turned.{turned-whole}
 use Rattle.trials.specs.Trials.{Searching, Found}
-use Rattle.trials.specs.Answers.{Constant, Keeping, Kept, Returned}
-use Rattle.trials.proofs.Early.{searching-ordered, searching-few, searching-keeps, searching-kept, falsely}
+use Rattle.trials.specs.Answers.{Constant, Returned}
+use Rattle.trials.proofs.Early.{searching-ordered, searching-few, falsely}
 use Rattle.count_search.specs.Rounds.{Counted, Aiming, Above}
-use Rattle.count_search.proofs.Aims.{counted-searches, counted-found}
+use Rattle.count_search.proofs.Aims.{counted-searches, counted-beyond}
 use Rattle.told.specs.Told.{countToldOf}
 use Rattle.targets.specs.Hits.{toCount, countVerdict, ToCount, remaining, Targeting, Counting, Lacking, Mirroring, Hit}
 use Rattle.targets.proofs.Hitting.{Flipped, most-same, targeting-searches, negation-hits, meets-refused, meets-hit, check-targets}
@@ -185,21 +187,27 @@ module _ {w heads r : List ℕ} {k count n v : ℕ} (a : Mirroring w heads r k c
           beyond = f .beyond ∙ drop-more (countsTo (size w)) (searchTo (most (negated w))) b r (omega arith) (t .untouched .beyond);
         }
 
--- ---- the words stay
+-- ---- which answer it is
 
-module _ {w r out : List ℕ} {k n v : ℕ} (a : Counting true w r out k n v) where
+module _ (as-is : Bool) {w r out : List ℕ} {k n v : ℕ} (a : Counting false w r out k n v) {u out′ : List ℕ} {c trials : ℕ} where
+  pub under-none : k ≡ 0 → Hit (underToCount w k) r u out out′ c trials → Hit (underCountAnswer as-is w k) r u out out′ c trials
+  under-none e h = rw (under-count-is-none as-is w k e) h
+
+  module _ {heads b count : List ℕ} (x : Counted w heads r b count) (ne : k ≡ 0 → ⊥) where
+    pub under-met : value count ≤ k → Hit (met as-is w) r u out out′ c trials → Hit (underCountAnswer as-is w k) r u out out′ c trials
+    under-met fits h = let e = x .count .worth in rw (under-count-is-met as-is w k (omega arith) (omega arith)) h
+
+    pub under-sought : k < value count → Hit (underToCount w k) r u out out′ c trials → Hit (underCountAnswer as-is w k) r u out out′ c trials
+    under-sought high h = let e = x .count .worth in rw (under-count-is-sought as-is w k (omega arith) (omega arith)) h
+
+module _ (as-is : Bool) {w r out : List ℕ} {k n v : ℕ} (a : Counting true w r out k n v) where
   pub over-searches : Searching w r n v
   over-searches = targeting-searches (a .targeting)
 
   module _ {heads b count : List ℕ} (x : Counted w heads r b count) where
-    pub over-keeps : {m : ℕ} → m ≡ max n 2 → Keeping w b m
-    over-keeps is-m = searching-keeps (counted-searches over-searches x) is-m
-
-    -- it has as many as are asked for
-    pub over-kept : k ≤ value count → {m : ℕ} → m ≡ max n 2 → {s : List ℕ} → Kept w m b s → Found w (overToCount w k) r s n 0
-    over-kept met is-m y =
-        let e = x .count .worth in
-        counted-found over-searches x (searching-kept (counted-searches over-searches x) is-m y (over-count-same w k (omega arith)))
+    pub over-met : k ≤ value count → {u out′ : List ℕ} {c trials : ℕ} → Hit (met as-is w) r u out out′ c trials
+        → Hit (overCountAnswer as-is w k) r u out out′ c trials
+    over-met fits h = let e = x .count .worth in rw (over-count-is-met as-is w k (omega arith)) h
 
     -- ---- by negation
 
@@ -212,13 +220,13 @@ module _ {w r out : List ℕ} {k n v : ℕ} (a : Counting true w r out k n v) wh
       below : countOf w < k
       below = let e = x .count .worth in omega arith
 
-      over-is : overToCount w k ≡ back (underToCount (negated w) (remaining w k))
+      over-is : overCountAnswer as-is w k ≡ back (underToCount (negated w) (remaining w k))
       over-is =
           let all = negated-count w (a .targeting .accepted) in
           let most = over-accepted-most w k (a .target) in
           let less = below in
           let opposite-is : opposite w k ≡ remaining w k = omega arith in
-          over-count-negates w k below ∙ ap (λ (i : ℕ). back (underToCount (negated w) i)) opposite-is
+          over-count-is-sought as-is w k below ∙ over-count-negates w k below ∙ ap (λ (i : ℕ). back (underToCount (negated w) i)) opposite-is
 
       pub over-under : Under (negated w) (underToCount (negated w) (remaining w k) .words)
       over-under = to-count-under (negated w) (remaining w k) (negated-accepted w (a .targeting .accepted)) (remaining-open w k (a .targeting .accepted) (a .target))
@@ -235,11 +243,11 @@ module _ {w r out : List ℕ} {k n v : ℕ} (a : Counting true w r out k n v) wh
               kept = f .kept ∙ x .kept;
               made = f .made;
               beyond = f .beyond
-                  ∙ (ap (λ (i : ℕ). drop (searchTo i) b) even ∙ x .beyond ∙ ap (λ (i : ℕ). drop (searchTo i) r) (sym even));
+                  ∙ (ap (λ (i : ℕ). drop (searchTo i) b) even ∙ counted-beyond over-searches x ∙ ap (λ (i : ℕ). drop (searchTo i) r) (sym even));
             }
 
         pub over-hits : {m : ℕ} → m ≡ max n 2 → {room-after out′ : List ℕ} {c : ℕ} → Returned m j s out room-after out′ c
-            → Hit (overToCount w k) r room-after out out′ c trials
+            → Hit (overCountAnswer as-is w k) r room-after out out′ c trials
         over-hits is-m g = rw over-is (negation-hits (a .targeting) is-m over-found over-under g)
 
 -- ---- the verdicts
@@ -249,9 +257,9 @@ told-own : (above : Bool) (w : List ℕ) (k : ℕ) {n v : ℕ} → countToldOf a
 told-own true w k e = over-count-own w k e
 told-own false w k e = under-count-own w k e
 
-module _ (above : Bool) {w : List ℕ} (k : ℕ) {room room′ : List ℕ} (out : List ℕ) {verdict : Verdict} (checked : Checked w (Diagram (length out)) room room′ verdict) where
-  pub check-refuses : {i p : ℕ} → verdict ≡ No i p → ToCount above w k room room′ out out verdict 0 0
-  check-refuses e = meets-refused (countVerdict above w k) (toCount above w k) out (checked .left) e (rw (refusal-is checked e) refl)
+module _ (above as-is : Bool) {w : List ℕ} (k : ℕ) {room room′ : List ℕ} (out : List ℕ) {verdict : Verdict} (checked : Checked w (Diagram (length out)) room room′ verdict) where
+  pub check-refuses : {i p : ℕ} → verdict ≡ No i p → ToCount above as-is w k room room′ out out verdict 0 0
+  check-refuses e = meets-refused (countVerdict above w k) (toCount above as-is w k) out (checked .left) e (rw (refusal-is checked e) refl)
 
   module _ {n v : ℕ} (e : verdict ≡ Yes n v) where
     pub open-few : v ≤ maxVariables
@@ -262,8 +270,8 @@ module _ (above : Bool) {w : List ℕ} (k : ℕ) {room room′ : List ℕ} (out 
       told-is : countVerdict above w k (length room) (length out) ≡ said l
       told-is = rw (verdict-is checked e) (sym (says w (admitted checked e .nodes) (admitted checked e .variables)))
 
-      pub open-refuses : {i p : ℕ} → l ≡ No i p → ToCount above w k room room′ out out l 0 0
-      open-refuses f = meets-refused (countVerdict above w k) (toCount above w k) out (checked .left) f (told-is ∙ ap said f)
+      pub open-refuses : {i p : ℕ} → l ≡ No i p → ToCount above as-is w k room room′ out out l 0 0
+      open-refuses f = meets-refused (countVerdict above w k) (toCount above as-is w k) out (checked .left) f (told-is ∙ ap said f)
 
       module _ {n′ v′ : ℕ} (f : l ≡ Yes n′ v′) where
         pub open-counts : Counting above w room′ out k n v
@@ -272,6 +280,6 @@ module _ (above : Bool) {w : List ℕ} (k : ℕ) {room room′ : List ℕ} (out 
           target = told-own above w k (sym (says w (admitted checked e .nodes) (admitted checked e .variables)) ∙ ap said f);
         }
 
-        pub open-meets : {room″ out′ : List ℕ} {j trials : ℕ} → Hit (toCount above w k) room′ room″ out out′ j trials
-            → ToCount above w k room room″ out out′ l j trials
-        open-meets h = meets-hit (countVerdict above w k) (toCount above w k) out (checked .left) f (told-is ∙ ap said f) h
+        pub open-meets : {room″ out′ : List ℕ} {j trials : ℕ} → Hit (toCount above as-is w k) room′ room″ out out′ j trials
+            → ToCount above as-is w k room room″ out out′ l j trials
+        open-meets h = meets-hit (countVerdict above w k) (toCount above as-is w k) out (checked .left) f (told-is ∙ ap said f) h

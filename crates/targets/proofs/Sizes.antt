@@ -1,29 +1,45 @@
--- Cutting to a size: from above, and the verdicts.
+-- Cutting to a size: which answer it is, from above, and the verdicts.
 use Prim.Native.Nat.{ℕ, _*_, _≤_, _<_, max}
 use mathlib.Core.Path.{_≡_, refl, sym, ap, _∙_}
 use mathlib.Core.Bool.{Bool, true, false}
-use mathlib.Core.List.{List, _++_}
+use mathlib.Core.List.{List}
 use native.Mathlib.Omega.{arith}
-use lib.ListN.{length, take, drop}
-use lib.Seq.{take-at}
-use Rattle.diagram.specs.Diagram.{size, vars, Accepted}
-use Rattle.diagram.specs.Verdict.{Outcome, accepted, refused, said, andThen, verdictOf, verdictFor, Checked}
+use lib.ListN.{length, take}
+use Rattle.diagram.specs.Diagram.{size, vars}
+use Rattle.diagram.specs.Verdict.{Outcome, accepted, said, andThen, Checked}
 use Rattle.diagram.specs.declared.verdict.Verdict.{Verdict}
 use Rattle.diagram.specs.declared.verdict.Verdict.the-variants.{Accepted as Yes, Refused as No}
 use Rattle.diagram.specs.declared.verdict.Output.the-variants.{Diagram}
 use Rattle.diagram.proofs.Meaning.{verdict-accepted}
 use Rattle.diagram.proofs.Outcomes.{never-both}
-use Rattle.approximation.specs.Cut.{Under, Over, underSizeOf, overSizeOf}
-use Rattle.approximation.specs.Search.{Answer, back, underToSize, overToSize}
-use Rattle.approximation.proofs.Sizing.{under-size-own, over-size-own, size-verdict}
+use Rattle.negation.proofs.Meaning.{negated-size}
+use Rattle.approximation.specs.Search.{back, underToSize, overToSize}
+use Rattle.approximation.specs.Met.{met, underSizeAnswer, overSizeAnswer}
+use Rattle.approximation.proofs.Sizing.{size-verdict}
+use Rattle.approximation.proofs.Settling.{under-size-is-met, under-size-is-sought, over-size-is-met, over-size-is-sought}
 use Rattle.approximation.proofs.Targets.{to-size-none, to-size-under, over-size-one, over-size-negates}
-use Rattle.approximation.proofs.Demand2.{demand2}
 use Rattle.trials.specs.Trials.{Found}
 use Rattle.trials.specs.Answers.{Returned}
 use Rattle.told.specs.Told.{sizeToldOf, Passed}
-use Rattle.targets.specs.Targets.{Meets, Sized}
 use Rattle.targets.specs.Hits.{toSize, sizeVerdict, ToSize, Targeting, Hit}
 use Rattle.targets.proofs.Hitting.{Flipped, flipped-searches, back-hits, check-targets, meets-refused, meets-hit}
+
+-- ---- which answer it is
+
+module _ (above as-is : Bool) {w r out : List ℕ} {t n v : ℕ} (a : Targeting w r out n v) {u out′ : List ℕ} {c trials : ℕ} where
+  pub met-hits : n ≤ t → Hit (met as-is w) r u out out′ c trials → Hit (toSize above as-is w t) r u out out′ c trials
+  met-hits h hit = let is = a .is-size in rw (is-met above (omega arith)) hit
+    where
+      is-met : (above : Bool) → size w ≤ t → toSize above as-is w t ≡ met as-is w
+      is-met true fits = over-size-is-met as-is w t fits
+      is-met false fits = under-size-is-met as-is w t fits
+
+module _ (as-is : Bool) {w r out : List ℕ} {t n v : ℕ} (a : Targeting w r out n v) (h : t < n) {u out′ : List ℕ} {c trials : ℕ} where
+  pub sought-under : Hit (underToSize w t) r u out out′ c trials → Hit (underSizeAnswer as-is w t) r u out out′ c trials
+  sought-under hit = let is = a .is-size in rw (under-size-is-sought as-is w t (omega arith)) hit
+
+  pub sought-over : Hit (overToSize w t) r u out out′ c trials → Hit (overSizeAnswer as-is w t) r u out out′ c trials
+  sought-over hit = let is = a .is-size in rw (over-size-is-sought as-is w t (omega arith)) hit
 
 -- ---- from above
 
@@ -34,6 +50,14 @@ module _ {w r out : List ℕ} {n v : ℕ} (a : Targeting w r out n v) where
   one-hits t h f =
       let same : overToSize w t ≡ underToSize w t = over-size-one w t (a .accepted) (omega arith) ∙ sym (to-size-none w t (omega arith)) in
       rw same f
+
+  -- the negation of more than two nodes has as many
+  pub flipped-above : {made : ℕ} {flipped : List ℕ} → Flipped w made flipped → (t : ℕ) → 2 ≤ t → t < n → t < made
+  flipped-above e t h more =
+      let is = a .is-size in
+      let count = e .count in
+      let same = negated-size w (a .accepted .formed) (omega arith) in
+      omega arith
 
   module _ {made : ℕ} {flipped : List ℕ} (e : Flipped w made flipped) {m : ℕ} (is-m : m ≡ max n 2) where
     pub over-hits : (t : ℕ) → 2 ≤ t → {s : List ℕ} {k trials : ℕ}
@@ -50,7 +74,7 @@ told-counts : (above : Bool) (w : List ℕ) (t : ℕ) {n v : ℕ} → sizeToldOf
 told-counts true w t {n} {v} e = let h = size-verdict w t .over-accepts n v .0 e in (h .1, h .2)
 told-counts false w t {n} {v} e = let h = size-verdict w t .under-accepts n v .0 e in (h .1, h .2)
 
-module _ (above : Bool) (t : ℕ) {w room room′ : List ℕ} (out : List ℕ) where
+module _ (above as-is : Bool) (t : ℕ) {w room room′ : List ℕ} (out : List ℕ) where
   pub size-passed : {checked : Verdict} → Checked w (Diagram (length out)) room room′ checked → Passed w (said checked)
   size-passed c n v e =
       let a = verdict-accepted w (Diagram (length out)) (length room) n v (sym (c .verdict) ∙ e) in
@@ -62,8 +86,8 @@ module _ (above : Bool) (t : ℕ) {w room room′ : List ℕ} (out : List ℕ) w
     told-is c says = ap (λ (o : Outcome). andThen o (sizeToldOf above w t)) (sym (c .verdict)) ∙ sym says
 
     pub size-refuses : {checked : Verdict} → Checked w (Diagram (length out)) room room′ checked → said l ≡ andThen (said checked) (sizeToldOf above w t)
-        → {k p : ℕ} → l ≡ No k p → ToSize above w t room room′ out out l 0 0
-    size-refuses c says e = meets-refused (sizeVerdict above w t) (toSize above w t) out (c .left) e (told-is c says ∙ ap said e)
+        → {k p : ℕ} → l ≡ No k p → ToSize above as-is w t room room′ out out l 0 0
+    size-refuses c says e = meets-refused (sizeVerdict above w t) (toSize above as-is w t) out (c .left) e (told-is c says ∙ ap said e)
 
     pub size-targets : (checked : Verdict) → Checked w (Diagram (length out)) room room′ checked → said l ≡ andThen (said checked) (sizeToldOf above w t)
         → {n v : ℕ} → l ≡ Yes n v → Targeting w room′ out n v
@@ -81,43 +105,6 @@ module _ (above : Bool) (t : ℕ) {w room room′ : List ℕ} (out : List ℕ) w
         }
 
     pub size-meets : {checked : Verdict} → Checked w (Diagram (length out)) room room′ checked → said l ≡ andThen (said checked) (sizeToldOf above w t)
-        → {n v : ℕ} → l ≡ Yes n v → {room″ out′ : List ℕ} {k trials : ℕ} → Hit (toSize above w t) room′ room″ out out′ k trials
-        → ToSize above w t room room″ out out′ (Yes n v) k trials
-    size-meets c says e h = meets-hit (sizeVerdict above w t) (toSize above w t) out (c .left) refl (told-is c says ∙ ap said e) h
-
--- ---- what is promised of every call
-
-module _ (w : List ℕ) (t : ℕ) (own : Outcome) (b : Answer) (P : List ℕ → Type 0) (sound : (x : List ℕ) → P x → Accepted x)
-    (counts : (n v : ℕ) → own ≡ accepted n v → own ≡ accepted (size w) (vars w))
-    (right : Accepted w → own ≡ accepted (size w) (vars w) → P (b .words) × (size (b .words) ≤ t)) where
-  abbrev outcome : ℕ → ℕ → Outcome
-  outcome room lent = andThen (verdictFor Diagram w room lent) own
-
-  answered : (room lent : ℕ) (o : Outcome) → verdictOf w (Diagram lent) room ≡ o → {n v : ℕ} → andThen o own ≡ accepted n v → P (b .words) × (size (b .words) ≤ t)
-  answered room lent (accepted m u) e f = right (verdict-accepted w (Diagram lent) room m u e .accepted) (counts _ _ f)
-  answered room lent (refused k p) e f = absurd (never-both refl f)
-
-  module _ {room room′ out out′ : List ℕ} {r : Verdict} {count trials : ℕ} (h : Meets outcome b w room room′ out out′ r count trials) where
-    within : (o : Outcome) → outcome (length room) (length out) ≡ o → (count ≤ t) × ((n v : ℕ) → o ≡ accepted n v → P (take (3 * count) out′))
-    within (refused k p) e =
-        let none : count ≡ 0 = h .builds .nodes ∙ rw e refl in
-        (omega arith, λ n v f. absurd (never-both refl f))
-    within (accepted n v) e =
-        let good = answered (length room) (length out) (verdictOf w (Diagram (length out)) (length room)) refl e in
-        let is : count ≡ size (b .words) = h .builds .nodes ∙ rw e refl in
-        let written : out′ ≡ b .words ++ drop (length (b .words)) out = h .builds .answers .output ∙ rw e refl in
-        let whole = sound (b .words) (good .0) .formed .whole in
-        let front : take (3 * count) out′ ≡ b .words =
-        ap (take (3 * count)) written ∙ take-at (b .words) (drop (length (b .words)) out) (3 * count) (omega arith) in
-        (omega (arith, good .1), λ m u f. rw front (good .0))
-
-    pub meets-fits : (count ≤ t) × ((n v : ℕ) → said r ≡ accepted n v → P (take (3 * count) out′))
-    meets-fits =
-        let both = within (outcome (length room) (length out)) refl in
-        (both .0, λ n v e. both .1 n v (sym (h .builds .answers .verdict) ∙ e))
-
-pub sized : Sized
-sized = record {
-  under = λ {w} {t} h. meets-fits w t (underSizeOf w t) (underToSize w t) (Under w) (λ x u. u .accepted) (λ n v e. under-size-own w t e) (demand2 .size-under w t) h;
-  over = λ {w} {t} h. meets-fits w t (overSizeOf w t) (overToSize w t) (Over w) (λ x u. u .accepted) (λ n v e. over-size-own w t e) (demand2 .size-over w t) h;
-}
+        → {n v : ℕ} → l ≡ Yes n v → {room″ out′ : List ℕ} {k trials : ℕ} → Hit (toSize above as-is w t) room′ room″ out out′ k trials
+        → ToSize above as-is w t room room″ out out′ (Yes n v) k trials
+    size-meets c says e h = meets-hit (sizeVerdict above w t) (toSize above as-is w t) out (c .left) refl (told-is c says ∙ ap said e) h

@@ -12,17 +12,18 @@ use Rattle.diagram.specs.declared.verdict.Output.the-variants.{Diagram}
 use Rattle.diagram.specs.Valuations.{countOf}
 use Rattle.negation.specs.Negation.{negated}
 use Rattle.approximation.specs.Cut.{underCountOf, overCountOf}
-use Rattle.approximation.specs.Search.{Answer, underToSize, overToSize, underToCount, overToCount}
+use Rattle.approximation.specs.Search.{Answer}
+use Rattle.approximation.specs.Met.{underSizeAnswer, overSizeAnswer, underCountAnswer, overCountAnswer}
 use Rattle.recounts.specs.Kept.{Whole}
 use Rattle.trials.specs.Trials.{Searching}
 use Rattle.told.specs.Told.{sizeToldOf, countToldOf}
 use Rattle.targets.specs.Targets.{Meets}
 
-abbrev pub toSize : Bool → List ℕ → ℕ → Answer
-toSize above w t = cond above (overToSize w t) (underToSize w t)
+abbrev pub toSize : Bool → Bool → List ℕ → ℕ → Answer
+toSize above as-is w t = cond above (overSizeAnswer as-is w t) (underSizeAnswer as-is w t)
 
-abbrev pub toCount : Bool → List ℕ → ℕ → Answer
-toCount above w k = cond above (overToCount w k) (underToCount w k)
+abbrev pub toCount : Bool → Bool → List ℕ → ℕ → Answer
+toCount above as-is w k = cond above (overCountAnswer as-is w k) (underCountAnswer as-is w k)
 
 -- What is promised either way.
 abbrev pub sizeVerdict : Bool → List ℕ → ℕ → ℕ → ℕ → Outcome
@@ -31,11 +32,11 @@ sizeVerdict above w t room lent = andThen (verdictFor Diagram w room lent) (size
 abbrev pub countVerdict : Bool → List ℕ → ℕ → ℕ → ℕ → Outcome
 countVerdict above w k room lent = andThen (verdictFor Diagram w room lent) (countToldOf above w k)
 
-abbrev pub ToSize : (above : Bool) (w : List ℕ) (t : ℕ) (room room′ out out′ : List ℕ) → Verdict → ℕ → ℕ → Type 0
-ToSize above w t = Meets (sizeVerdict above w t) (toSize above w t) w
+abbrev pub ToSize : (above as-is : Bool) (w : List ℕ) (t : ℕ) (room room′ out out′ : List ℕ) → Verdict → ℕ → ℕ → Type 0
+ToSize above as-is w t = Meets (sizeVerdict above w t) (toSize above as-is w t) w
 
-abbrev pub ToCount : (above : Bool) (w : List ℕ) (k : ℕ) (room room′ out out′ : List ℕ) → Verdict → ℕ → ℕ → Type 0
-ToCount above w k = Meets (countVerdict above w k) (toCount above w k) w
+abbrev pub ToCount : (above as-is : Bool) (w : List ℕ) (k : ℕ) (room room′ out out′ : List ℕ) → Verdict → ℕ → ℕ → Type 0
+ToCount above as-is w k = Meets (countVerdict above w k) (toCount above as-is w k) w
 
 -- An accepted diagram in a room that is zero, with an output.
 pub record Targeting (w r out : List ℕ) (n v : ℕ) : Type 0 where

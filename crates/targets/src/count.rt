@@ -1,11 +1,12 @@
 // To a count.
 use crate::Approximated;
+use crate::met::meet;
 use count_search::count_of;
 use count_search::seek;
-use count_search::under_count;
 use diagram::lengths::most;
 use diagram::limits::MAX_WORDS;
 use diagram::node::BddPointer;
+use diagram::room::clear;
 use diagram::validate::admit;
 use diagram::verdict::Output;
 use diagram::verdict::Verdict;
@@ -17,32 +18,46 @@ use naturals::is_zero;
 use naturals::power_of_two;
 use negation::negate;
 use recounts::turning::turn;
+use room_map::COUNTS_END;
 use told::count::tell;
 use trials::answers::Answer;
 use trials::answers::constantly;
 use trials::answers::give;
 use trials::answers::give_back;
-use trials::answers::keep;
 ghost use mathlib.Core.Bool.{true, false};
 ghost use Rattle.naturals.specs.Natural.{value};
 ghost use Rattle.negation.specs.Negation.{negated};
-ghost use Rattle.approximation.specs.Search.{underToCount, overToCount};
+ghost use Rattle.approximation.specs.Search.{underToCount};
+ghost use Rattle.approximation.specs.Met.{underCountAnswer, overCountAnswer};
 ghost use Rattle.trials.specs.Trials.{Found};
 ghost use Rattle.targets.specs.Targets.{UnderToCount, OverToCount};
 ghost use Rattle.targets.specs.Hits.{toCount, ToCount, remaining, Mirroring, Lacking, Counting, Hit};
 
+// False where nothing may be left; the diagram itself where it has no more than are asked for; else the search.
 fn under(
     words: &[u32],
     target: Natural,
+    as_is: bool,
     room: &mut [u32],
     output: &mut [u32],
     nodes: usize,
     vars: u32,
 ) -> Answer
     requires { ⌜ Counting false (now words) (now room) (now output) (value (target .words)) nodes vars ⌝ }
-    ensures { λ r. ⌜ Hit (underToCount (now (words .entry)) (value (target .words))) (now (room .entry)) (now (room .exit)) (now (output .entry)) (now (output .exit)) (r .nodes) (r .trials) ⌝ }
+    ensures { λ r. ⌜ Hit (underCountAnswer as_is (now (words .entry)) (value (target .words))) (now (room .entry)) (now (room .exit)) (now (output .entry)) (now (output .exit)) (r .nodes) (r .trials) ⌝ }
 {
-    let found = under_count(words, room, target, nodes, vars);
+    if is_zero(target) {
+        let none = constantly(room, BddPointer(0), nodes, vars);
+        give(room, output, most(nodes), none.nodes);
+        return none;
+    }
+    let mut heads = [0u32; CHAINS];
+    let count = count_of(words, &mut heads, room, nodes, vars);
+    if at_most(count, target) {
+        clear(room, COUNTS_END * most(nodes));
+        return meet(words, as_is, room, output, nodes, vars);
+    }
+    let found = seek(words, &heads, room, target, count, nodes, vars);
     give(room, output, most(nodes), found.nodes);
     found
 }
@@ -88,24 +103,24 @@ fn under_negation(
     turn_and_seek(words, heads, room, left, others, nodes, vars)
 }
 
-// Where the diagram has as many as are asked for, it stays as it is; else its negation is underapproximated and negated back.
+// The diagram itself where it has as many as are asked for; else its negation is underapproximated and negated back.
 fn over(
     words: &[u32],
     target: Natural,
+    as_is: bool,
     room: &mut [u32],
     output: &mut [u32],
     nodes: usize,
     vars: u32,
 ) -> Answer
     requires { ⌜ Counting true (now words) (now room) (now output) (value (target .words)) nodes vars ⌝ }
-    ensures { λ r. ⌜ Hit (overToCount (now (words .entry)) (value (target .words))) (now (room .entry)) (now (room .exit)) (now (output .entry)) (now (output .exit)) (r .nodes) (r .trials) ⌝ }
+    ensures { λ r. ⌜ Hit (overCountAnswer as_is (now (words .entry)) (value (target .words))) (now (room .entry)) (now (room .exit)) (now (output .entry)) (now (output .exit)) (r .nodes) (r .trials) ⌝ }
 {
     let mut heads = [0u32; CHAINS];
     let count = count_of(words, &mut heads, room, nodes, vars);
     if at_most(target, count) {
-        keep(words, room, most(nodes));
-        give(room, output, most(nodes), nodes);
-        return Answer { nodes, trials: 0 };
+        clear(room, COUNTS_END * most(nodes));
+        return meet(words, as_is, room, output, nodes, vars);
     }
     let found = under_negation(words, &heads, room, target, count, nodes, vars);
     let made = give_back(room, output, most(nodes), found.nodes, vars);
@@ -120,28 +135,30 @@ fn hit(
     words: &[u32],
     target: Natural,
     above: bool,
+    as_is: bool,
     room: &mut [u32],
     output: &mut [u32],
     nodes: usize,
     vars: u32,
 ) -> Answer
     requires { ⌜ Counting above (now words) (now room) (now output) (value (target .words)) nodes vars ⌝ }
-    ensures { λ r. ⌜ Hit (toCount above (now (words .entry)) (value (target .words))) (now (room .entry)) (now (room .exit)) (now (output .entry)) (now (output .exit)) (r .nodes) (r .trials) ⌝ }
+    ensures { λ r. ⌜ Hit (toCount above as_is (now (words .entry)) (value (target .words))) (now (room .entry)) (now (room .exit)) (now (output .entry)) (now (output .exit)) (r .nodes) (r .trials) ⌝ }
 {
     if above {
-        return over(words, target, room, output, nodes, vars);
+        return over(words, target, as_is, room, output, nodes, vars);
     }
-    under(words, target, room, output, nodes, vars)
+    under(words, target, as_is, room, output, nodes, vars)
 }
 
 fn to_count(
     words: &[u32],
     target: Natural,
     above: bool,
+    as_is: bool,
     room: &mut [u32],
     output: &mut [u32],
 ) -> Approximated
-    ensures { λ r. ⌜ ToCount above (now (words .entry)) (value (target .words)) (now (room .entry)) (now (room .exit)) (now (output .entry)) (now (output .exit)) (r .verdict) (r .nodes) (r .trials) ⌝ }
+    ensures { λ r. ⌜ ToCount above as_is (now (words .entry)) (value (target .words)) (now (room .entry)) (now (room .exit)) (now (output .entry)) (now (output .exit)) (r .verdict) (r .nodes) (r .trials) ⌝ }
 {
     let verdict = admit(words, room, Output::Diagram(output.len()));
     let Verdict::Accepted { nodes, vars } = verdict else {
@@ -159,7 +176,7 @@ fn to_count(
             trials: 0,
         };
     };
-    let found = hit(words, target, above, room, output, nodes, vars);
+    let found = hit(words, target, above, as_is, room, output, nodes, vars);
     Approximated {
         verdict: told,
         nodes: found.nodes,
@@ -171,22 +188,24 @@ fn to_count(
 pub fn underapproximate_to_cardinality(
     words: &[u32],
     target: Natural,
+    as_is: bool,
     room: &mut [u32],
     output: &mut [u32],
 ) -> Approximated
-    ensures { λ r. ⌜ UnderToCount (now (words .entry)) (value (target .words)) (now (room .entry)) (now (room .exit)) (now (output .entry)) (now (output .exit)) (r .verdict) (r .nodes) (r .trials) ⌝ }
+    ensures { λ r. ⌜ UnderToCount as_is (now (words .entry)) (value (target .words)) (now (room .entry)) (now (room .exit)) (now (output .entry)) (now (output .exit)) (r .verdict) (r .nodes) (r .trials) ⌝ }
 {
-    to_count(words, target, false, room, output)
+    to_count(words, target, false, as_is, room, output)
 }
 
 // The answer has at least so many valuations, and it holds wherever the diagram does.
 pub fn overapproximate_to_cardinality(
     words: &[u32],
     target: Natural,
+    as_is: bool,
     room: &mut [u32],
     output: &mut [u32],
 ) -> Approximated
-    ensures { λ r. ⌜ OverToCount (now (words .entry)) (value (target .words)) (now (room .entry)) (now (room .exit)) (now (output .entry)) (now (output .exit)) (r .verdict) (r .nodes) (r .trials) ⌝ }
+    ensures { λ r. ⌜ OverToCount as_is (now (words .entry)) (value (target .words)) (now (room .entry)) (now (room .exit)) (now (output .entry)) (now (output .exit)) (r .verdict) (r .nodes) (r .trials) ⌝ }
 {
-    to_count(words, target, true, room, output)
+    to_count(words, target, true, as_is, room, output)
 }

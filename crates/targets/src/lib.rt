@@ -1,5 +1,6 @@
 // Cutting to a target (document 01, "The evening's cut").
 pub mod count;
+mod met;
 pub mod size;
 
 use diagram::verdict::Verdict;

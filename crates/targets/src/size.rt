@@ -1,5 +1,6 @@
 // To a size.
 use crate::Approximated;
+use crate::met::meet;
 use diagram::lengths::most;
 use diagram::limits::MAX_WORDS;
 use diagram::validate::admit;
@@ -11,6 +12,7 @@ use told::size::tell;
 use trials::answers::Answer;
 use trials::answers::give;
 use trials::answers::give_back;
+ghost use Prim.Native.Nat.{_<_};
 ghost use Rattle.approximation.specs.Search.{underToSize, overToSize};
 ghost use Rattle.targets.specs.Targets.{UnderToSize, OverToSize};
 ghost use Rattle.targets.specs.Hits.{toSize, ToSize, Targeting, Hit};
@@ -23,7 +25,7 @@ fn under(
     nodes: usize,
     vars: u32,
 ) -> Answer
-    requires { ⌜ Targeting (now words) (now room) (now output) nodes vars ⌝ }
+    requires { ⌜ Targeting (now words) (now room) (now output) nodes vars × (target < nodes) ⌝ }
     ensures { λ r. ⌜ Hit (underToSize (now (words .entry)) target) (now (room .entry)) (now (room .exit)) (now (output .entry)) (now (output .exit)) (r .nodes) (r .trials) ⌝ }
 {
     let found = under_size(words, room, target, nodes, vars);
@@ -40,7 +42,7 @@ fn over(
     nodes: usize,
     vars: u32,
 ) -> Answer
-    requires { ⌜ Targeting (now words) (now room) (now output) nodes vars ⌝ }
+    requires { ⌜ Targeting (now words) (now room) (now output) nodes vars × (target < nodes) ⌝ }
     ensures { λ r. ⌜ Hit (overToSize (now (words .entry)) target) (now (room .entry)) (now (room .exit)) (now (output .entry)) (now (output .exit)) (r .nodes) (r .trials) ⌝ }
 {
     if target < 2 {
@@ -56,19 +58,23 @@ fn over(
     }
 }
 
-// From below, or from above.
+// The diagram itself where it meets the target; else the search from below, or from above.
 fn hit(
     words: &[u32],
     target: u32,
     above: bool,
+    as_is: bool,
     room: &mut [u32],
     output: &mut [u32],
     nodes: usize,
     vars: u32,
 ) -> Answer
     requires { ⌜ Targeting (now words) (now room) (now output) nodes vars ⌝ }
-    ensures { λ r. ⌜ Hit (toSize above (now (words .entry)) target) (now (room .entry)) (now (room .exit)) (now (output .entry)) (now (output .exit)) (r .nodes) (r .trials) ⌝ }
+    ensures { λ r. ⌜ Hit (toSize above as_is (now (words .entry)) target) (now (room .entry)) (now (room .exit)) (now (output .entry)) (now (output .exit)) (r .nodes) (r .trials) ⌝ }
 {
+    if nodes <= target as usize {
+        return meet(words, as_is, room, output, nodes, vars);
+    }
     if above {
         return over(words, target, room, output, nodes, vars);
     }
@@ -79,10 +85,11 @@ fn to_size(
     words: &[u32],
     target: u32,
     above: bool,
+    as_is: bool,
     room: &mut [u32],
     output: &mut [u32],
 ) -> Approximated
-    ensures { λ r. ⌜ ToSize above (now (words .entry)) target (now (room .entry)) (now (room .exit)) (now (output .entry)) (now (output .exit)) (r .verdict) (r .nodes) (r .trials) ⌝ }
+    ensures { λ r. ⌜ ToSize above as_is (now (words .entry)) target (now (room .entry)) (now (room .exit)) (now (output .entry)) (now (output .exit)) (r .verdict) (r .nodes) (r .trials) ⌝ }
 {
     let checked = admit(words, room, Output::Diagram(output.len()));
     let verdict = tell(checked, words, target, above);
@@ -93,7 +100,7 @@ fn to_size(
             trials: 0,
         };
     };
-    let found = hit(words, target, above, room, output, nodes, vars);
+    let found = hit(words, target, above, as_is, room, output, nodes, vars);
     Approximated {
         verdict,
         nodes: found.nodes,
@@ -105,22 +112,24 @@ fn to_size(
 pub fn underapproximate_to_size(
     words: &[u32],
     target: u32,
+    as_is: bool,
     room: &mut [u32],
     output: &mut [u32],
 ) -> Approximated
-    ensures { λ r. ⌜ UnderToSize (now (words .entry)) target (now (room .entry)) (now (room .exit)) (now (output .entry)) (now (output .exit)) (r .verdict) (r .nodes) (r .trials) ⌝ }
+    ensures { λ r. ⌜ UnderToSize as_is (now (words .entry)) target (now (room .entry)) (now (room .exit)) (now (output .entry)) (now (output .exit)) (r .verdict) (r .nodes) (r .trials) ⌝ }
 {
-    to_size(words, target, false, room, output)
+    to_size(words, target, false, as_is, room, output)
 }
 
 // The answer has at most so many nodes, and it holds wherever the diagram does.
 pub fn overapproximate_to_size(
     words: &[u32],
     target: u32,
+    as_is: bool,
     room: &mut [u32],
     output: &mut [u32],
 ) -> Approximated
-    ensures { λ r. ⌜ OverToSize (now (words .entry)) target (now (room .entry)) (now (room .exit)) (now (output .entry)) (now (output .exit)) (r .verdict) (r .nodes) (r .trials) ⌝ }
+    ensures { λ r. ⌜ OverToSize as_is (now (words .entry)) target (now (room .entry)) (now (room .exit)) (now (output .entry)) (now (output .exit)) (r .verdict) (r .nodes) (r .trials) ⌝ }
 {
-    to_size(words, target, true, room, output)
+    to_size(words, target, true, as_is, room, output)
 }

@@ -1,4 +1,4 @@
--- The answer of a search: kept in the working room, and given.
+-- The answer of a search, given.
 use Prim.Native.Nat.{ℕ, _+_, _-_, _*_, _≤_, _<_, min}
 use mathlib.Core.Path.{_≡_, refl, sym, ap, _∙_}
 use mathlib.Core.List.{List, _++_}
@@ -11,54 +11,7 @@ use Rattle.room_map.specs.Map.{answerFrom, searchTo}
 use Rattle.reduction.specs.Room.{Copied}
 use Rattle.reduction.proofs.Answering.{copied-front}
 use Rattle.negation.specs.Negation.{negated, over, Ready}
-use Rattle.trials.specs.Answers.{answerIn, Keeping, Kept, Giving, Given, Returning, Returned}
-
--- ---- kept
-
--- The first i words are in place.
-pub record Keptso (w : List ℕ) (m : ℕ) (r : List ℕ) (i : ℕ) (s : List ℕ) : Type 0 where
-  pub kept : length s ≡ length r
-  pub most : i ≤ length w
-  pub words : (j : ℕ) → j < i → getD s (answerFrom m + j) 0 ≡ getD w j 0
-  pub beyond : drop (searchTo m) s ≡ drop (searchTo m) r
-
-module _ {w r : List ℕ} {m : ℕ} (a : Keeping w r m) where
-  pub keep-start : Keptso w m r 0 r
-  keep-start = record { kept = refl; most = omega arith; words = λ j h. absurd (omega arith); beyond = refl }
-
-  pub keep-on : {i x : ℕ} {s t : List ℕ} → Keptso w m r i s → i < length w → x ≡ getD w i 0 → t ≡ set s (answerFrom m + i) x → Keptso w m r (i + 1) t
-  keep-on {i} {x} {s} {t} b h is e =
-      let long = a .long in
-      let fits = a .fits in
-      let same = b .kept in
-      rw e (record {
-        kept = simp length-set (b .kept);
-        most = omega arith;
-        words = λ j l. elim (decLt j i) [
-          | yes before ↦ getD-set-other s (answerFrom m + i) (answerFrom m + j) x 0 (λ z. omega arith) ∙ b .words j before
-          | no not-before ↦
-              let here : j ≡ i = omega arith in
-              rw here (getD-set-same s (answerFrom m + i) x 0 (omega arith) ∙ is)
-        ];
-        beyond = drop-set-lt (searchTo m) s (answerFrom m + i) x (omega arith) ∙ b .beyond;
-      })
-
-  pub keep-ends : {i : ℕ} {s : List ℕ} → Keptso w m r i s → length w ≤ i → Kept w m r s
-  keep-ends {i} {s} b h =
-      let long = a .long in
-      let fits = a .fits in
-      let same = b .kept in
-      let rest = length-drop (answerFrom m) s in
-      let there : length w ≤ length (drop (answerFrom m) s) = omega arith in
-      record {
-        kept = b .kept;
-        made = ext-getD 0 (take (length w) (drop (answerFrom m) s)) w (length-take-le (length w) (drop (answerFrom m) s) there) (λ j l.
-            let inside : j < length w = rw (length-take-le (length w) (drop (answerFrom m) s) there) at l in
-            getD-take (length w) (drop (answerFrom m) s) j 0 inside ∙ getD-drop (answerFrom m) s j 0 ∙ b .words j (omega arith));
-        beyond = b .beyond;
-      }
-
--- ---- given
+use Rattle.trials.specs.Answers.{answerIn, Giving, Given, Returning, Returned}
 
 module _ {r out : List ℕ} {m k : ℕ} (a : Giving r out m k) where
   cleared-room : {u : List ℕ} → u ≡ replicate (min (searchTo m) (length r)) 0 ++ drop (searchTo m) r → u ≡ replicate (searchTo m) 0 ++ drop (searchTo m) r

@@ -21,16 +21,6 @@ pub record Constant (m t v : ℕ) (r after : List ℕ) (k made-trials : ℕ) : T
   pub count : k ≡ cond (eqb t 0) 1 2
   pub trials : made-trials ≡ 0
 
-pub record Keeping (w r : List ℕ) (m : ℕ) : Type 0 where
-  pub few : m ≤ maxNodes
-  pub fits : length w ≤ 3 * m
-  pub long : searchTo m ≤ length r
-
-pub record Kept (w : List ℕ) (m : ℕ) (r after : List ℕ) : Type 0 where
-  pub kept : length after ≡ length r
-  pub made : take (length w) (drop (answerFrom m) after) ≡ w
-  pub beyond : drop (searchTo m) after ≡ drop (searchTo m) r
-
 pub record Giving (r out : List ℕ) (m k : ℕ) : Type 0 where
   pub few : m ≤ maxNodes
   pub nodes : k ≤ m

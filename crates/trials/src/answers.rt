@@ -1,17 +1,15 @@
-// The answer of a search stands in the working room: how a constant and the input words get there, and how it is given.
+// The answer of a search stands in the working room: how a constant gets there, and how an answer is given.
 use cuts::cut::constant;
 use diagram::lengths::most;
 use diagram::node::BddPointer;
-use diagram::node::word;
 use diagram::room::clear;
-use diagram::room::put;
 use negation::negate;
 use reduction::answer::copy;
 use room_map::ANSWER;
 use room_map::END;
 ghost use Prim.Native.Nat.{_≤_, max};
 ghost use Rattle.diagram.specs.Limits.{maxNodes};
-ghost use Rattle.trials.specs.Answers.{Constant, Keeping, Kept, Giving, Given, Returning, Returned};
+ghost use Rattle.trials.specs.Answers.{Constant, Giving, Given, Returning, Returned};
 
 // How many nodes the answer has, and how many cuts by a list were made for it.
 pub struct Answer {
@@ -28,18 +26,6 @@ pub fn constantly(room: &mut [u32], target: BddPointer, nodes: usize, vars: u32)
     Answer {
         nodes: made,
         trials: 0,
-    }
-}
-
-// The input words are the answer.
-pub fn keep(words: &[u32], room: &mut [u32], most: usize)
-    requires { ⌜ Keeping (now words) (now room) most ⌝ }
-    ensures { λ _. ⌜ Kept (now (words .entry)) most (now (room .entry)) (now (room .exit)) ⌝ }
-{
-    let mut i = 0;
-    while i < words.len() {
-        put(room, ANSWER * most + i, words[i]);
-        i += 1;
     }
 }
 

@@ -18,7 +18,7 @@ by-size-requires : tie.Need-by-size-requires
 by-size-requires c κs = search needs
 
 returns : tie.Need-returns
-returns c = aims-size (c .before .before .before .before .before .before .before .args .keep) (c .before .before .before .before .before .before .before .args .kind .now) (c .before .before .before .before .before .before .before .args .number .now) (c .before .before .before .same .ensures) (c .before .before .if1 .taken) (c .by-size .ensures ∙ if-parsed (c .before .before .before .before .before .before .before .args .keep) (c .before .before .before .before .before .before .before .args .number .now) (c .before .parse-decimal .ensures))
+returns c = aims-size (c .before .before .before .before .before .before .before .args .keep) (c .before .before .before .before .before .before .before .args .as-is) (c .before .before .before .before .before .before .before .args .kind .now) (c .before .before .before .before .before .before .before .args .number .now) (c .before .before .before .same .ensures) (c .before .before .if1 .taken) (c .by-size .ensures ∙ if-parsed (c .before .before .before .before .before .before .before .args .keep) (c .before .before .before .before .before .before .before .args .as-is) (c .before .before .before .before .before .before .before .args .number .now) (c .before .parse-decimal .ensures))
 
 slice-aggregate-same-2 : tie.Need-slice-aggregate-same-2
 slice-aggregate-same-2 c = search needs
@@ -33,7 +33,7 @@ by-count-requires : tie.Need-by-count-requires
 by-count-requires c κs = search needs
 
 returns-2 : tie.Need-returns-2
-returns-2 c = aims-cases (c .before .before .before .before .before .before .before .before .before .before .args .keep) (c .before .before .before .before .before .before .before .before .before .before .args .kind .now) (c .before .before .before .before .before .before .before .before .before .before .args .number .now) (c .before .before .before .before .before .before .same .ensures) (c .before .before .before .before .before .if1 .left) (c .before .before .before .same2 .ensures) (c .before .before .if2 .taken) (c .by-count .ensures ∙ if-answered (c .before .before .before .before .before .before .before .before .before .before .args .keep) 10 (c .before .before .before .before .before .before .before .before .before .before .args .number .now) (c .before .parse-natural .result) (c .before .parse-natural .ensures))
+returns-2 c = aims-cases (c .before .before .before .before .before .before .before .before .before .before .args .keep) (c .before .before .before .before .before .before .before .before .before .before .args .as-is) (c .before .before .before .before .before .before .before .before .before .before .args .kind .now) (c .before .before .before .before .before .before .before .before .before .before .args .number .now) (c .before .before .before .before .before .before .same .ensures) (c .before .before .before .before .before .if1 .left) (c .before .before .before .same2 .ensures) (c .before .before .if2 .taken) (c .by-count .ensures ∙ if-answered (c .before .before .before .before .before .before .before .before .before .before .args .keep) (c .before .before .before .before .before .before .before .before .before .before .args .as-is) 10 (c .before .before .before .before .before .before .before .before .before .before .args .number .now) (c .before .parse-natural .result) (c .before .parse-natural .ensures))
 
 slice-aggregate-same-3 : tie.Need-slice-aggregate-same-3
 slice-aggregate-same-3 c = search needs
@@ -48,7 +48,7 @@ by-count-requires-2 : tie.Need-by-count-requires-2
 by-count-requires-2 c κs = search needs
 
 returns-3 : tie.Need-returns-3
-returns-3 c = aims-hex (c .before .before .before .before .before .before .before .before .before .before .before .before .before .args .keep) (c .before .before .before .before .before .before .before .before .before .before .before .before .before .args .kind .now) (c .before .before .before .before .before .before .before .before .before .before .before .before .before .args .number .now) (c .before .before .before .before .before .before .before .before .before .same .ensures) (c .before .before .before .before .before .before .before .before .if1 .left) (c .before .before .before .before .before .before .same2 .ensures) (c .before .before .before .before .before .if2 .left) (c .before .before .before .same3 .ensures) (c .before .before .if3 .taken) (c .by-count2 .ensures ∙ if-answered (c .before .before .before .before .before .before .before .before .before .before .before .before .before .args .keep) 16 (c .before .before .before .before .before .before .before .before .before .before .before .before .before .args .number .now) (c .before .parse-hexadecimal .result) (c .before .parse-hexadecimal .ensures))
+returns-3 c = aims-hex (c .before .before .before .before .before .before .before .before .before .before .before .before .before .args .keep) (c .before .before .before .before .before .before .before .before .before .before .before .before .before .args .as-is) (c .before .before .before .before .before .before .before .before .before .before .before .before .before .args .kind .now) (c .before .before .before .before .before .before .before .before .before .before .before .before .before .args .number .now) (c .before .before .before .before .before .before .before .before .before .same .ensures) (c .before .before .before .before .before .before .before .before .if1 .left) (c .before .before .before .before .before .before .same2 .ensures) (c .before .before .before .before .before .if2 .left) (c .before .before .before .same3 .ensures) (c .before .before .if3 .taken) (c .by-count2 .ensures ∙ if-answered (c .before .before .before .before .before .before .before .before .before .before .before .before .before .args .keep) (c .before .before .before .before .before .before .before .before .before .before .before .before .before .args .as-is) 16 (c .before .before .before .before .before .before .before .before .before .before .before .before .before .args .number .now) (c .before .parse-hexadecimal .result) (c .before .parse-hexadecimal .ensures))
 
 slice-aggregate-same-4 : tie.Need-slice-aggregate-same-4
 slice-aggregate-same-4 c = search needs
@@ -60,13 +60,13 @@ no-cut-requires : tie.Need-no-cut-requires
 no-cut-requires c κs = search needs
 
 returns-4 : tie.Need-returns-4
-returns-4 c = aims-which (c .before .before .before .before .before .before .before .before .before .before .before .before .before .before .before .args .keep) (c .before .before .before .before .before .before .before .before .before .before .before .before .before .before .before .args .kind .now) (c .before .before .before .before .before .before .before .before .before .before .before .before .before .before .before .args .number .now) (c .before .before .before .before .before .before .before .before .before .before .before .same .ensures) (c .before .before .before .before .before .before .before .before .before .before .if1 .left) (c .before .before .before .before .before .before .before .before .same2 .ensures) (c .before .before .before .before .before .before .before .if2 .left) (c .before .before .before .before .before .same3 .ensures) (c .before .before .before .before .if3 .left) (c .before .before .same4 .ensures) (c .before .if4 .taken) (is-which _ (c .no-cut .ensures))
+returns-4 c = aims-which (c .before .before .before .before .before .before .before .before .before .before .before .before .before .before .before .args .keep) (c .before .before .before .before .before .before .before .before .before .before .before .before .before .before .before .args .as-is) (c .before .before .before .before .before .before .before .before .before .before .before .before .before .before .before .args .kind .now) (c .before .before .before .before .before .before .before .before .before .before .before .before .before .before .before .args .number .now) (c .before .before .before .before .before .before .before .before .before .before .before .same .ensures) (c .before .before .before .before .before .before .before .before .before .before .if1 .left) (c .before .before .before .before .before .before .before .before .same2 .ensures) (c .before .before .before .before .before .before .before .if2 .left) (c .before .before .before .before .before .same3 .ensures) (c .before .before .before .before .if3 .left) (c .before .before .same4 .ensures) (c .before .if4 .taken) (is-which _ (c .no-cut .ensures))
 
 no-cut-requires-2 : tie.Need-no-cut-requires-2
 no-cut-requires-2 c κs = search needs
 
 returns-5 : tie.Need-returns-5
-returns-5 c = aims-none (c .before .before .before .before .before .before .before .before .before .before .before .before .before .before .before .args .keep) (c .before .before .before .before .before .before .before .before .before .before .before .before .before .before .before .args .kind .now) (c .before .before .before .before .before .before .before .before .before .before .before .before .before .before .before .args .number .now) (c .before .before .before .before .before .before .before .before .before .before .before .same .ensures) (c .before .before .before .before .before .before .before .before .before .before .if1 .left) (c .before .before .before .before .before .before .before .before .same2 .ensures) (c .before .before .before .before .before .before .before .if2 .left) (c .before .before .before .before .before .same3 .ensures) (c .before .before .before .before .if3 .left) (c .before .before .same4 .ensures) (c .before .if4 .left) (is-unknown _ (c .no-cut2 .ensures))
+returns-5 c = aims-none (c .before .before .before .before .before .before .before .before .before .before .before .before .before .before .before .args .keep) (c .before .before .before .before .before .before .before .before .before .before .before .before .before .before .before .args .as-is) (c .before .before .before .before .before .before .before .before .before .before .before .before .before .before .before .args .kind .now) (c .before .before .before .before .before .before .before .before .before .before .before .before .before .before .before .args .number .now) (c .before .before .before .before .before .before .before .before .before .before .before .same .ensures) (c .before .before .before .before .before .before .before .before .before .before .if1 .left) (c .before .before .before .before .before .before .before .before .same2 .ensures) (c .before .before .before .before .before .before .before .if2 .left) (c .before .before .before .before .before .same3 .ensures) (c .before .before .before .before .if3 .left) (c .before .before .same4 .ensures) (c .before .if4 .left) (is-unknown _ (c .no-cut2 .ensures))
 
 pub aim-spec : {M : Type 1} → statement M
 aim-spec =

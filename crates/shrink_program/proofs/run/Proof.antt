@@ -26,7 +26,7 @@ deliver-requires : tie.Need-deliver-requires
 deliver-requires c κs = search needs
 
 returns : tie.Need-returns
-returns c = let e = ends-whole (requestOf (c .before .before .before .before .before .before .before .before .before .before .before .before .args .count) (c .before .before .before .before .before .before .before .before .before .before .before .before .args .direction .now) (c .before .before .before .before .before .before .before .before .before .before .before .before .args .kind .now) (c .before .before .before .before .before .before .before .before .before .before .before .before .args .number .now)) (c .before .before .before .before .before .before .before .before .before .before .before .before .args .bytes .now) refl (omega arith) (c .before .before .before .before .before .answer .ensures) in record { output = e .0; said = e .1 }
+returns c = let e = ends-whole (requestOf (c .before .before .before .before .before .before .before .before .before .before .before .before .before .args .count) (c .before .before .before .before .before .before .before .before .before .before .before .before .before .args .direction .now) (c .before .before .before .before .before .before .before .before .before .before .before .before .before .args .kind .now) (c .before .before .before .before .before .before .before .before .before .before .before .before .before .args .number .now) (c .before .before .before .before .before .before .before .before .before .before .before .before .before .args .flag .now)) (c .before .before .before .before .before .before .before .before .before .before .before .before .before .args .bytes .now) refl (omega arith) (c .before .before .before .before .before .answer .ensures) in record { output = e .0; said = e .1 }
 
 pub run-spec : {M : Type 1} → statement M
 run-spec =

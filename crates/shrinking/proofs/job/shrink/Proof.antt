@@ -44,13 +44,13 @@ same-length-2 : tie.Need-same-length-2
 same-length-2 c = search needs
 
 returns : tie.Need-returns
-returns c = file-done (c .before .before .before .before .before .before .before .before .before .before .before .before .before .before .before .before .before .args .target .keep) (aimOf (c .before .before .before .before .before .before .before .before .before .before .before .before .before .before .before .before .before .args .target)) (c .before .before .before .before .before .before .before .before .before .before .before .before .before .before .before .before .before .args .bytes .now) _ _ (c .before .before .before .before .before .before .before .before .before .before .before .before .read-file .ensures) refl (c .before .before .before .before .before .before .before .before .before .stored .given .1) (c .before .before .before .before .shrink-diagram .ensures)
+returns c = file-done (c .before .before .before .before .before .before .before .before .before .before .before .before .before .before .before .before .before .args .target .keep) (c .before .before .before .before .before .before .before .before .before .before .before .before .before .before .before .before .before .args .target .as_is) (aimOf (c .before .before .before .before .before .before .before .before .before .before .before .before .before .before .before .before .before .args .target)) (c .before .before .before .before .before .before .before .before .before .before .before .before .before .before .before .before .before .args .bytes .now) _ _ (c .before .before .before .before .before .before .before .before .before .before .before .before .read-file .ensures) refl (c .before .before .before .before .before .before .before .before .before .stored .given .1) (c .before .before .before .before .shrink-diagram .ensures)
 
 same-length-3 : tie.Need-same-length-3
 same-length-3 c = search needs
 
 returns-2 : tie.Need-returns-2
-returns-2 c = file-refused (c .before .before .before .before .before .before .before .before .before .before .before .before .before .args .target .keep) (aimOf (c .before .before .before .before .before .before .before .before .before .before .before .before .before .args .target)) (c .before .before .before .before .before .before .before .before .before .before .before .before .before .args .bytes .now) _ _ (c .before .before .before .before .before .before .before .before .read-file .ensures) refl (c .before .before .before .before .before .stored2 .given .1) (c .before .before .refuse .ensures)
+returns-2 c = file-refused (c .before .before .before .before .before .before .before .before .before .before .before .before .before .args .target .keep) (c .before .before .before .before .before .before .before .before .before .before .before .before .before .args .target .as_is) (aimOf (c .before .before .before .before .before .before .before .before .before .before .before .before .before .args .target)) (c .before .before .before .before .before .before .before .before .before .before .before .before .before .args .bytes .now) _ _ (c .before .before .before .before .before .before .before .before .read-file .ensures) refl (c .before .before .before .before .before .stored2 .given .1) (c .before .before .refuse .ensures)
 
 pub shrink-spec : {M : Type 1} → statement M
 shrink-spec =

@@ -20,16 +20,16 @@ enum-told : tie.Need-enum-told
 enum-told c = search needs
 
 mul-output : tie.Need-mul-output
-mul-output c = omega (arith, answer-long (c .before .before .before .before .before .before .before .before .before .before .before .args .target .keep) (aimOf (c .before .before .before .before .before .before .before .before .before .before .before .args .target)) (c .before .before .before .before .before .before .before .before .before .before .before .args .words .now) _ _ _ _ (c .before .before .before .before .before .shrink-words .ensures) refl refl (c .before .enum-told .given .1) (c .before .before .before .before .before .shrink-words .kept .1 .1 .1 .0))
+mul-output c = omega (arith, answer-long (c .before .before .before .before .before .before .before .before .before .before .before .args .target .keep) (c .before .before .before .before .before .before .before .before .before .before .before .args .target .as_is) (aimOf (c .before .before .before .before .before .before .before .before .before .before .before .args .target)) (c .before .before .before .before .before .before .before .before .before .before .before .args .words .now) _ _ _ _ (c .before .before .before .before .before .shrink-words .ensures) refl refl (c .before .enum-told .given .1) (c .before .before .before .before .before .shrink-words .kept .1 .1 .1 .0))
 
 array-share-prefix-output : tie.Need-array-share-prefix-output
-array-share-prefix-output c = omega (arith, answer-long (c .before .before .before .before .before .before .before .before .before .before .before .args .target .keep) (aimOf (c .before .before .before .before .before .before .before .before .before .before .before .args .target)) (c .before .before .before .before .before .before .before .before .before .before .before .args .words .now) _ _ _ _ (c .before .before .before .before .before .shrink-words .ensures) refl refl (c .before .enum-told .given .1) (c .before .before .before .before .before .shrink-words .kept .1 .1 .1 .0), c .before .before .before .before .before .shrink-words .kept .1 .1 .1 .0)
+array-share-prefix-output c = omega (arith, answer-long (c .before .before .before .before .before .before .before .before .before .before .before .args .target .keep) (c .before .before .before .before .before .before .before .before .before .before .before .args .target .as_is) (aimOf (c .before .before .before .before .before .before .before .before .before .before .before .args .target)) (c .before .before .before .before .before .before .before .before .before .before .before .args .words .now) _ _ _ _ (c .before .before .before .before .before .shrink-words .ensures) refl refl (c .before .enum-told .given .1) (c .before .before .before .before .before .shrink-words .kept .1 .1 .1 .0), c .before .before .before .before .before .shrink-words .kept .1 .1 .1 .0)
 
 slice-aggregate-hand-out : tie.Need-slice-aggregate-hand-out
-slice-aggregate-hand-out c = sym (length-take-le _ _ (omega (arith, answer-long (c .before .before .before .before .before .before .before .before .before .before .before .before .args .target .keep) (aimOf (c .before .before .before .before .before .before .before .before .before .before .before .before .args .target)) (c .before .before .before .before .before .before .before .before .before .before .before .before .args .words .now) _ _ _ _ (c .before .before .before .before .before .before .shrink-words .ensures) refl refl (c .before .before .enum-told .given .1) (c .before .before .before .before .before .before .shrink-words .kept .1 .1 .1 .0), c .before .before .before .before .before .before .shrink-words .kept .1 .1 .1 .0)))
+slice-aggregate-hand-out c = sym (length-take-le _ _ (omega (arith, answer-long (c .before .before .before .before .before .before .before .before .before .before .before .before .args .target .keep) (c .before .before .before .before .before .before .before .before .before .before .before .before .args .target .as_is) (aimOf (c .before .before .before .before .before .before .before .before .before .before .before .before .args .target)) (c .before .before .before .before .before .before .before .before .before .before .before .before .args .words .now) _ _ _ _ (c .before .before .before .before .before .before .shrink-words .ensures) refl refl (c .before .before .enum-told .given .1) (c .before .before .before .before .before .before .shrink-words .kept .1 .1 .1 .0), c .before .before .before .before .before .before .shrink-words .kept .1 .1 .1 .0)))
 
 hand-out-requires : tie.Need-hand-out-requires
-hand-out-requires c κs = answer-ready (c .before .before .before .before .before .before .before .before .before .before .before .before .before .before .args .target .keep) (aimOf (c .before .before .before .before .before .before .before .before .before .before .before .before .before .before .args .target)) (c .before .before .before .before .before .before .before .before .before .before .before .before .before .before .args .words .now) _ _ _ _ (c .before .before .before .before .before .before .before .before .shrink-words .ensures) refl refl (c .before .before .before .before .enum-told .given .1) (c .before .before .before .before .before .before .before .before .shrink-words .kept .1 .1 .1 .0)
+hand-out-requires c κs = answer-ready (c .before .before .before .before .before .before .before .before .before .before .before .before .before .before .args .target .keep) (c .before .before .before .before .before .before .before .before .before .before .before .before .before .before .args .target .as_is) (aimOf (c .before .before .before .before .before .before .before .before .before .before .before .before .before .before .args .target)) (c .before .before .before .before .before .before .before .before .before .before .before .before .before .before .args .words .now) _ _ _ _ (c .before .before .before .before .before .before .before .before .shrink-words .ensures) refl refl (c .before .before .before .before .enum-told .given .1) (c .before .before .before .before .before .before .before .before .shrink-words .kept .1 .1 .1 .0)
 
 enum-known-verdict : tie.Need-enum-known-verdict
 enum-known-verdict c = search needs
@@ -44,13 +44,13 @@ same-length-2 : tie.Need-same-length-2
 same-length-2 c = search needs
 
 returns : tie.Need-returns
-returns c = diagram-done (c .before .before .before .before .before .before .before .before .before .before .before .before .before .before .before .before .before .before .before .args .target .keep) (aimOf (c .before .before .before .before .before .before .before .before .before .before .before .before .before .before .before .before .before .before .before .args .target)) (c .before .before .before .before .before .before .before .before .before .before .before .before .before .before .before .before .before .before .before .args .words .now) _ _ _ _ (c .before .before .before .before .before .before .before .before .before .before .before .before .before .shrink-words .ensures) refl refl (c .before .before .before .before .before .before .before .before .before .enum-told .given .1) (c .before .before .before .before .before .before .before .before .before .before .before .before .before .shrink-words .kept .1 .1 .1 .0) (c .before .before .before .before .hand-out .ensures)
+returns c = diagram-done (c .before .before .before .before .before .before .before .before .before .before .before .before .before .before .before .before .before .before .before .args .target .keep) (c .before .before .before .before .before .before .before .before .before .before .before .before .before .before .before .before .before .before .before .args .target .as_is) (aimOf (c .before .before .before .before .before .before .before .before .before .before .before .before .before .before .before .before .before .before .before .args .target)) (c .before .before .before .before .before .before .before .before .before .before .before .before .before .before .before .before .before .before .before .args .words .now) _ _ _ _ (c .before .before .before .before .before .before .before .before .before .before .before .before .before .shrink-words .ensures) refl refl (c .before .before .before .before .before .before .before .before .before .enum-told .given .1) (c .before .before .before .before .before .before .before .before .before .before .before .before .before .shrink-words .kept .1 .1 .1 .0) (c .before .before .before .before .hand-out .ensures)
 
 same-length-3 : tie.Need-same-length-3
 same-length-3 c = search needs
 
 returns-2 : tie.Need-returns-2
-returns-2 c = diagram-refused (c .before .before .before .before .before .before .before .before .before .before .before .before .before .before .before .args .target .keep) (aimOf (c .before .before .before .before .before .before .before .before .before .before .before .before .before .before .before .args .target)) (c .before .before .before .before .before .before .before .before .before .before .before .before .before .before .before .args .words .now) _ _ _ _ (c .before .before .before .before .before .before .before .before .before .shrink-words .ensures) refl refl (c .before .before .before .before .before .verdict .given .1) (c .before .before .refuse .ensures)
+returns-2 c = diagram-refused (c .before .before .before .before .before .before .before .before .before .before .before .before .before .before .before .args .target .keep) (c .before .before .before .before .before .before .before .before .before .before .before .before .before .before .before .args .target .as_is) (aimOf (c .before .before .before .before .before .before .before .before .before .before .before .before .before .before .before .args .target)) (c .before .before .before .before .before .before .before .before .before .before .before .before .before .before .before .args .words .now) _ _ _ _ (c .before .before .before .before .before .before .before .before .before .shrink-words .ensures) refl refl (c .before .before .before .before .before .verdict .given .1) (c .before .before .refuse .ensures)
 
 pub shrink-diagram-spec : {M : Type 1} → statement M
 shrink-diagram-spec =

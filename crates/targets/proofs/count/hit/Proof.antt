@@ -1,3 +1,4 @@
+use native.Mathlib.Omega.{arith}
 use borrow.Author.Needs.{needs}
 use Rattle.targets.proofs.count.hit.Statement.{statement}
 use Rattle.targets.proofs.count.hit.Tie as tie

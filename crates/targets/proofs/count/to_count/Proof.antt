@@ -1,6 +1,7 @@
 use denote.Ref.{now}
 use Rattle.naturals.specs.Natural.{value}
 use Rattle.targets.proofs.Counts.{check-refuses, open-few, open-refuses, open-counts, open-meets}
+use native.Mathlib.Omega.{arith}
 use borrow.Author.Needs.{needs}
 use Rattle.targets.proofs.count.to_count.Statement.{statement}
 use Rattle.targets.proofs.count.to_count.Tie as tie
@@ -18,10 +19,10 @@ same-length : tie.Need-same-length
 same-length c = search needs
 
 returns : tie.Need-returns
-returns c = check-refuses (c .before .before .before .before .before .before .before .before .before .args .above) (value (c .before .before .before .before .before .before .before .before .before .args .target .words)) (now (c .before .before .before .before .before .before .before .before .before .args .output)) (c .before .before .before .before .admit .ensures) (c .enum-told .given .1)
+returns c = check-refuses (c .before .before .before .before .before .before .before .before .before .args .above) (c .before .before .before .before .before .before .before .before .before .args .as-is) (value (c .before .before .before .before .before .before .before .before .before .args .target .words)) (now (c .before .before .before .before .before .before .before .before .before .args .output)) (c .before .before .before .before .admit .ensures) (c .enum-told .given .1)
 
 tell-requires : tie.Need-tell-requires
-tell-requires c κs = open-few (c .before .before .before .before .before .before .before .before .before .before .args .above) (value (c .before .before .before .before .before .before .before .before .before .before .args .target .words)) (now (c .before .before .before .before .before .before .before .before .before .before .args .output)) (c .before .before .before .before .before .admit .ensures) (c .before .verdict .given .1)
+tell-requires c κs = open-few (c .before .before .before .before .before .before .before .before .before .before .args .above) (c .before .before .before .before .before .before .before .before .before .before .args .as-is) (value (c .before .before .before .before .before .before .before .before .before .before .args .target .words)) (now (c .before .before .before .before .before .before .before .before .before .before .args .output)) (c .before .before .before .before .before .admit .ensures) (c .before .verdict .given .1)
 
 enum-told-2 : tie.Need-enum-told-2
 enum-told-2 c = search needs
@@ -33,10 +34,10 @@ same-length-2 : tie.Need-same-length-2
 same-length-2 c = search needs
 
 returns-2 : tie.Need-returns-2
-returns-2 c = open-refuses (c .before .before .before .before .before .before .before .before .before .before .before .before .before .args .above) (value (c .before .before .before .before .before .before .before .before .before .before .before .before .before .args .target .words)) (now (c .before .before .before .before .before .before .before .before .before .before .before .before .before .args .output)) (c .before .before .before .before .before .before .before .before .admit .ensures) (c .before .before .before .before .verdict .given .1) (c .before .before .tell .result) (c .before .before .tell .ensures) (c .enum-told3 .given .1)
+returns-2 c = open-refuses (c .before .before .before .before .before .before .before .before .before .before .before .before .before .args .above) (c .before .before .before .before .before .before .before .before .before .before .before .before .before .args .as-is) (value (c .before .before .before .before .before .before .before .before .before .before .before .before .before .args .target .words)) (now (c .before .before .before .before .before .before .before .before .before .before .before .before .before .args .output)) (c .before .before .before .before .before .before .before .before .admit .ensures) (c .before .before .before .before .verdict .given .1) (c .before .before .tell .result) (c .before .before .tell .ensures) (c .enum-told3 .given .1)
 
 hit-requires : tie.Need-hit-requires
-hit-requires c κs = open-counts (c .before .before .before .before .before .before .before .before .before .before .before .before .before .before .before .args .above) (value (c .before .before .before .before .before .before .before .before .before .before .before .before .before .before .before .args .target .words)) (now (c .before .before .before .before .before .before .before .before .before .before .before .before .before .before .before .args .output)) (c .before .before .before .before .before .before .before .before .before .before .admit .ensures) (c .before .before .before .before .before .before .verdict .given .1) (c .before .before .before .before .tell .result) (c .before .before .before .before .tell .ensures) (c .before .before .enum-told2 .given .1)
+hit-requires c κs = open-counts (c .before .before .before .before .before .before .before .before .before .before .before .before .before .before .before .args .above) (c .before .before .before .before .before .before .before .before .before .before .before .before .before .before .before .args .as-is) (value (c .before .before .before .before .before .before .before .before .before .before .before .before .before .before .before .args .target .words)) (now (c .before .before .before .before .before .before .before .before .before .before .before .before .before .before .before .args .output)) (c .before .before .before .before .before .before .before .before .before .before .admit .ensures) (c .before .before .before .before .before .before .verdict .given .1) (c .before .before .before .before .tell .result) (c .before .before .before .before .tell .ensures) (c .before .before .enum-told2 .given .1)
 
 same-length-3 : tie.Need-same-length-3
 same-length-3 c = search needs
@@ -45,7 +46,7 @@ same-length-4 : tie.Need-same-length-4
 same-length-4 c = search needs
 
 returns-3 : tie.Need-returns-3
-returns-3 c = open-meets (c .before .before .before .before .before .before .before .before .before .before .before .before .before .before .before .before .before .before .before .before .args .above) (value (c .before .before .before .before .before .before .before .before .before .before .before .before .before .before .before .before .before .before .before .before .args .target .words)) (now (c .before .before .before .before .before .before .before .before .before .before .before .before .before .before .before .before .before .before .before .before .args .output)) (c .before .before .before .before .before .before .before .before .before .before .before .before .before .before .before .admit .ensures) (c .before .before .before .before .before .before .before .before .before .before .before .verdict .given .1) (c .before .before .before .before .before .before .before .before .before .tell .result) (c .before .before .before .before .before .before .before .before .before .tell .ensures) (c .before .before .before .before .before .before .before .enum-told2 .given .1) (c .before .before .before .before .hit .ensures)
+returns-3 c = open-meets (c .before .before .before .before .before .before .before .before .before .before .before .before .before .before .before .before .before .before .before .before .args .above) (c .before .before .before .before .before .before .before .before .before .before .before .before .before .before .before .before .before .before .before .before .args .as-is) (value (c .before .before .before .before .before .before .before .before .before .before .before .before .before .before .before .before .before .before .before .before .args .target .words)) (now (c .before .before .before .before .before .before .before .before .before .before .before .before .before .before .before .before .before .before .before .before .args .output)) (c .before .before .before .before .before .before .before .before .before .before .before .before .before .before .before .admit .ensures) (c .before .before .before .before .before .before .before .before .before .before .before .verdict .given .1) (c .before .before .before .before .before .before .before .before .before .tell .result) (c .before .before .before .before .before .before .before .before .before .tell .ensures) (c .before .before .before .before .before .before .before .enum-told2 .given .1) (c .before .before .before .before .hit .ensures)
 
 pub to-count-spec : {M : Type 1} → statement M
 to-count-spec =
