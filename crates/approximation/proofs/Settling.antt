@@ -80,42 +80,42 @@ module _ (w : List ℕ) (a : Accepted w) where
 -- ---- which answer it is
 
 module _ (as-is : Bool) (w : List ℕ) (t : ℕ) where
-  pub under-size-is-met : size w ≤ t → underSizeAnswer as-is w t ≡ met as-is w
-  unfolding underSizeAnswer
-  under-size-is-met h = rw (le-leb (size w) t h) refl
-
   pub under-size-is-sought : t < size w → underSizeAnswer as-is w t ≡ underToSize w t
   unfolding underSizeAnswer
   under-size-is-sought h = rw (lt-leb (size w) t h) refl
 
-  pub over-size-is-met : size w ≤ t → overSizeAnswer as-is w t ≡ met as-is w
-  unfolding overSizeAnswer
-  over-size-is-met h = rw (le-leb (size w) t h) refl
+  pub under-size-is-met : size w ≤ t → underSizeAnswer as-is w t ≡ met as-is w
+  unfolding underSizeAnswer
+  under-size-is-met h = rw (le-leb (size w) t h) refl
 
   pub over-size-is-sought : t < size w → overSizeAnswer as-is w t ≡ overToSize w t
   unfolding overSizeAnswer
   over-size-is-sought h = rw (lt-leb (size w) t h) refl
+
+  pub over-size-is-met : size w ≤ t → overSizeAnswer as-is w t ≡ met as-is w
+  unfolding overSizeAnswer
+  over-size-is-met h = rw (le-leb (size w) t h) refl
 
 module _ (as-is : Bool) (w : List ℕ) (k : ℕ) where
   pub under-count-is-none : k ≡ 0 → underCountAnswer as-is w k ≡ underToCount w k
   unfolding underCountAnswer
   under-count-is-none e = rw e refl
 
-  pub under-count-is-met : 0 < k → countOf w ≤ k → underCountAnswer as-is w k ≡ met as-is w
-  unfolding underCountAnswer
-  under-count-is-met low h = rw (lt-ltb 0 k low, le-leb (countOf w) k h) refl
-
   pub under-count-is-sought : 0 < k → k < countOf w → underCountAnswer as-is w k ≡ underToCount w k
   unfolding underCountAnswer
   under-count-is-sought low h = rw (lt-ltb 0 k low, lt-leb (countOf w) k h) refl
 
-  pub over-count-is-met : k ≤ countOf w → overCountAnswer as-is w k ≡ met as-is w
-  unfolding overCountAnswer
-  over-count-is-met h = rw (le-leb k (countOf w) h) refl
+  pub under-count-is-met : 0 < k → countOf w ≤ k → underCountAnswer as-is w k ≡ met as-is w
+  unfolding underCountAnswer
+  under-count-is-met low h = rw (lt-ltb 0 k low, le-leb (countOf w) k h) refl
 
   pub over-count-is-sought : countOf w < k → overCountAnswer as-is w k ≡ overToCount w k
   unfolding overCountAnswer
   over-count-is-sought h = rw (lt-leb k (countOf w) h) refl
+
+  pub over-count-is-met : k ≤ countOf w → overCountAnswer as-is w k ≡ met as-is w
+  unfolding overCountAnswer
+  over-count-is-met h = rw (le-leb k (countOf w) h) refl
 
 -- ---- to a size
 

@@ -1,5 +1,6 @@
 -- Document 01's "The evening's cut", sentence by sentence, with no fuel: which answer the rules lead to, where a target isn't
--- refused (18, 16 and 19: Cut.antt). That they lead to the answers of Search.antt and to no other is in Demand2.antt.
+-- refused (18, 16 and 19: Cut.antt). That they lead to the answers of Search.antt and to no other is in Demand2.antt. What is given
+-- in the place of input words that aren't to be kept as they stand is in Met.antt (document 02, E8).
 use Prim.Native.Nat.{ℕ, suc, _-_, _^_, _≤_, _<_}
 use mathlib.Core.Path.{_≡_}
 use mathlib.Core.Bool.{cond}
