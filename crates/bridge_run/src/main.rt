@@ -1,5 +1,6 @@
 // Asks exported functions, one for each struct that they answer with, of the diagram D of document 01: number, place, nodes and vars
-// of the verdict, then the value. Then a refusal: two nodes of which the second is no terminal.
+// of the verdict, then the value. Then a cut to a size that is met, x1 under a root with low = high: reduced, and as it is. Then a
+// refusal: two nodes of which the second is no terminal.
 use diagram::limits::ROOM_PER_NODE;
 use diagram::node::word;
 use houayletan::HouayletanVerdict;
@@ -58,8 +59,8 @@ fn cut(words: &[u32], room: &mut [u32], output: &mut [u32]) {
     end_line();
 }
 
-fn cut_to_size(words: &[u32], room: &mut [u32], output: &mut [u32]) {
-    let answer = houayletan_underapproximate_to_size_2(words, 4, 0, room, output);
+fn cut_to_size(words: &[u32], as_is: u32, room: &mut [u32], output: &mut [u32]) {
+    let answer = houayletan_underapproximate_to_size_2(words, 4, as_is, room, output);
     let verdict = answer.verdict;
     say_verdict(verdict);
     say(b", nodes ", answer.nodes as u64);
@@ -76,7 +77,10 @@ fn main() {
     count(&words, &mut room);
     ask(&words, &mut room);
     cut(&words, &mut room, &mut output);
-    cut_to_size(&words, &mut room, &mut output);
+    cut_to_size(&words, 0, &mut room, &mut output);
+    let met = [2u32, 0, 0, 2, 1, 1, 1, 0, 1, 0, 2, 2];
+    cut_to_size(&met, 0, &mut room, &mut output);
+    cut_to_size(&met, 7, &mut room, &mut output);
     let other = [0u32; 6];
     check(&other, &mut room);
 }
