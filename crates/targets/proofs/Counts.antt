@@ -40,9 +40,6 @@ use Rattle.targets.proofs.Hitting.{Flipped, most-same, targeting-search
 pub under-aims : {w r out : List ℕ} {k n v : ℕ} → Counting false w r out k n v → Aiming w r k n v
 under-aims a = record { searching = targeting-searches (a .targeting); target = a .target }
 
-pub targeting-variables : {w r out : List ℕ} {n v : ℕ} → Targeting w r out n v → v ≤ maxVariables
-targeting-variables t = let is = t .is-vars in let few = t .accepted .formed .variables in omega arith
-
 -- ---- what a target leaves of all valuations
 
 remaining-open : (w : List ℕ) (k : ℕ) → Accepted w → overCountOf w k ≡ accepted (size w) (vars w) → Open (negated w) (remaining w k)
@@ -133,9 +130,6 @@ module _ {w heads r : List ℕ} {k count n v : ℕ} (a : Lacking w heads r k cou
 module _ {w heads r : List ℕ} {k count n v : ℕ} (a : Mirroring w heads r k count n v) where
   abbrev ok : Accepted w
   ok = a .searching .accepted
-
-  pub mirror-few : n ≤ maxNodes
-  mirror-few = searching-few (a .searching)
 
   pub mirror-ready : Ready w v
   mirror-ready = record { formed = ok .formed; count = a .searching .is-vars }
