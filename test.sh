@@ -58,18 +58,21 @@ built=target/tests
 c_program() { # NAME
     mkdir -p "$built" && cc -std=c99 -Wall -Wextra -Werror -O2 "tests/c/$1.c" "$archive" -o "$built/$1"
 }
-# What was compiled before the cuts to a target took as_is must be stopped by the linker: for want of those four names, and of no other.
+# What was compiled against the header before this one must be stopped by the linker: for want of all its functions, and of nothing else.
 old_caller() {
-    local said wanting four
+    local said wanting asked
     cc -std=c99 -Wall -Wextra -Werror -O2 -c tests/c/old_caller.c -o "$built/old_caller.o" || return 1
-    if said=$(LC_ALL=C cc "$built/old_caller.o" "$archive" -o "$built/old_caller" 2>&1); then
+    if cc "$built/old_caller.o" "$archive" -o "$built/old_caller" > /dev/null 2>&1; then
         echo "old caller: it links"
         return 1
     fi
-    wanting=$(grep -oE "undefined (reference to|symbol:).*" <<< "$said" | grep -oE 'houayletan_[a-z_0-9]+' | LC_ALL=C sort -u | tr '\n' ' ')
-    four=$(printf 'houayletan_%sapproximate_to_%s ' over cardinality over size under cardinality under size)
-    [ "$wanting" = "$four" ] && return
-    echo "old caller: not stopped for those four names: $said"
+    # once more as warnings, none of which a linker leaves out
+    said=$(LC_ALL=C cc "$built/old_caller.o" "$archive" -Wl,--warn-unresolved-symbols -o "$built/old_caller" 2>&1)
+    rm -f "$built/old_caller"
+    wanting=$(sed -nE "s/.*undefined (reference to|symbol:) [\`']?(\w+).*/\2/p" <<< "$said" | LC_ALL=C sort -u)
+    asked=$(grep -oE 'houayletan_[a-z_0-9]+' tests/c/old_caller.c | LC_ALL=C sort -u)
+    [ "$wanting" = "$asked" ] && [ "$(wc -l <<< "$asked")" -eq 22 ] && return
+    echo "old caller: not stopped for all 22 functions of that header: $said"
     return 1
 }
 c_test() { c_program test && "$built/test" && old_caller; }

@@ -66,6 +66,33 @@ extern "C" {
 #define HOUAYLETAN_OUTPUT(n) (3 * ((size_t)(n) < 2 ? (size_t)2 : (size_t)(n)))
 #define HOUAYLETAN_WEIGHTS(n) (HOUAYLETAN_COUNT_WORDS * (size_t)(n))
 
+/* The functions' names for the linker: what was compiled against an older header does not link. They ended in nothing at first; in 2
+ * those of the four cuts to a target, when these took as_is; in 3 all, when a count got sixteen words, and structs, rooms and
+ * outputs became longer. Source uses the names without the number. */
+#define HOUAYLETAN_LINKED(name) name##_3
+#define houayletan_validate HOUAYLETAN_LINKED(houayletan_validate)
+#define houayletan_exact_cardinality HOUAYLETAN_LINKED(houayletan_exact_cardinality)
+#define houayletan_cardinality HOUAYLETAN_LINKED(houayletan_cardinality)
+#define houayletan_exact_clause_cardinality HOUAYLETAN_LINKED(houayletan_exact_clause_cardinality)
+#define houayletan_count_and_weights HOUAYLETAN_LINKED(houayletan_count_and_weights)
+#define houayletan_node_valuation_weights HOUAYLETAN_LINKED(houayletan_node_valuation_weights)
+#define houayletan_reduce HOUAYLETAN_LINKED(houayletan_reduce)
+#define houayletan_clear HOUAYLETAN_LINKED(houayletan_clear)
+#define houayletan_size HOUAYLETAN_LINKED(houayletan_size)
+#define houayletan_num_vars HOUAYLETAN_LINKED(houayletan_num_vars)
+#define houayletan_is_true HOUAYLETAN_LINKED(houayletan_is_true)
+#define houayletan_is_false HOUAYLETAN_LINKED(houayletan_is_false)
+#define houayletan_is_clause HOUAYLETAN_LINKED(houayletan_is_clause)
+#define houayletan_is_valuation HOUAYLETAN_LINKED(houayletan_is_valuation)
+#define houayletan_size_per_variable HOUAYLETAN_LINKED(houayletan_size_per_variable)
+#define houayletan_not HOUAYLETAN_LINKED(houayletan_not)
+#define houayletan_underapproximate HOUAYLETAN_LINKED(houayletan_underapproximate)
+#define houayletan_overapproximate HOUAYLETAN_LINKED(houayletan_overapproximate)
+#define houayletan_underapproximate_to_size HOUAYLETAN_LINKED(houayletan_underapproximate_to_size)
+#define houayletan_overapproximate_to_size HOUAYLETAN_LINKED(houayletan_overapproximate_to_size)
+#define houayletan_underapproximate_to_cardinality HOUAYLETAN_LINKED(houayletan_underapproximate_to_cardinality)
+#define houayletan_overapproximate_to_cardinality HOUAYLETAN_LINKED(houayletan_overapproximate_to_cardinality)
+
 /* number 0: accepted, with the counts of nodes and of variables, and place 0.
  * Any other number: refused; place is as in the table, nodes and vars are 0. */
 typedef struct {
@@ -172,14 +199,7 @@ HouayletanDiagram houayletan_overapproximate(const uint32_t *words, size_t words
 
 /* Cuts to a target. Where the array meets it as it is given, nothing is cut and there are no trials: the answer is the reduced diagram,
  * or where as_is is not 0 the words as they are. What reducing leaves is not looked at for that, and a search begins with the array
- * itself. Without as_is every answer is reduced.
- *
- * These four took no as_is once, and gave the words as they are. Their names for the linker end in 2 since: what was compiled against
- * that header does not link. */
-#define houayletan_underapproximate_to_size houayletan_underapproximate_to_size_2
-#define houayletan_overapproximate_to_size houayletan_overapproximate_to_size_2
-#define houayletan_underapproximate_to_cardinality houayletan_underapproximate_to_cardinality_2
-#define houayletan_overapproximate_to_cardinality houayletan_overapproximate_to_cardinality_2
+ * itself. Without as_is every answer is reduced. */
 
 /* To at most target nodes, the nodes of least weight first; no answer has more. Met by target nodes or fewer. Any other array gives
  * false (under) or true (over) for target 2, and false for target 1: from above only where the diagram holds for no valuation,

@@ -5,12 +5,12 @@
 
 /* The most nodes and the most variables of a diagram. */
 #define HOUAYLETAN_NODES 4096
-#define HOUAYLETAN_VARS 255
+#define HOUAYLETAN_VARS 511
 
 /* The words of working room for each node. */
-#define HOUAYLETAN_ROOM_PER_NODE 64
+#define HOUAYLETAN_ROOM_PER_NODE 128
 
 /* The words of a count. */
-#define HOUAYLETAN_COUNT_WORDS 8
+#define HOUAYLETAN_COUNT_WORDS 16
 
 #endif

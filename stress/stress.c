@@ -29,6 +29,9 @@ static bool one_in(size_t n) { return below(n) == 0; }
 #define COUNT_WORDS HOUAYLETAN_COUNT_WORDS
 #define COUNT_BITS (32 * COUNT_WORDS)
 #define MOST (HOUAYLETAN_NODES + 104)
+/* The most variables, and the words of a count, at first. */
+#define FIRST_VARS 255
+#define FIRST_WORDS 8
 static uint32_t words[3 * MOST], list[MOST];
 
 /* An accepted diagram of at most `most` nodes: each node but the root hangs at a free link of an earlier level, and the
@@ -153,6 +156,7 @@ static uint32_t any_flag(void) { return one_in(2) ? 0 : one_in(2) ? 1 : one_in(2
 
 static unsigned long made, refused[32];
 static unsigned long kept, reduced, reworded; /* of the targets that the array meets: with as_is, without, and without to other words */
+static unsigned long many_vars, wide_counts, wide_targets; /* of the answers: more variables, or more words, than there were at first */
 
 static uint32_t spare_room[HOUAYLETAN_ROOM_PER_NODE * HOUAYLETAN_NODES];
 
@@ -243,6 +247,14 @@ static void stop(const Operation *o, const Request *q, const Reply *r, Refused e
     exit(1);
 }
 
+static void tally_wide(const Operation *o, const Request *q, const Reply *r) {
+    bool count = false, target = false;
+    for (int i = FIRST_WORDS; i < COUNT_WORDS; i++) count |= r->value[i] != 0, target |= q->target[i] != 0;
+    many_vars += r->verdict.vars > FIRST_VARS;
+    wide_counts += r->values == COUNT_WORDS && count;
+    wide_targets += o->argument == COUNT_TARGET && target;
+}
+
 static void check_call(const Operation *o, const Loan *l, const Request *q, const Reply *r) {
     Refused expected = reading(words, q->words_len, q->room_len, o->output, q->output_len);
     if (!expected.number) expected = reading_argument(o, q);
@@ -253,6 +265,7 @@ static void check_call(const Operation *o, const Loan *l, const Request *q, cons
     if (fault) stop(o, q, r, expected, fault);
     made++;
     refused[expected.number]++;
+    if (!expected.number) tally_wide(o, q, r);
 }
 
 /* Mostly exact, often one short, sometimes longer, or anything. */
@@ -411,6 +424,8 @@ int main(int argc, char **argv) {
     size_t guard = argc > 3 ? strtoul(argv[3], NULL, 10) : 16;
     while (made < requests) one_request(guard);
     printf("targets that the array meets: %lu with as_is; %lu without, %lu of these to other words\n", kept, reduced, reworded);
+    printf("answered with more than %d variables: %lu; of 2^%d or more: %lu counts, %lu targets\n", FIRST_VARS, many_vars, 32 * FIRST_WORDS,
+           wide_counts, wide_targets);
     printf("stress: seed %s, %zu operations, %lu requests, 0 failed; accepted %lu, refused", argv[1], OPERATIONS, made, refused[0]);
     for (int i = 1; i < 20; i++) {
         if (refused[i]) printf(" %d: %lu", i, refused[i]);

@@ -4,7 +4,7 @@ import os
 import random
 
 import block
-from diagram_cases import D
+from diagram_cases import D, HALF, ladder, terminals, widened
 from limits import BLOCK, BLOCK_NODES, COUNT, FILE_NODES, MAX_VARS, ROOM
 from reading import nodes, verdict
 from weights_cases import by_chances, count_of
@@ -12,6 +12,8 @@ from weights_cases import by_chances, count_of
 HERE = os.path.dirname(os.path.abspath(__file__))
 TOP = os.path.join(HERE, '..')
 LIMIT = 1 << (32 * COUNT)
+MIDDLE = 1 << HALF
+DIGITS = len(str(LIMIT - 1))                            # the most decimal ones of a number
 FILE_WORDS = 3 * FILE_NODES
 random.seed(23)
 # What shrink says of each number that it can meet; 4 only where its caller lends a short buffer, which the program does not.
@@ -62,6 +64,19 @@ def chain(n):
     for p in range(2, n):
         words += [n - 1 - p, 0, p - 1]
     return words
+
+
+def longest():
+    """True, in the most nodes of a file over the most variables: every weight but node 0's is the largest that there is."""
+    words = terminals(MAX_VARS)
+    for p in range(2, FILE_NODES):
+        words += [MAX_VARS + 1 - p, p - 1, p - 1]
+    return words
+
+
+def filled():
+    """The most nodes of a file over the most variables."""
+    return ladder(random.Random(1993), FILE_NODES, MAX_VARS)
 
 
 def changed(data, at, byte):
@@ -156,8 +171,8 @@ def words_to_write():
 
 
 def reported():
-    for words in (D, [3, 0, 0], [3, 0, 0, 3, 1, 1], chain(50), chain(100), chain(FILE_NODES), [MAX_VARS, 0, 0, MAX_VARS, 1, 1, 0, 0, 1], D[:12] + [0, 2, 4],
-                  [3, 0, 0, 3, 1, 1, 2, 0, 1, 1, 0, 1], [MAX_VARS + 1, 0, 0, MAX_VARS + 1, 1, 1], [9, 8, 7]):
+    for words in (D, [3, 0, 0], [3, 0, 0, 3, 1, 1], chain(50), chain(100), chain(FILE_NODES), terminals(MAX_VARS)[:3], terminals(MAX_VARS), terminals(MAX_VARS) + [0, 0, 1],
+                  filled(), longest(), D[:12] + [0, 2, 4], [3, 0, 0, 3, 1, 1, 2, 0, 1, 1, 0, 1], terminals(MAX_VARS + 1)[:3], terminals(MAX_VARS + 1), widened(filled()), [9, 8, 7]):
         yield b''.join(block.write(words))
     for data, _ in list(files())[70:]:
         yield data
@@ -165,11 +180,13 @@ def reported():
 
 def texts():
     decimals = ['0', '1', '9', '10', '4294967295', '4294967296', '99999999999999999999', '', '00', '01', '1a', 'a', ' 1', '1 ', '-1', '/', ':', '007']
-    hexadecimals = ['0', 'f', '10', 'ff', 'F', 'g', ':', '/', '0f', '', 'deadbeef0123456789', '%x' % (LIMIT >> 4), '%x' % (LIMIT - 1), '%x' % LIMIT,
-                    '%x' % (16 * LIMIT - 1), '`', 'a0', '00']
-    naturals = [0, 9, 10, 99, 100, 2 ** 32 - 1, 2 ** 32, 10 ** 19, 2 ** 64 - 1, 2 ** 64, 10 ** 20, 10 ** 77, LIMIT // 10, LIMIT - 1, LIMIT, LIMIT + 1,
-                LIMIT + 12345, 10 * LIMIT, 10 ** 78, 10 ** (10 * COUNT), LIMIT * LIMIT]
-    others = ['', '00', '01', '0' + str(LIMIT - 1), '00' + '1' * 70, 'a', '1a', 'a1', '12345678901234567890f', '-1', '+1', ' 1', '1 ', '1_000', '/', ':', '1:']
+    wide = [MIDDLE - 1, MIDDLE, MIDDLE + 1, 16 * MIDDLE - 1, 2 ** MAX_VARS - 1, 2 ** MAX_VARS, 2 ** MAX_VARS + 1, LIMIT // 3, LIMIT - 1, LIMIT, LIMIT + 1, LIMIT + 12345]
+    hexadecimals = ['0', 'f', '10', 'ff', 'F', 'g', ':', '/', '0f', '', 'deadbeef0123456789', '%x' % (LIMIT >> 4), '%x' % (16 * LIMIT - 1), '`', 'a0', '00',
+                    '0' + '%x' % MIDDLE, '%X' % (LIMIT - 1)] + ['%x' % n for n in wide]
+    naturals = [0, 9, 10, 99, 100, 2 ** 32 - 1, 2 ** 32, 10 ** 19, 2 ** 64 - 1, 2 ** 64, 10 ** 20, 10 ** 77, 10 ** 78, LIMIT // 10, 10 * LIMIT, 10 ** (DIGITS - 1) - 1,
+                10 ** (DIGITS - 1), 10 ** DIGITS - 1, 10 ** DIGITS, 10 ** (10 * COUNT), LIMIT * LIMIT] + wide
+    others = ['', '00', '01', '0' + str(LIMIT - 1), '0' + str(MIDDLE), '00' + '1' * 70, 'a', '1a', 'a1', '12345678901234567890f', str(MIDDLE) + 'f', '-1', '+1', ' 1', '1 ', '1_000', '/', ':',
+              '1:']
     for t in decimals:
         good = t.isdigit() and str(int(t)) == t and int(t) < 2 ** 32
         yield 3, t, t if good else 'none'

@@ -4,7 +4,7 @@ import os
 import random
 import struct
 
-from diagram_cases import D, layered, terminals
+from diagram_cases import D, HALF, full, ladder, layered, terminals, widest
 from limits import COUNT, MAX_NODES, MAX_VARS, ROOM
 from reading import most, room_after, verdict
 
@@ -101,25 +101,28 @@ def said(answer):
     return f'accepted nodes {a} vars {b}' if kind == 'accepted' else f'refused {a} at {b}'
 
 
+def per_variable(words, room, lent):
+    """The nodes of each variable, in an output of that length."""
+    answer = verdict(words, room, ('variables', lent))
+    n, v = answer[1:] if answer[0] == 'accepted' else (0, 0)
+    at = [words[3 * p] for p in range(2, n)]
+    return f', per variable in {lent} {said(answer)} kept {lent - v} words' + ''.join(f' {at.count(c)}' for c in range(v))
+
+
 def line(words, room, word):
     yes = {True: 'yes', False: 'no'}
-    plain, per, short, dia = (verdict(words, room, out) for out in (None, ('variables', OUTPUT), ('diagram', SHORT), ('diagram', OUTPUT)))
+    plain, short, dia = (verdict(words, room, out) for out in (None, ('diagram', SHORT), ('diagram', OUTPUT)))
     ok = plain[0] == 'accepted'
     n, v = (plain[1], plain[2]) if ok else (0, 0)
     zeros = room_after(words, room)
-    filled = [word] * OUTPUT
-    lists = filled[:]
-    result = []
-    if ok:
-        lists[:v] = [sum(words[3 * p] == c for p in range(2, n)) for c in range(v)]
-        result = negated(words)
-    left = result + filled[len(result):]
+    result = negated(words) if ok else []
+    left = result + [word] * (OUTPUT - len(result))
     return ''.join([
         said(plain), f', count {count(words) if ok else 0:0{DIGITS}x}', f', paths {paths(words) if ok else 0:0{DIGITS}x}', f', float {float_bits(words) if ok else 0:016x}',
         f', size {n}, vars {v}', f', true {yes[ok and n == 2]}, false {yes[ok and n == 1]}',
         f', clause {yes[ok and walk(words, False)]}, valuation {yes[ok and walk(words, True)]}',
         f', room zero {zeros} kept {room - zeros}',
-        f', per variable {said(per)} words', ''.join(f' {x}' for x in lists[:MAX_VARS + 1]),
+        *(per_variable(words, room, lent) for lent in (OUTPUT, MAX_VARS, MAX_VARS - 1)),
         f', short {said(short)} kept {SHORT}',
         f', not {said(dia)} nodes {len(result) // 3} words', ''.join(f' {x}' for x in left[:len(words)]), '\n'])
 
@@ -151,6 +154,30 @@ def doubled(v):
     return words
 
 
+def some_of_the_last(v, k):
+    """All variables hold but the last k, and of these at least one: 2 ** k - 1 valuations."""
+    words, below = terminals(v), 0
+    for i in reversed(range(v)):
+        words += [i, below, 1] if i >= v - k else [i, 0, below]
+        below = len(words) // 3 - 1
+    return words
+
+
+def wide():
+    """Many variables, and counts of all sizes up to the most, also on either side of 2 ** 53, up to which the float is the count."""
+    rng = random.Random(1993)
+    for k in (53, 54, HALF - 1, HALF, HALF + 1):
+        yield some_of_the_last(MAX_VARS, k)
+        yield chain(MAX_VARS, [1] * MAX_VARS, set(range(MAX_VARS - k, MAX_VARS)))       # 2 ** k valuations
+    yield some_of_the_last(MAX_VARS, MAX_VARS)
+    for v in (HALF - 1, HALF, HALF + 1):
+        yield terminals(v)
+    for v in (300, 400, MAX_VARS):
+        for n in (20, 100, v + 2):
+            yield ladder(rng, n, v)
+        yield layered(rng, 100, v)
+
+
 def cases():
     rng = random.Random(2019)
 
@@ -165,8 +192,12 @@ def cases():
     yield exact([0, 0, 0, 0, 0, 0])
     yield exact([1, 0, 0, 1, 1, 1, 0, 2, 0, 0, 2, 1])
     yield exact([1, 0, 0, 1, 1, 1, 0, 1, 2, 0, 2, 1])
-    yield exact([MAX_VARS + 1, 0, 0])
-    for v in (0, 1, 2, 5, MAX_VARS - 1, MAX_VARS):
+    for words in widest():
+        yield exact(words)
+    yield full(MAX_VARS), ROOM * MAX_NODES - 1, 7
+    for more, words in enumerate(wide()):
+        yield exact(words, more % 3)
+    for v in (0, 1, 2, 5, MAX_VARS - 1):
         yield exact(terminals(v)[:3])
         yield exact(terminals(v))
     for v in (1, 2, 3, 8, 32, 33, 64, MAX_VARS):

@@ -17,7 +17,7 @@ import re
 import subprocess
 import sys
 
-from diagram_cases import D, layered, terminals
+from diagram_cases import D, HALF, crowded, full, ladder, layered, terminals, widened
 from limits import COUNT, MAX_NODES, MAX_VARS, ROOM
 from reading import most, nodes, room_after, verdict
 from weights_cases import by_chances
@@ -259,7 +259,7 @@ def worked():
     yield 's', [3], BOTH, [], 4, 2                      # the last cut counts, though the list was tried before
     yield 't', [2], [0, 0, 0], None, 0, 0               # the early rules look at the negation's array
     # 02, E5: no answer has no nodes; one node is an answer from above only to what holds for no valuation, whatever its array
-    for words in ([0, 0, 0], terminals(0), NONE, SINGLE, D, deep(0), deep(1)):
+    for words in ([0, 0, 0], terminals(0), NONE, SINGLE, D):
         for letter in 'st':
             yield letter, [0], words, 18, 0
     for words in ([0, 0, 0], terminals(0), NONE, SINGLE, D, deep(0), deep(1)):
@@ -294,7 +294,8 @@ def by_hand():
     """(letter, list or target, words, room length, output length)"""
     for case in worked():
         yield exact(*case[:3])
-        yield exact(*case[:3], 3, 4)                    # more than is asked for is as it was
+        if len(case[2]) < MAX_VARS:
+            yield exact(*case[:3], 3, 4)                # more than is asked for is as it was
     targets = {'u': [2], 'o': [2], 's': [3], 't': [3], 'c': count_words(1), 'd': count_words(1)}
     broken = [
         [],                                             # 1
@@ -332,9 +333,12 @@ def by_hand():
         yield exact('o', target, D, 1, 1)
     for t in (0, 1, 2, 3, 4, 4294967295):
         for letter in 'st':
-            for words in ([0, 0, 0], terminals(0), [MAX_VARS, 0, 0], terminals(MAX_VARS), NONE, SINGLE, BOTH, D, deep(0), deep(1)):
+            for words in ([0, 0, 0], terminals(0), [MAX_VARS, 0, 0], terminals(MAX_VARS), NONE, SINGLE, BOTH, D):
                 yield exact(letter, [t], words)
-    for v in (0, 1, 3, MAX_VARS):                       # counts of constants, by array length and in longer arrays
+    for letter in 'st':                                 # as deep as can be, searched and only reduced
+        for t, link in ((3, 0), (3, 1), (4294967295, 1)):
+            yield exact(letter, [t], deep(link))
+    for v in (0, 1, 3, HALF, MAX_VARS):                 # counts of constants, by array length and in longer arrays
         for letter in 'cd':
             for k in sorted({0, 1, 2, 2 ** v - 1, 2 ** v, 2 ** v + 1, 2 ** MAX_VARS, 2 ** (32 * COUNT) - 1}):
                 yield exact(letter, count_words(k), [v, 0, 0])
@@ -345,6 +349,30 @@ def by_hand():
     for letter, target in (('c', 0), ('c', 1), ('c', 3), ('d', 1), ('d', 4), ('d', 5)):
         yield exact(letter, count_words(target), BOTH)
         yield exact(letter, count_words(target), terminals(2) + [1, 0, 0, 0, 2, 2])
+
+
+def wide():
+    """The most variables and one more, each at one, two, some and the most nodes; and targets beyond half of a count's bits."""
+    rng = random.Random(1993)
+    some = ladder(rng, 30, MAX_VARS)
+    for letter, target in (('u', [5]), ('o', [5]), ('s', [20]), ('t', [20]), ('c', count_words(1 << HALF)), ('d', count_words((1 << MAX_VARS) - (1 << HALF) - 1))):
+        yield exact(letter, target, some)
+        for words in (terminals(MAX_VARS)[:3], terminals(MAX_VARS), some):
+            yield exact(letter, target, widened(words), 1, 1)
+    long = ladder(rng, MAX_VARS + 2, MAX_VARS)
+    yield exact('s', [200], long, 2, 2)
+    yield exact('d', count_words(count(nodes(long)) + (1 << MAX_VARS - 9)), long)
+    yield exact('s', [2000], crowded(), 1)
+    yield exact('c', count_words(1), full(MAX_VARS + 1), 1)
+    yield exact('t', [4], full(MAX_VARS), -1)           # a room one word short
+    either = chain(HALF + 8, 1)
+    for k in ((1 << HALF) - 1, 1 << HALF, (1 << HALF) + 1):
+        yield exact('c', count_words(k), either)
+    for k in ((1 << HALF) + 1, (1 << HALF + 7) - 1):
+        yield exact('d', count_words(k), chain(HALF + 8, 0))
+    for n, v in ((12, HALF + 1), (20, 300), (25, 400), (30, MAX_VARS)):
+        words = ladder(rng, n, v)
+        yield from requests(rng, words, [[n // 2]], (n // 2, n - 2), 4)
 
 
 def of_edits():
@@ -395,7 +423,6 @@ def at_random():
     for words in (chain(6, 0), chain(6, 1), chain(60, 0), chain(60, 1)):
         n = len(words) // 3
         yield from requests(rng, words, [[n // 2]], sorted({3, 4, n // 2, n - 1}), 1)
-    yield exact('s', [2000], layered(rng, MAX_NODES, 40))    # the most nodes
 
 
 def requests(rng, words, targets, sizes, some):
@@ -414,17 +441,17 @@ def requests(rng, words, targets, sizes, some):
 
 
 def both_ways(made):
-    """A target that is met is asked for as it is too; of the others every sixth."""
+    """A target that is met is asked for as it is too; of the others every sixth, but for the longest."""
     for i, (letter, target, words, *lent) in enumerate(made):
         yield letter, target, words, *lent
-        if letter in 'stcd' and (i % 6 == 0 or refusal(letter, target, words, *lent)[0] == 'accepted' and is_met(letter, target, nodes(words))):
+        if letter in 'stcd' and (i % 6 == 0 and len(words) < MAX_NODES or refusal(letter, target, words, *lent)[0] == 'accepted' and is_met(letter, target, nodes(words))):
             yield letter.upper(), target, words, *lent
 
 
 def cases():
     """Each request once."""
     seen = set()
-    for case in both_ways([*by_hand(), *of_edits(), *at_random()]):
+    for case in both_ways([*by_hand(), *of_edits(), *at_random(), *wide()]):
         line = request(*case)
         if case[0] in LETTERS and line not in seen:
             seen.add(line)

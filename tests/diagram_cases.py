@@ -2,12 +2,13 @@
 import os
 import random
 
-from limits import MAX_NODES, MAX_VARS, ROOM
+from limits import COUNT, MAX_NODES, MAX_VARS, ROOM
 from reading import most, room_after, verdict
 
 HERE = os.path.dirname(os.path.abspath(__file__))
 FOLDER = os.path.join(HERE, '..', 'crates', 'diagram_run')
 D = [3, 0, 0, 3, 1, 1, 2, 0, 1, 1, 2, 1, 0, 2, 3]
+HALF = 16 * COUNT                                       # half of a count's bits: wide cases stand on either side of it
 
 
 def terminals(v):
@@ -47,6 +48,56 @@ def layered(rng, n, v, order='random'):
         link = [c[1] if isinstance(c, tuple) else place[c] for c in (low, high)]
         out[place[i]] = (x, link[0], link[1])
     return [w for node in out for w in node]
+
+
+def ladder(rng, n, v):
+    """An accepted array of n nodes, each at a variable of its own: one link goes to the next node, the other to one of the next few, now and then
+    the same, or to a terminal. It is as deep as it can be: with a node for each variable, counts and weights have bits of every size."""
+    at = sorted(rng.sample(range(v), n - 2))
+    place = list(range(2, n - 1))
+    rng.shuffle(place)
+    place = [n - 1] + place
+    out = [(v, 0, 0), (v, 1, 1)] + [None] * (n - 2)
+    for i, var in enumerate(at):
+        if i + 1 < len(at):
+            links = [place[i + 1], rng.choice([0, 1] + place[i + 1:i + 2] + 3 * place[i + 2:i + 6])]
+        else:
+            links = [0, 1]
+        rng.shuffle(links)
+        out[place[i]] = (var, *links)
+    return [w for node in out for w in node]
+
+
+def crowded():
+    """The most nodes over the most variables: a layered diagram of the last 40, under the conjunction of those before."""
+    last = 40
+    first = MAX_VARS - last
+    words = layered(random.Random(1993), MAX_NODES - first, last)
+    made = terminals(MAX_VARS) + [w if i % 3 else w + first for i, w in enumerate(words[6:])]
+    for i in reversed(range(first)):
+        made += [i, 0, len(made) // 3 - 1]
+    assert len(made) == 3 * MAX_NODES
+    return made
+
+
+def widened(words):
+    """The same nodes over one variable more than there may be."""
+    return terminals(MAX_VARS + 1)[:len(words)] + words[6:]
+
+
+def full(v):
+    """The most nodes, in few bytes of text: of those between the terminals and the root none can be reached."""
+    return terminals(v) + [0, 0, 1] * (MAX_NODES - 2)
+
+
+def widest():
+    """Arrays over the most variables and, for 7, over one more: of one node, of two, of some, and of the most."""
+    rng = random.Random(1994)
+    for words in (terminals(MAX_VARS)[:3], terminals(MAX_VARS), ladder(rng, 60, MAX_VARS), ladder(rng, MAX_VARS + 2, MAX_VARS)):
+        yield words
+        yield widened(words)
+    yield crowded()
+    yield full(MAX_VARS + 1)
 
 
 def which_link():
@@ -90,17 +141,17 @@ def cases():
     yield exact(D, 3)                                   # a longer room keeps its rest
     yield D, ROOM * 5 - 1, 7                            # a room one word short
     over = MAX_VARS + 1
-    yield exact([MAX_VARS, 0, 0])                       # the most variables and one more
-    yield exact([over, 0, 0])
-    yield exact(terminals(MAX_VARS))
-    yield exact(terminals(over))
+    for more, words in enumerate(widest()):             # the most variables and one more
+        yield exact(words, more % 4)
     yield exact(terminals(over) + [over + 44, 9, 9])    # 7 comes before 8
+    yield exact(terminals(MAX_VARS) + [MAX_VARS, 9, 9])
+    yield full(MAX_VARS), ROOM * MAX_NODES - 1, 7       # a room one word short, at the most nodes
     yield [], 2 * ROOM, 7                               # 1
     yield [], 0, 7
     for k in (1, 2, 4, 5, 13, 14, 16):                  # 2
         yield exact([3] * k)
     yield [9] * 3 * (MAX_NODES + 1), 0, 7               # 3 comes before 5
-    yield exact(layered(rng, MAX_NODES, MAX_VARS))      # the most nodes and one more
+    yield exact(layered(rng, MAX_NODES, MAX_VARS), 3)   # the most nodes and one more
     yield layered(rng, MAX_NODES, MAX_VARS) + [0, 0, 1], ROOM * (MAX_NODES + 1), 7
     yield exact([0, 0, 1])                              # 6
     yield exact([1, 0, 0, 0, 1, 1])

@@ -2,9 +2,9 @@
 crates/blocks/src/layout.rt; papers.py holds these to them."""
 
 MAX_NODES = 4096        # the most nodes of a diagram
-MAX_VARS = 255          # the most variables
-ROOM = 64               # words of working room for each node
-COUNT = 8               # words of a count
+MAX_VARS = 511          # the most variables
+ROOM = 128              # words of working room for each node
+COUNT = 16              # words of a count
 BLOCK = 512             # bytes of a block
 BLOCK_NODES = 50        # nodes of a whole block
 FILE_NODES = 120        # the most nodes of a block file

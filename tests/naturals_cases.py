@@ -3,7 +3,9 @@ import os
 
 from limits import COUNT as WORDS
 
-LIMIT = 1 << (32 * WORDS)
+BITS = 32 * WORDS
+HALF = BITS // 2
+LIMIT = 1 << BITS
 TOP = (1 << 32) - 1
 HERE = os.path.dirname(os.path.abspath(__file__))
 
@@ -16,14 +18,19 @@ def block(start, end, word):
     return sum(word << (32 * i) for i in range(start, end))
 
 
+def falling(count):
+    return number([TOP - 65537 * i for i in range(count)])
+
+
 SAMPLES = [
-    0, 1, TOP, 1 << 32, block(0, WORDS // 2, TOP), 1 << (16 * WORDS), LIMIT - 1, 1 << (32 * WORDS - 1),
-    block(0, WORDS, 2309737967), 3, (1 << (16 * WORDS)) + 1, block(2, WORDS - 2, 4275878552),
+    0, 1, TOP, 1 << 32, (1 << HALF) - 1, 1 << HALF, LIMIT - 1, 1 << (BITS - 1),
+    block(0, WORDS, 2309737967), 3, (1 << HALF) + 1, block(2, WORDS - 2, 4275878552), falling(WORDS // 2), falling(WORDS // 2 + 1), falling(WORDS),
 ]
-SHIFTS = [0, 1, 31, 32, 33, 127, 128, 224, 255, 256, 4294967295]
+SHIFTS = [0, 1, 31, 32, 33, 127, 128, HALF - 32, HALF - 1, HALF, HALF + 1, HALF + 32, BITS - 32, BITS - 1, BITS, BITS + 1, TOP]
 DIVISORS = [0, 1, 3, 10, 65536, 2147483649, 4294967295]
-PLACES = [0, 1, 11, 12, 13, 20, 2**64 - 8, 2**64 - 1]
-ROOM = WORDS + 12       # words of the slice that is loaded from
+LAST = 12               # the last place of the slice that is loaded from
+ROOM = LAST + WORDS     # its words
+PLACES = [0, 1, LAST - 1, LAST, LAST + 1, ROOM, 2**64 - 1 - WORDS, 2**64 - WORDS, 2**64 - 1]
 lines = []
 
 

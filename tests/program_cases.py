@@ -6,9 +6,9 @@ readings of document 01 that share nothing with the code.
 import os
 
 import block
-from blocks_cases import SENTENCES, chain, changed, refused_line, report, resummed
+from blocks_cases import SENTENCES, chain, changed, filled, longest, refused_line, report, resummed
 from cuts_cases import count, count_words, cuts, flat, refusal
-from diagram_cases import D
+from diagram_cases import D, HALF, terminals, widened
 from limits import BLOCK, COUNT, FILE_NODES, MAX_VARS, ROOM
 from reading import nodes
 
@@ -74,13 +74,28 @@ def weighed():
         'weigh-22': changed(d, block.SUMMED, 0), 'weigh-23': resummed(changed(d, 0, 1)), 'weigh-24': resummed(changed(d, 503, 1)),
         'weigh-25': b''.join(block.write(chain(FILE_NODES + 1))), 'weigh-second-block': big[:BLOCK] + changed(big[BLOCK:2 * BLOCK], 9, 7) + big[2 * BLOCK:],
         'weigh-50': file_of(chain(50)), 'weigh-100': file_of(chain(100)), 'weigh-120': big, 'weigh-unordered': file_of([1, 0, 0, 1, 1, 1, 0, 2, 0, 0, 2, 1]),
-        'weigh-unordered-high': file_of([1, 0, 0, 1, 1, 1, 0, 1, 2, 0, 2, 1]),
+        'weigh-unordered-high': file_of([1, 0, 0, 1, 1, 1, 0, 1, 2, 0, 2, 1]), 'weigh-7': file_of(widened(filled())), 'weigh-wide': file_of(filled()),
+        'weigh-wide-true': file_of(terminals(MAX_VARS)), 'weigh-longest': file_of(longest()),
     }
 
 
 def wide():
     """A diagram over the most variables that holds for half of all valuations: the last variable."""
     return [MAX_VARS, 0, 0, MAX_VARS, 1, 1, MAX_VARS - 1, 0, 1]
+
+
+def wide_requests():
+    """Files of the most nodes over the most variables: counts and targets of many words, and one variable more."""
+    some, true, over = file_of(filled()), file_of(longest()), file_of(widened(filled()))
+    whole, half = count(nodes(filled())), 2 ** HALF
+    for a in ('keep', 'suppress'):
+        yield from ((a, 'size', t, some) for t in (2, 60, FILE_NODES))
+        yield a, 'size', 60, over
+    for b in ('cases', 'hex'):
+        yield from (('keep', b, t, some) for t in (whole, whole + 1, 2 ** MAX_VARS - half, 2 ** MAX_VARS + 1))
+        yield from (('suppress', b, t, some) for t in (half - 1, half + 1, whole - 1))
+        yield 'suppress', b, 2 ** (MAX_VARS - 1), true
+    yield from (('suppress', 'size', t, true) for t in (3, FILE_NODES))
 
 
 def broken():
@@ -129,6 +144,7 @@ def asked():
     assert seen == set(SENTENCES) - {4}
     requests = [(*request, False) for request in requests]
     requests += [(*request[:4], True) for request in requests if request[3] in (d, file_of(DEAD)) and request[1] != 'hex' or request[0] == 'suppress' and request[3] == b'']
+    requests += [(*request, as_is) for request in wide_requests() for as_is in ((False, True) if request[1:3] == ('size', FILE_NODES) else (False,))]
     others = [([], HELP)]
     others += [(w.split(), UNKNOWN) for w in (
         'keep', 'keep size', 'keep size 4 5', 'keep size 4 asis', 'keep size 4 AS-IS', 'keep size 4 as-is 5', 'keep size 4 as-is as-is', 'as-is keep size 4', 'keep as-is size 4', 'keep size as-is', 'grow size 4', 'suppress sise 4', 'keep size 04', 'keep size -1', 'keep size 1f', 'keep size 4294967296',

@@ -4,6 +4,7 @@ import os
 import random
 import sys
 
+from diagram_cases import full, widest
 from limits import MAX_NODES, MAX_VARS, ROOM
 from reading import most, room_after, verdict
 
@@ -112,14 +113,16 @@ def terminals(vars_):
 
 
 def constant(bit):
-    return terminals(255) + [(254, bit, bit)] + [(256 - k, k - 1, k - 1) for k in range(3, 257)]
+    """Every variable tested, with low = high: as deep as an array can be."""
+    return terminals(MAX_VARS) + [(MAX_VARS - 1, bit, bit)] + [(MAX_VARS + 1 - k, k - 1, k - 1) for k in range(3, MAX_VARS + 2)]
 
 
 def odd():
-    nodes = terminals(255)
-    for k in range(1, 255):
-        nodes += [(255 - k, 2 * k - 2, 2 * k - 1), (255 - k, 2 * k - 1, 2 * k - 2)]
-    return nodes + [(0, 508, 509)]
+    """Whether an odd number of the variables hold: two nodes for each but the first."""
+    nodes = terminals(MAX_VARS)
+    for k in range(1, MAX_VARS):
+        nodes += [(MAX_VARS - k, 2 * k - 2, 2 * k - 1), (MAX_VARS - k, 2 * k - 1, 2 * k - 2)]
+    return nodes + [(0, len(nodes) - 2, len(nodes) - 1)]
 
 
 def tree(levels):
@@ -215,8 +218,12 @@ for nodes in (constant(0), constant(1), odd(), few(), every()):
     lines.append(exactly(flat(nodes), from_nodes))
 for words in REFUSED:
     lines += [line(words, ROOM * most(len(words) // 3) + 3, 7, 3 * most(len(words) // 3) + 4, 9, by_table)]
-# an output and a room that are a word too short
+# the most variables and one more
+for words in widest():
+    lines.append(exactly(words, from_nodes))
+# an output and a room that are a word too short, the room also at the most nodes
 lines += [line(D, 5 * ROOM, 7, 14, 9, by_table), line(D, 5 * ROOM - 1, 7, 15, 9, by_table)]
+lines.append(line(full(MAX_VARS), MAX_NODES * ROOM - 1, 7, 3 * MAX_NODES, 9, by_table))
 rng = random.Random(1986)
 for v in range(4):
     for f in range(2 ** 2 ** v):

@@ -7,7 +7,7 @@ import random
 from fractions import Fraction
 from itertools import product
 
-from diagram_cases import D, layered, terminals
+from diagram_cases import D, HALF, full, ladder, layered, terminals, widest
 from limits import COUNT, MAX_NODES, MAX_VARS, ROOM
 from reading import most, nodes, room_after, verdict
 
@@ -101,10 +101,12 @@ def cases():
     yield exact([0, 0, 0])
     yield exact([0, 0, 0], 0, -1)                       # 4 and 5 as of any other
     yield exact([3, 0, 0], -1, 0)
-    yield exact([MAX_VARS + 1, 0, 0])                   # and 7
-    for v in (0, 1, 31, 32, MAX_VARS - 1, MAX_VARS):
+    for i, words in enumerate(widest()):                # the most variables, and 7 for one more
+        yield exact(words, i % 3, i % 4)
+    yield exact(full(MAX_VARS), 0, -1)                  # 4 and 5 at the most nodes
+    yield exact(full(MAX_VARS), -1, 0)
+    for v in (0, 1, 31, 32, HALF - 1, HALF, HALF + 1, MAX_VARS - 1):
         yield exact(terminals(v))
-    yield exact(terminals(MAX_VARS + 1))
     yield [], 2 * ROOM, COUNT                           # 1
     yield exact([3] * 4)                                # 2
     yield [9] * 3 * (MAX_NODES + 1), ROOM * MAX_NODES, COUNT * (MAX_NODES + 1)  # 3
@@ -122,10 +124,14 @@ def cases():
     for v in (8, MAX_VARS):                             # conjunctions: every weight is 1, but node 0's
         chain = [(v - 1 - i, 0, 1 + i) for i in range(v)]
         yield exact(terminals(v) + [x for node in chain for x in node])
+    for v in (8, HALF + 8):                             # disjunctions: 2 ** k - 1 for each k
+        chain = [(v - 1 - i, 1 + i if i else 0, 1) for i in range(v)]
+        yield exact(terminals(v) + [x for node in chain for x in node])
     for order in ('children first', 'children last', 'random'):
-        for n, v in ((10, MAX_VARS), (60, 33), (60, MAX_VARS), (200, 64), (300, 12)):
+        for n, v in ((10, MAX_VARS), (20, 300), (20, 400), (60, 33), (60, MAX_VARS), (200, 64), (300, 12)):
             yield exact(layered(rng, n, v, order), rng.choice((0, 1)), rng.choice((0, 2)))
-    yield exact(layered(rng, MAX_NODES, 40))
+    for n, v in ((HALF + 3, HALF + 1), (302, 300), (40, 300), (40, 400), (12, MAX_VARS), (40, MAX_VARS)):
+        yield exact(ladder(rng, n, v))                  # weights of many words, as products of two such numbers
     for _ in range(250):                                # few variables: every path is followed
         n = rng.choice((3, 4, 5, 6, 9, 14, 30))
         order = rng.choice(('children first', 'children last', 'random'))

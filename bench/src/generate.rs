@@ -25,24 +25,29 @@ pub enum Family {
     ChildrenFirst,
     /// The same links, each child after its parents, the root apart.
     ChildrenLast,
-    /// As many levels as there can be, each node linked to the next level.
-    Chain,
+    /// As many levels as there are variables, each node linked to the next level.
+    Chain(usize),
     /// A quarter of the nodes at each of the lowest levels.
     Wide,
     /// Equal nodes, and nodes with low = high.
     Unreduced,
-    /// A tree over conjunctions, one a column.
-    Columns,
+    /// A tree over conjunctions, one a column; as many levels.
+    Columns(usize),
 }
 
-pub const FAMILIES: [(Family, &str); 7] = [
+/// The most variables that there could be at first: times at so many can be held to older ones.
+const FIRST_VARS: usize = 255;
+
+pub const FAMILIES: [(Family, &str); 9] = [
     (Family::Random, "random"),
     (Family::ChildrenFirst, "children first"),
     (Family::ChildrenLast, "children last"),
-    (Family::Chain, "chain"),
+    (Family::Chain(FIRST_VARS), "chain"),
     (Family::Wide, "wide layers"),
     (Family::Unreduced, "unreduced"),
-    (Family::Columns, "columns"),
+    (Family::Columns(FIRST_VARS), "columns"),
+    (Family::Chain(MOST_VARS), "chain"),
+    (Family::Columns(MOST_VARS), "columns"),
 ];
 
 #[derive(Clone, Copy, PartialEq)]
@@ -148,7 +153,7 @@ impl Graph {
         let mut places: Vec<usize> = (0..count).map(|i| count + 1 - i).collect();
         if family == Family::ChildrenLast {
             (1..count).for_each(|i| places[i] = i + 1);
-        } else if family != Family::ChildrenFirst && family != Family::Chain && family != Family::Columns {
+        } else if !matches!(family, Family::ChildrenFirst | Family::Chain(_) | Family::Columns(_)) {
             (2..count).for_each(|i| places.swap(i, 1 + random.below(i)));
         }
         let v = vars as u32;
@@ -173,7 +178,7 @@ pub fn vars_of(family: Family) -> usize {
     match family {
         Family::Wide => 32,
         Family::Unreduced => 64,
-        Family::Chain | Family::Columns => MOST_VARS,
+        Family::Chain(vars) | Family::Columns(vars) => vars,
         _ => 128,
     }
 }
@@ -198,12 +203,12 @@ pub fn diagram(family: Family, n: usize, seed: u64) -> Vec<u32> {
             graph.span(random);
             graph.fill_unreduced(random);
         }
-        Family::Chain => graph.fill_columns(|j, width, next| match next {
+        Family::Chain(_) => graph.fill_columns(|j, width, next| match next {
             Some(next) if width > 1 => [Link::To(next + j), Link::To(next + (j + 1) % width)],
             Some(next) => [Link::Terminal(0), Link::To(next)],
             None => [Link::Terminal(j as u32 % 2), Link::Terminal(1 - j as u32 % 2)],
         }),
-        Family::Columns => graph.fill_columns(|j, _, next| {
+        Family::Columns(_) => graph.fill_columns(|j, _, next| {
             let on = next.map_or(Link::Terminal(1), |next| Link::To(next + j));
             if random.below(2) == 0 { [on, Link::Terminal(0)] } else { [Link::Terminal(0), on] }
         }),
@@ -216,7 +221,7 @@ pub fn diagram(family: Family, n: usize, seed: u64) -> Vec<u32> {
 /// remove is 15 w + 1: the first round takes a node of each and leaves 1 to remove; then each round takes one node of a conjunction
 /// that is gone already.
 pub fn many_cuts() -> (Vec<u32>, Vec<u32>) {
-    const VARS: usize = 255;
+    const VARS: usize = FIRST_VARS;
     const COLUMNS: usize = 16;
     const TOP: usize = 4;
     let shorter = |column: usize| column == COLUMNS - 1;

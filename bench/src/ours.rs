@@ -1,5 +1,5 @@
 //! The functions of include/houayletan.h, by their names for the linker. None has a precondition but that pointers and lengths are those of slices.
-use crate::limits::COUNT_WORDS;
+use crate::limits::{linked, COUNT_WORDS};
 
 #[repr(C)]
 pub struct Verdict {
@@ -40,19 +40,33 @@ pub struct Natural {
 }
 
 extern "C" {
+    #[link_name = linked!(underapproximate)]
     fn houayletan_underapproximate(words: *const u32, words_len: usize, list: *const u32, list_len: usize, room: *mut u32, room_len: usize, output: *mut u32, output_len: usize) -> Diagram;
+    #[link_name = linked!(overapproximate)]
     fn houayletan_overapproximate(words: *const u32, words_len: usize, list: *const u32, list_len: usize, room: *mut u32, room_len: usize, output: *mut u32, output_len: usize) -> Diagram;
-    fn houayletan_underapproximate_to_size_2(words: *const u32, words_len: usize, target: u32, as_is: u32, room: *mut u32, room_len: usize, output: *mut u32, output_len: usize) -> Approximation;
-    fn houayletan_overapproximate_to_size_2(words: *const u32, words_len: usize, target: u32, as_is: u32, room: *mut u32, room_len: usize, output: *mut u32, output_len: usize) -> Approximation;
-    fn houayletan_underapproximate_to_cardinality_2(words: *const u32, words_len: usize, target: Natural, as_is: u32, room: *mut u32, room_len: usize, output: *mut u32, output_len: usize) -> Approximation;
-    fn houayletan_overapproximate_to_cardinality_2(words: *const u32, words_len: usize, target: Natural, as_is: u32, room: *mut u32, room_len: usize, output: *mut u32, output_len: usize) -> Approximation;
+    #[link_name = linked!(underapproximate_to_size)]
+    fn houayletan_underapproximate_to_size(words: *const u32, words_len: usize, target: u32, as_is: u32, room: *mut u32, room_len: usize, output: *mut u32, output_len: usize) -> Approximation;
+    #[link_name = linked!(overapproximate_to_size)]
+    fn houayletan_overapproximate_to_size(words: *const u32, words_len: usize, target: u32, as_is: u32, room: *mut u32, room_len: usize, output: *mut u32, output_len: usize) -> Approximation;
+    #[link_name = linked!(underapproximate_to_cardinality)]
+    fn houayletan_underapproximate_to_cardinality(words: *const u32, words_len: usize, target: Natural, as_is: u32, room: *mut u32, room_len: usize, output: *mut u32, output_len: usize) -> Approximation;
+    #[link_name = linked!(overapproximate_to_cardinality)]
+    fn houayletan_overapproximate_to_cardinality(words: *const u32, words_len: usize, target: Natural, as_is: u32, room: *mut u32, room_len: usize, output: *mut u32, output_len: usize) -> Approximation;
+    #[link_name = linked!(validate)]
     fn houayletan_validate(words: *const u32, words_len: usize, room: *mut u32, room_len: usize) -> Verdict;
+    #[link_name = linked!(clear)]
     fn houayletan_clear(room: *mut u32, room_len: usize, count: usize);
+    #[link_name = linked!(exact_cardinality)]
     fn houayletan_exact_cardinality(words: *const u32, words_len: usize, room: *mut u32, room_len: usize) -> Count;
+    #[link_name = linked!(cardinality)]
     fn houayletan_cardinality(words: *const u32, words_len: usize, room: *mut u32, room_len: usize) -> Float;
+    #[link_name = linked!(exact_clause_cardinality)]
     fn houayletan_exact_clause_cardinality(words: *const u32, words_len: usize, room: *mut u32, room_len: usize) -> Count;
+    #[link_name = linked!(node_valuation_weights)]
     fn houayletan_node_valuation_weights(words: *const u32, words_len: usize, room: *mut u32, room_len: usize, output: *mut u32, output_len: usize) -> Verdict;
+    #[link_name = linked!(count_and_weights)]
     fn houayletan_count_and_weights(words: *const u32, words_len: usize, room: *mut u32, room_len: usize, output: *mut u32, output_len: usize) -> Count;
+    #[link_name = linked!(reduce)]
     fn houayletan_reduce(words: *const u32, words_len: usize, room: *mut u32, room_len: usize, output: *mut u32, output_len: usize) -> Diagram;
 }
 
@@ -103,20 +117,20 @@ pub fn overapproximate(words: &[u32], list: &[u32], room: &mut [u32], output: &m
 
 pub fn underapproximate_to_size(words: &[u32], target: u32, as_is: bool, room: &mut [u32], output: &mut [u32]) -> Approximation {
     let (out, out_len) = (output.as_mut_ptr(), output.len());
-    unsafe { houayletan_underapproximate_to_size_2(words.as_ptr(), words.len(), target, as_is as u32, room.as_mut_ptr(), room.len(), out, out_len) }
+    unsafe { houayletan_underapproximate_to_size(words.as_ptr(), words.len(), target, as_is as u32, room.as_mut_ptr(), room.len(), out, out_len) }
 }
 
 pub fn overapproximate_to_size(words: &[u32], target: u32, as_is: bool, room: &mut [u32], output: &mut [u32]) -> Approximation {
     let (out, out_len) = (output.as_mut_ptr(), output.len());
-    unsafe { houayletan_overapproximate_to_size_2(words.as_ptr(), words.len(), target, as_is as u32, room.as_mut_ptr(), room.len(), out, out_len) }
+    unsafe { houayletan_overapproximate_to_size(words.as_ptr(), words.len(), target, as_is as u32, room.as_mut_ptr(), room.len(), out, out_len) }
 }
 
 pub fn underapproximate_to_cardinality(words: &[u32], target: Natural, as_is: bool, room: &mut [u32], output: &mut [u32]) -> Approximation {
     let (out, out_len) = (output.as_mut_ptr(), output.len());
-    unsafe { houayletan_underapproximate_to_cardinality_2(words.as_ptr(), words.len(), target, as_is as u32, room.as_mut_ptr(), room.len(), out, out_len) }
+    unsafe { houayletan_underapproximate_to_cardinality(words.as_ptr(), words.len(), target, as_is as u32, room.as_mut_ptr(), room.len(), out, out_len) }
 }
 
 pub fn overapproximate_to_cardinality(words: &[u32], target: Natural, as_is: bool, room: &mut [u32], output: &mut [u32]) -> Approximation {
     let (out, out_len) = (output.as_mut_ptr(), output.len());
-    unsafe { houayletan_overapproximate_to_cardinality_2(words.as_ptr(), words.len(), target, as_is as u32, room.as_mut_ptr(), room.len(), out, out_len) }
+    unsafe { houayletan_overapproximate_to_cardinality(words.as_ptr(), words.len(), target, as_is as u32, room.as_mut_ptr(), room.len(), out, out_len) }
 }

@@ -12,7 +12,7 @@ mod safe;
 use houayletan::limits::{self, COUNT_WORDS, MOST_NODES};
 use num_bigint::BigUint;
 use random::Random;
-use request::{Argument, Operation, Request, OPERATIONS};
+use request::{Argument, Operation, Reply, Request, OPERATIONS};
 use rust_text::Bdd;
 use std::collections::BTreeMap;
 
@@ -132,6 +132,37 @@ fn request(random: &mut Random, operation: usize, most: usize) -> (Request, usiz
     (Request { operation, words, argument, as_is, room, output, seed: random.word() }, family, damaged)
 }
 
+/// Of the requests that are answered, those with more variables than could be at first, and numbers of more words than a count had.
+#[derive(Default)]
+struct Wide {
+    vars: u64,
+    counts: u64,
+    weighed: u64,
+    weights: u64,
+    targets: u64,
+}
+
+impl Wide {
+    const VARS: u32 = 255;
+    const WORDS: usize = 8;
+
+    fn add(&mut self, request: &Request, reply: &Reply) {
+        let wide = |words: &[u32]| words[Wide::WORDS..].iter().any(|w| *w != 0);
+        self.vars += (reply.vars > Wide::VARS) as u64;
+        if reply.values.len() == COUNT_WORDS {
+            self.counts += reply.values[Wide::WORDS..].iter().any(|w| *w != 0) as u64;
+        }
+        if request.output_kind() == reading::Output::Weights {
+            let weights = reply.written.chunks(COUNT_WORDS).filter(|w| wide(w)).count() as u64;
+            self.weights += weights;
+            self.weighed += (weights > 0) as u64;
+        }
+        if let Argument::Count(target) = &request.argument {
+            self.targets += wide(target) as u64;
+        }
+    }
+}
+
 fn number(text: Option<String>, other: u64) -> u64 {
     text.map_or(other, |t| t.parse().expect("a number"))
 }
@@ -155,6 +186,7 @@ fn main() {
     let (mut compared, mut most, mut most_vars, mut most_trials, mut safe, mut departures) = (0, 0, 0, 0, 0u64, 0u64);
     // of the targets that the array meets: without as_is, the same in other words than the Rust's, and with as_is
     let (mut reduced, mut reworded, mut kept) = (0u64, 0u64, 0u64);
+    let mut wide = Wide::default();
     while compared < requests {
         let operation = random.below(OPERATIONS.len());
         let limit = most_nodes(random);
@@ -180,6 +212,7 @@ fn main() {
         families[family][damaged as usize] += 1;
         sizes[SIZES.iter().position(|s| request.words.len() / 3 < *s).unwrap()] += 1;
         if expected.number == 0 {
+            wide.add(&request, &expected);
             departures += (OPERATIONS[operation].0 == Operation::OverapproximateToSize && matches!(request.argument, Argument::Size(1))) as u64;
             if reference::met(&request) {
                 reduced += !request.as_is as u64;
@@ -197,6 +230,9 @@ fn main() {
     println!("over to size 1 of what holds for no valuation, which the Rust answers otherwise: {departures}");
     println!("targets that the array meets: {kept} with as_is; {reduced} without, which gives other words than the Rust's: {reworded}");
     println!("largest accepted: {most} nodes, {most_vars} variables; most trials {most_trials}");
+    println!("answered with more than {} variables: {}", Wide::VARS, wide.vars);
+    let Wide { counts, weighed, weights, targets, .. } = wide;
+    println!("of 2^{} or more: {counts} counts, {weights} weights in {weighed} answers, {targets} targets", 32 * Wide::WORDS);
     println!("nodes offered: {} below 16, {} below 256, {} below 2,048, {} below {MOST_NODES}, {} more", sizes[0], sizes[1], sizes[2], sizes[3], sizes[4]);
     println!("\n| operation | answered | refused |\n|---|--:|--:|");
     for ((_, name, _), [answered, refused]) in OPERATIONS.iter().zip(tally) {

@@ -1,46 +1,70 @@
-/* A caller of the prototypes that took no as_is, as an object compiled against them asks the linker for them: it must not link
- * (test.sh). validate is as it was, so that the archive is there and serves all but the four. */
-#include "../../include/houayletan_limits.h"
+/* A caller of the header before this one, as an object compiled against it asks the linker for its functions: counts of 8 words, 64 words
+ * of room for a node, 255 for sizes by variable, and the number 2 at the names of the cuts to a target alone. It must not link, for want of
+ * every function (test.sh). */
 #include <stddef.h>
 #include <stdint.h>
 
-typedef struct {
-    uint32_t number;
-    size_t place;
-    size_t nodes;
-    uint32_t vars;
-} Verdict;
+typedef struct { uint32_t number; size_t place; size_t nodes; uint32_t vars; } Verdict;
+typedef struct { Verdict verdict; uint32_t count[8]; } Count;
+typedef struct { Verdict verdict; double count; } Float;
+typedef struct { Verdict verdict; size_t nodes; } Diagram;
+typedef struct { Verdict verdict; size_t amount; } Amount;
+typedef struct { Verdict verdict; size_t nodes; size_t trials; } Approximation;
+typedef struct { uint32_t words[8]; } Natural;
 
-typedef struct {
-    Verdict verdict;
-    size_t nodes;
-    size_t trials;
-} Approximation;
+#define IN const uint32_t *words, size_t words_len
+#define LIST const uint32_t *list, size_t list_len
+#define ROOM uint32_t *room, size_t room_len
+#define OUT uint32_t *output, size_t output_len
 
-typedef struct {
-    uint32_t words[HOUAYLETAN_COUNT_WORDS];
-} Natural;
+void houayletan_clear(ROOM, size_t count);
+Verdict houayletan_validate(IN, ROOM);
+Verdict houayletan_node_valuation_weights(IN, ROOM, OUT);
+Verdict houayletan_size_per_variable(IN, ROOM, OUT);
+Count houayletan_exact_cardinality(IN, ROOM);
+Count houayletan_exact_clause_cardinality(IN, ROOM);
+Count houayletan_count_and_weights(IN, ROOM, OUT);
+Float houayletan_cardinality(IN, ROOM);
+Amount houayletan_size(IN, ROOM);
+Amount houayletan_num_vars(IN, ROOM);
+Amount houayletan_is_true(IN, ROOM);
+Amount houayletan_is_false(IN, ROOM);
+Amount houayletan_is_clause(IN, ROOM);
+Amount houayletan_is_valuation(IN, ROOM);
+Diagram houayletan_reduce(IN, ROOM, OUT);
+Diagram houayletan_not(IN, ROOM, OUT);
+Diagram houayletan_underapproximate(IN, LIST, ROOM, OUT);
+Diagram houayletan_overapproximate(IN, LIST, ROOM, OUT);
+Approximation houayletan_underapproximate_to_size_2(IN, uint32_t target, uint32_t as_is, ROOM, OUT);
+Approximation houayletan_overapproximate_to_size_2(IN, uint32_t target, uint32_t as_is, ROOM, OUT);
+Approximation houayletan_underapproximate_to_cardinality_2(IN, Natural target, uint32_t as_is, ROOM, OUT);
+Approximation houayletan_overapproximate_to_cardinality_2(IN, Natural target, uint32_t as_is, ROOM, OUT);
 
-Verdict houayletan_validate(const uint32_t *words, size_t words_len, uint32_t *room, size_t room_len);
-Approximation houayletan_underapproximate_to_size(const uint32_t *words, size_t words_len, uint32_t target, uint32_t *room,
-                                                  size_t room_len, uint32_t *output, size_t output_len);
-Approximation houayletan_overapproximate_to_size(const uint32_t *words, size_t words_len, uint32_t target, uint32_t *room,
-                                                 size_t room_len, uint32_t *output, size_t output_len);
-Approximation houayletan_underapproximate_to_cardinality(const uint32_t *words, size_t words_len, Natural target, uint32_t *room,
-                                                         size_t room_len, uint32_t *output, size_t output_len);
-Approximation houayletan_overapproximate_to_cardinality(const uint32_t *words, size_t words_len, Natural target, uint32_t *room,
-                                                        size_t room_len, uint32_t *output, size_t output_len);
-
-#define ROOM (4 * HOUAYLETAN_ROOM_PER_NODE)
+#define D words, 15
+#define BY list, 1
+#define IN_ROOM room, 5 * 64
+#define TO output, 255
 
 int main(void) {
-    static const uint32_t words[12] = {2, 0, 0, 2, 1, 1, 1, 0, 1, 0, 2, 2};
-    static uint32_t room[ROOM], output[12];
-    const Natural two = {{2}};
-    size_t nodes = houayletan_validate(words, 12, room, ROOM).nodes;
-    nodes += houayletan_underapproximate_to_size(words, 12, 4, room, ROOM, output, 12).nodes;
-    nodes += houayletan_overapproximate_to_size(words, 12, 4, room, ROOM, output, 12).nodes;
-    nodes += houayletan_underapproximate_to_cardinality(words, 12, two, room, ROOM, output, 12).nodes;
-    nodes += houayletan_overapproximate_to_cardinality(words, 12, two, room, ROOM, output, 12).nodes;
-    return nodes != 20;
+    static const uint32_t words[15] = {3, 0, 0, 3, 1, 1, 2, 0, 1, 1, 2, 1, 0, 2, 3}, list[1] = {3};
+    static uint32_t room[5 * 64], output[255];
+    const Natural five = {{5}};
+    const Verdict said[] = {
+        houayletan_validate(D, IN_ROOM), houayletan_node_valuation_weights(D, IN_ROOM, TO), houayletan_size_per_variable(D, IN_ROOM, TO),
+        houayletan_exact_cardinality(D, IN_ROOM).verdict, houayletan_exact_clause_cardinality(D, IN_ROOM).verdict,
+        houayletan_count_and_weights(D, IN_ROOM, TO).verdict, houayletan_cardinality(D, IN_ROOM).verdict,
+        houayletan_size(D, IN_ROOM).verdict, houayletan_num_vars(D, IN_ROOM).verdict,
+        houayletan_is_true(D, IN_ROOM).verdict, houayletan_is_false(D, IN_ROOM).verdict,
+        houayletan_is_clause(D, IN_ROOM).verdict, houayletan_is_valuation(D, IN_ROOM).verdict,
+        houayletan_reduce(D, IN_ROOM, TO).verdict, houayletan_not(D, IN_ROOM, TO).verdict,
+        houayletan_underapproximate(D, BY, IN_ROOM, TO).verdict, houayletan_overapproximate(D, BY, IN_ROOM, TO).verdict,
+        houayletan_underapproximate_to_size_2(D, 5, 0, IN_ROOM, TO).verdict,
+        houayletan_overapproximate_to_size_2(D, 5, 0, IN_ROOM, TO).verdict,
+        houayletan_underapproximate_to_cardinality_2(D, five, 0, IN_ROOM, TO).verdict,
+        houayletan_overapproximate_to_cardinality_2(D, five, 0, IN_ROOM, TO).verdict,
+    };
+    houayletan_clear(IN_ROOM, 5 * 64);
+    uint32_t refused = 0;
+    for (size_t i = 0; i < sizeof said / sizeof said[0]; i++) refused += said[i].number;
+    return refused != 0;
 }

@@ -17,7 +17,6 @@ static void expect(bool right, const char *what, const char *operation) {
 
 #define FILL 0xA5A5A5A5u
 #define MOST (HOUAYLETAN_NODES + 2)
-#define TOP_WORD (HOUAYLETAN_COUNT_WORDS - 1)
 #define VARS HOUAYLETAN_VARS
 
 static uint32_t room[HOUAYLETAN_ROOM_PER_NODE * MOST + 4], output[HOUAYLETAN_COUNT_WORDS * MOST + 4];
@@ -93,11 +92,16 @@ static void answers_either_way(const char *name, Request q, uint32_t number, siz
     }
 }
 
+static bool is_count(Reply r, const uint32_t *count) {
+    bool same = r.values == HOUAYLETAN_COUNT_WORDS;
+    for (size_t i = 0; i < r.values; i++) same = same && r.value[i] == count[i];
+    return same;
+}
+
 static void counts(const uint32_t *words, size_t len, uint32_t count, uint32_t paths) {
-    Reply r = answer("exact_cardinality", asks(words, len), 0, 0);
-    expect(r.value[0] == count && r.value[1] == 0 && r.value[TOP_WORD] == 0, "the count", "exact_cardinality");
-    r = answer("exact_clause_cardinality", asks(words, len), 0, 0);
-    expect(r.value[0] == paths && r.value[1] == 0 && r.value[TOP_WORD] == 0, "the paths", "exact_clause_cardinality");
+    const uint32_t of_count[HOUAYLETAN_COUNT_WORDS] = {count}, of_paths[HOUAYLETAN_COUNT_WORDS] = {paths};
+    expect(is_count(answer("exact_cardinality", asks(words, len), 0, 0), of_count), "the count", "exact_cardinality");
+    expect(is_count(answer("exact_clause_cardinality", asks(words, len), 0, 0), of_paths), "the paths", "exact_clause_cardinality");
     double d = count;
     uint64_t bits;
     memcpy(&bits, &d, sizeof bits);
@@ -106,6 +110,7 @@ static void counts(const uint32_t *words, size_t len, uint32_t count, uint32_t p
 
 /* Count and weights together, and the weights alone. */
 static void weighs(const uint32_t *words, size_t len, uint32_t count, const uint32_t *weights) {
+    const uint32_t of_count[HOUAYLETAN_COUNT_WORDS] = {count};
     static const char *const names[] = {"count_and_weights", "node_valuation_weights"};
     for (size_t i = 0; i < LEN(names); i++) {
         Reply r = answer(names[i], asks(words, len), 0, 0);
@@ -114,7 +119,7 @@ static void weighs(const uint32_t *words, size_t len, uint32_t count, const uint
             size_t at = HOUAYLETAN_WEIGHTS(p);
             expect(output[at] == weights[p] && all(output, at + 1, HOUAYLETAN_WEIGHTS(p + 1), 0), "the weights", names[i]);
         }
-        if (i == 0) expect(r.value[0] == count && r.value[1] == 0 && r.value[TOP_WORD] == 0, "the count", names[i]);
+        if (i == 0) expect(is_count(r, of_count), "the count", names[i]);
     }
 }
 
@@ -135,6 +140,7 @@ static void refusals(const Operation *o, uint32_t as_is) {
         {15, {3, 1, 0, 3, 1, 1, 2, 0, 1, 1, 2, 1, 0, 2, 3}, 6, 0},
         {3, {VARS + 1, 0, 0}, 7, 0},
         {6, {UINT32_MAX, 0, 0, UINT32_MAX, 1, 1}, 7, 0},
+        {9, {VARS + 1, 0, 0, VARS + 1, 1, 1, VARS + 1, 3, 3}, 7, 0},
         {15, {3, 0, 0, 3, 1, 1, 2, 0, 1, 3, 5, 5, 0, 2, 3}, 8, 3},
         {15, {3, 0, 0, 3, 1, 1, 2, 0, 1, 1, 5, 5, 0, 2, 3}, 9, 3},
         {15, {3, 0, 0, 3, 1, 1, 2, 0, 1, 1, 2, 5, 0, UINT32_MAX, 3}, 10, 3},
@@ -235,12 +241,202 @@ static void met_targets(void) {
     }
 }
 
+/* ---- the most variables, and counts of all their words */
+
+static const uint32_t FALSE_ALL[] = {VARS, 0, 0}, TRUE_ALL[] = {VARS, 0, 0, VARS, 1, 1};
+
+/* A sum of powers of two, least first. */
+typedef struct {
+    uint32_t powers, power[3];
+} Sum;
+
+static void sum_of(Sum sum, uint32_t *count) {
+    memset(count, 0, HOUAYLETAN_COUNT_WORDS * sizeof count[0]);
+    for (uint32_t i = 0; i < sum.powers; i++) count[sum.power[i] / 32] |= (uint32_t)1 << sum.power[i] % 32;
+}
+
+/* The first and the last bits of the words, in turn. */
+static uint32_t next_edge(uint32_t i) { return i % 32 ? i + 1 : i + 31; }
+
+static bool bit(const uint32_t *count, uint32_t i) { return count[i / 32] >> i % 32 & 1; }
+
+/* The valuations that are below a number, x0 its highest bit: as many as the number says, which is from 0 to 2^VARS. */
+static size_t below(const uint32_t *number, uint32_t *words) {
+    memcpy(words, TRUE_ALL, sizeof TRUE_ALL);
+    if (bit(number, VARS)) return LEN(TRUE_ALL);
+    uint32_t i = 0, rest = 0, p = 2;
+    while (i < VARS && !bit(number, i)) i++;
+    if (i == VARS) return LEN(FALSE_ALL);
+    for (; i < VARS; i++, p++) {
+        uint32_t *node = words + 3 * p;
+        node[0] = VARS - 1 - i, node[1] = bit(number, i) ? 1 : rest, node[2] = bit(number, i) ? rest : 0;
+        rest = p;
+    }
+    return 3 * (size_t)p;
+}
+
+/* Of what is below a number: a node at bit i weighs the number's bits from i down. */
+static void wide_weights(const char *name, Request q, const uint32_t *number) {
+    uint32_t n = (uint32_t)q.words_len / 3, lowest = VARS + 2 - n;
+    Reply r = answer(name, q, 0, 0);
+    expect(r.values == 0 || is_count(r, number), "a wide count", name);
+    bool right = all(output, 0, HOUAYLETAN_WEIGHTS(1), 0) && memcmp(output + HOUAYLETAN_WEIGHTS(1), number, 4 * HOUAYLETAN_WEIGHTS(1)) == 0;
+    for (uint32_t p = 2; p < n; p++) {
+        for (uint32_t i = 0; i < 32 * HOUAYLETAN_COUNT_WORDS; i++) {
+            right = right && bit(output + HOUAYLETAN_WEIGHTS(p), i) == (i <= lowest + p - 2 && bit(number, i));
+        }
+    }
+    expect(right, "wide weights", name);
+}
+
+static void wide_negation(Request q, const uint32_t *number) {
+    static uint32_t negation[3 * (VARS + 2)];
+    size_t len = answer("not", q, 0, 0).written;
+    memcpy(negation, output, 4 * len);
+    Reply r = answer("exact_cardinality", asks(negation, len), 0, 0);
+    uint64_t carry = 0;
+    for (uint32_t i = 0; i < HOUAYLETAN_COUNT_WORDS; i++) {
+        carry += r.value[i] + number[i];
+        expect((uint32_t)carry == (i == VARS / 32 ? (uint32_t)1 << VARS % 32 : 0), "both add up to all", "not");
+        carry >>= 32;
+    }
+}
+
+static void wide_count(const uint32_t *number) {
+    static uint32_t words[3 * (VARS + 2)];
+    const Request q = asks(words, below(number, words));
+    uint32_t paths[HOUAYLETAN_COUNT_WORDS] = {0}, top = 0;
+    for (uint32_t i = 0; i < VARS; i++) {
+        if (bit(number, i)) paths[0]++, top = i;
+    }
+    expect(is_count(answer("exact_cardinality", q, 0, 0), number), "a wide count", "exact_cardinality");
+    expect(is_count(answer("exact_clause_cardinality", q, 0, 0), paths), "the paths", "exact_clause_cardinality");
+    uint64_t bits = answer("cardinality", q, 0, 0).value[0];
+    expect(paths[0] != 1 || bits == (uint64_t)(1023 + top) << 52, "a power of two", "cardinality");
+    wide_weights("count_and_weights", q, number);
+    wide_weights("node_valuation_weights", q, number);
+    answers_words("reduce", q, words, q.words_len, 0);
+    wide_negation(q, number);
+}
+
+static void wide_counts(void) {
+    static const Sum sums[] = {{3, {0, 255, VARS - 1}}, {1, {VARS - 1}}, {2, {0, 256}}, {2, {31, 288}}, {3, {255, 256, 257}}};
+    uint32_t number[HOUAYLETAN_COUNT_WORDS];
+    for (size_t i = 0; i < LEN(sums); i++) sum_of(sums[i], number), wide_count(number);
+    for (uint32_t i = 0; i < VARS; i = next_edge(i)) sum_of((Sum){1, {i}}, number), wide_count(number);
+    /* all ones, up to every word's last bit; and another number in each word */
+    memset(number, 0, sizeof number);
+    for (uint32_t i = 0; i < HOUAYLETAN_COUNT_WORDS; i++) {
+        number[i] = i == VARS / 32 ? ((uint32_t)1 << VARS % 32) - 1 : UINT32_MAX;
+        wide_count(number);
+    }
+    for (uint32_t i = 0; i < HOUAYLETAN_COUNT_WORDS; i++) number[i] = (i + 1) * 0x0DDBA11u;
+    wide_count(number);
+    /* the constant */
+    sum_of((Sum){1, {VARS}}, number);
+    expect(is_count(answer("exact_cardinality", asks(TRUE_ALL, LEN(TRUE_ALL)), 0, 0), number), "2 to the variables", "exact_cardinality");
+    expect(is_count(answer("count_and_weights", asks(TRUE_ALL, LEN(TRUE_ALL)), 0, 0), number), "2 to the variables", "count_and_weights");
+    expect(memcmp(output + HOUAYLETAN_WEIGHTS(1), number, sizeof number) == 0, "node 1's weight", "count_and_weights");
+}
+
+/* Targets of many words. Of what is below 2^510 + 2^255 + 1 each answer is again what is below a number. */
+static void wide_targets(void) {
+    static const struct {
+        const char *name;
+        Sum target;
+        uint32_t number;
+        Sum result;
+        size_t trials;
+    } cases[] = {
+        {"underapproximate_to_cardinality", {3, {0, 255, 510}}, 0, {3, {0, 255, 510}}, 0},
+        {"underapproximate_to_cardinality", {2, {256, 510}}, 0, {3, {0, 255, 510}}, 0},
+        {"underapproximate_to_cardinality", {2, {255, 510}}, 0, {2, {255, 510}}, 1},
+        {"underapproximate_to_cardinality", {1, {510}}, 0, {1, {510}}, 1},
+        {"underapproximate_to_cardinality", {1, {509}}, 0, {0, {0}}, 1},
+        {"overapproximate_to_cardinality", {1, {510}}, 0, {3, {0, 255, 510}}, 0},
+        {"overapproximate_to_cardinality", {3, {0, 255, 510}}, 0, {3, {0, 255, 510}}, 0},
+        {"overapproximate_to_cardinality", {3, {1, 255, 510}}, 0, {3, {1, 255, 510}}, 1},
+        {"overapproximate_to_cardinality", {2, {256, 510}}, 0, {2, {256, 510}}, 1},
+        {"overapproximate_to_cardinality", {1, {VARS}}, 0, {1, {VARS}}, 0},
+        {"overapproximate_to_cardinality", {2, {0, VARS}}, 16, {0, {0}}, 0},
+    };
+    static uint32_t words[3 * (VARS + 2)], result[LEN(words)];
+    uint32_t number[HOUAYLETAN_COUNT_WORDS];
+    sum_of((Sum){3, {0, 255, 510}}, number);
+    Request q = asks(words, below(number, words));
+    for (size_t i = 0; i < LEN(cases); i++) {
+        sum_of(cases[i].result, number);
+        size_t len = below(number, result);
+        sum_of(cases[i].target, q.target);
+        answers_either_way(cases[i].name, q, cases[i].number, 0, result, len, cases[i].trials);
+    }
+    /* every word of a target is looked at; the constants, between 0 and 2^VARS and at its end */
+    for (uint32_t i = 32; i < 32 * HOUAYLETAN_COUNT_WORDS; i = next_edge(i)) {
+        q = asks(D, LEN(D));
+        sum_of((Sum){1, {i}}, q.target);
+        answers_either_way("underapproximate_to_cardinality", q, 0, 0, D, LEN(D), 0);
+        answers_either_way("overapproximate_to_cardinality", q, 16, 0, NULL, 0, 0);
+        bool whole = i == VARS;
+        q.words = TRUE_ALL, q.words_len = LEN(TRUE_ALL), q.room_len = HOUAYLETAN_ROOM(2);
+        answers_either_way("underapproximate_to_cardinality", q, whole ? 0 : 19, 0, TRUE_ALL, LEN(TRUE_ALL), 0);
+        q.words = FALSE_ALL, q.words_len = LEN(FALSE_ALL);
+        answers_either_way("overapproximate_to_cardinality", q, whole ? 0 : 19, 0, TRUE_ALL, LEN(TRUE_ALL), 0);
+    }
+}
+
+/* As many nodes and as many variables as are taken, children first: each level has a node more than the one above, up to its share of
+ * those left, and each node goes to the one below it and to the next. */
+static size_t longest(uint32_t *words) {
+    size_t left = HOUAYLETAN_NODES - 2, width = 1, p = HOUAYLETAN_NODES - 1;
+    memcpy(words, TRUE_ALL, sizeof TRUE_ALL);
+    for (uint32_t x = 0; x < VARS; x++) {
+        left -= width;
+        size_t share = x + 1 < VARS ? left / (VARS - 1 - x) : 0, next = width < share ? width + 1 : share;
+        for (size_t j = 0; j < width; j++, p--) {
+            uint32_t *node = words + 3 * p, first = (uint32_t)(p + j - width);
+            node[0] = x, node[1] = next ? first - (uint32_t)j : (uint32_t)j % 2, node[2] = next ? first - (uint32_t)((j + 1) % next) : 1;
+        }
+        width = next;
+    }
+    return 3 * HOUAYLETAN_NODES;
+}
+
+/* One node, two and the most, of the most variables and of one more; room and output exact, longer and one short. */
+static void limits(const Operation *o, uint32_t as_is) {
+    static uint32_t words[3 * HOUAYLETAN_NODES];
+    const size_t lens[] = {LEN(FALSE_ALL), LEN(TRUE_ALL), longest(words)};
+    for (size_t i = 0; i < LEN(lens); i++) {
+        const Request exact = with_flag(asks(words, lens[i]), as_is);
+        Request q = exact;
+        size_t asked = output_asked(o->output, lens[i] / 3);
+        if (o->argument == COUNT_TARGET) sum_of((Sum){1, {VARS}}, q.target); else q.target[0] = HOUAYLETAN_NODES;
+        answer(o->name, q, 0, 0);
+        q.room_len = exact.room_len + 3, q.output_len = asked + 3;
+        answer(o->name, q, 0, 0);
+        q.room_len = exact.room_len - 1;
+        answer(o->name, q, 5, 0);
+        if (o->output != NO_OUTPUT) {
+            q.output_len = asked - 1;
+            answer(o->name, q, 4, 0);
+            q.room_len = exact.room_len;
+            answer(o->name, q, 4, 0);
+        }
+        q.room_len = exact.room_len, q.output_len = asked;
+        words[0] = words[3] = VARS + 1;
+        answer(o->name, q, 7, 0);
+        words[0] = words[3] = VARS;
+    }
+}
+
 int main(void) {
     for (size_t i = 0; i < OPERATIONS; i++) {
         refusals(&operations[i], 0);
-        if (to_target(&operations[i])) refusals(&operations[i], 1);
+        limits(&operations[i], 0);
+        if (to_target(&operations[i])) refusals(&operations[i], 1), limits(&operations[i], 1);
     }
     met_targets();
+    wide_counts();
+    wide_targets();
 
     answer("validate", asks(D, LEN(D)), 0, 0);
     counts(D, LEN(D), 5, 3);
@@ -270,9 +466,6 @@ int main(void) {
     }
     counts(deep, LEN(deep), 1, 1);
     answers_words("reduce", asks(deep, LEN(deep)), deep, LEN(deep), 0);
-    static const uint32_t ALL[] = {VARS, 0, 0, VARS, 1, 1};
-    Reply r = answer("exact_cardinality", asks(ALL, LEN(ALL)), 0, 0);
-    expect(r.value[VARS / 32] == (uint32_t)1 << VARS % 32 && r.value[0] == 0, "2 to the variables", "exact_cardinality");
 
     /* A room and an output that are longer than asked for keep their rest: seen by answer() in every call. */
     Request q = asks(D, LEN(D));
@@ -306,7 +499,7 @@ int main(void) {
         {"is_valuation", TRUE0, LEN(TRUE0), 1},
     };
     for (size_t i = 0; i < LEN(queries); i++) {
-        r = answer(queries[i].name, asks(queries[i].words, queries[i].len), 0, 0);
+        Reply r = answer(queries[i].name, asks(queries[i].words, queries[i].len), 0, 0);
         expect(r.value[0] == queries[i].value, "the answer", queries[i].name);
     }
     answer("size_per_variable", asks(D, LEN(D)), 0, 0);
@@ -418,20 +611,19 @@ int main(void) {
         {"overapproximate_to_cardinality", 3, {3, 0, 0}, 0, {4}, 19, 0, 0, {0}, 0},
     };
     /* The deepest array: false, and with one link to node 1 at its end not. */
-    static uint32_t deepest[3 * (HOUAYLETAN_VARS + 2)] = {HOUAYLETAN_VARS, 0, 0, HOUAYLETAN_VARS, 1, 1, HOUAYLETAN_VARS - 1, 0, 0};
-    static const uint32_t none[] = {HOUAYLETAN_VARS, 0, 0};
-    for (uint32_t p = 3; p < HOUAYLETAN_VARS + 2; p++) deepest[3 * p] = HOUAYLETAN_VARS + 1 - p, deepest[3 * p + 1] = deepest[3 * p + 2] = p - 1;
+    static uint32_t deepest[3 * (VARS + 2)] = {VARS, 0, 0, VARS, 1, 1, VARS - 1, 0, 0};
+    for (uint32_t p = 3; p < VARS + 2; p++) deepest[3 * p] = VARS + 1 - p, deepest[3 * p + 1] = deepest[3 * p + 2] = p - 1;
     q = asks(deepest, LEN(deepest));
     q.target[0] = 1;
-    answers_words("overapproximate_to_size", q, none, LEN(none), 0);
-    q.target[0] = HOUAYLETAN_VARS + 2;
-    answers_words("overapproximate_to_size", q, none, LEN(none), 0);
+    answers_words("overapproximate_to_size", q, FALSE_ALL, LEN(FALSE_ALL), 0);
+    q.target[0] = VARS + 2;
+    answers_words("overapproximate_to_size", q, FALSE_ALL, LEN(FALSE_ALL), 0);
     answers_words("overapproximate_to_size", with_flag(q, 1), deepest, LEN(deepest), 0);
     deepest[8] = 1;
     q = asks(deepest, LEN(deepest));
     q.target[0] = 1;
     answer("overapproximate_to_size", q, 18, 0);
-    answers_words("underapproximate_to_size", q, none, LEN(none), 0);
+    answers_words("underapproximate_to_size", q, FALSE_ALL, LEN(FALSE_ALL), 0);
     for (size_t i = 0; i < LEN(readings); i++) {
         q = asks(readings[i].words, readings[i].len);
         q.list = readings[i].argument, q.list_len = readings[i].list_len;

@@ -13,7 +13,7 @@
 //! assert_eq!(output[..6], [1, 0, 0, 1, 1, 1]);
 //! assert_eq!(lent::reduce(&words, &mut room[1..], &mut output).verdict.number, 5);
 //! ```
-use crate::limits::ROOM_PER_NODE;
+use crate::limits::{linked, ROOM_PER_NODE};
 use crate::Count;
 
 /// Words of working room for a diagram of that many nodes.
@@ -81,93 +81,98 @@ pub struct Approximation {
 
 /// A function of words and room.
 macro_rules! asks {
-    ($name:ident, $symbol:ident, $answer:ty) => {
+    ($name:ident, $answer:ty) => {
         #[doc = concat!("[`crate::", stringify!($name), "`], over what is lent.")]
         pub fn $name(words: &[u32], room: &mut [u32]) -> $answer {
             extern "C" {
-                fn $symbol(words: *const u32, words_len: usize, room: *mut u32, room_len: usize) -> $answer;
+                #[link_name = linked!($name)]
+                fn symbol(words: *const u32, words_len: usize, room: *mut u32, room_len: usize) -> $answer;
             }
-            unsafe { $symbol(words.as_ptr(), words.len(), room.as_mut_ptr(), room.len()) }
+            unsafe { symbol(words.as_ptr(), words.len(), room.as_mut_ptr(), room.len()) }
         }
     };
 }
 
 /// A function of words, room and output.
 macro_rules! writes {
-    ($name:ident, $symbol:ident, $answer:ty) => {
+    ($name:ident, $answer:ty) => {
         #[doc = concat!("[`crate::", stringify!($name), "`], over what is lent.")]
         pub fn $name(words: &[u32], room: &mut [u32], output: &mut [u32]) -> $answer {
             extern "C" {
-                fn $symbol(
+                #[link_name = linked!($name)]
+                fn symbol(
                     words: *const u32, words_len: usize, room: *mut u32, room_len: usize, output: *mut u32, output_len: usize,
                 ) -> $answer;
             }
             let (out, out_len) = (output.as_mut_ptr(), output.len());
-            unsafe { $symbol(words.as_ptr(), words.len(), room.as_mut_ptr(), room.len(), out, out_len) }
+            unsafe { symbol(words.as_ptr(), words.len(), room.as_mut_ptr(), room.len(), out, out_len) }
         }
     };
 }
 
 /// A cut by a list.
 macro_rules! cuts_by_list {
-    ($name:ident, $symbol:ident) => {
+    ($name:ident) => {
         #[doc = concat!("[`crate::", stringify!($name), "`], over what is lent.")]
         pub fn $name(words: &[u32], list: &[u32], room: &mut [u32], output: &mut [u32]) -> Diagram {
             extern "C" {
-                fn $symbol(
+                #[link_name = linked!($name)]
+                fn symbol(
                     words: *const u32, words_len: usize, list: *const u32, list_len: usize,
                     room: *mut u32, room_len: usize, output: *mut u32, output_len: usize,
                 ) -> Diagram;
             }
             let (out, out_len) = (output.as_mut_ptr(), output.len());
-            unsafe { $symbol(words.as_ptr(), words.len(), list.as_ptr(), list.len(), room.as_mut_ptr(), room.len(), out, out_len) }
+            unsafe { symbol(words.as_ptr(), words.len(), list.as_ptr(), list.len(), room.as_mut_ptr(), room.len(), out, out_len) }
         }
     };
 }
 
-/// A cut to a target. The symbols end in 2: those that don't took no `as_is`.
+/// A cut to a target.
 macro_rules! cuts_to {
-    ($name:ident, $symbol:ident, $target:ty) => {
+    ($name:ident, $target:ty) => {
         #[doc = concat!("[`crate::", stringify!($name), "`], over what is lent.")]
         pub fn $name(words: &[u32], target: $target, as_is: bool, room: &mut [u32], output: &mut [u32]) -> Approximation {
             extern "C" {
-                fn $symbol(
+                #[link_name = linked!($name)]
+                fn symbol(
                     words: *const u32, words_len: usize, target: $target, as_is: u32,
                     room: *mut u32, room_len: usize, output: *mut u32, output_len: usize,
                 ) -> Approximation;
             }
             let (out, out_len) = (output.as_mut_ptr(), output.len());
-            unsafe { $symbol(words.as_ptr(), words.len(), target, as_is as u32, room.as_mut_ptr(), room.len(), out, out_len) }
+            unsafe { symbol(words.as_ptr(), words.len(), target, as_is as u32, room.as_mut_ptr(), room.len(), out, out_len) }
         }
     };
 }
 
-asks!(validate, houayletan_validate, Verdict);
-asks!(exact_cardinality, houayletan_exact_cardinality, Counted);
-asks!(exact_clause_cardinality, houayletan_exact_clause_cardinality, Counted);
-asks!(cardinality, houayletan_cardinality, CountedFloat);
-writes!(count_and_weights, houayletan_count_and_weights, Counted);
-writes!(node_valuation_weights, houayletan_node_valuation_weights, Verdict);
-writes!(reduce, houayletan_reduce, Diagram);
-asks!(size, houayletan_size, Amount);
-asks!(num_vars, houayletan_num_vars, Amount);
-asks!(is_true, houayletan_is_true, Amount);
-asks!(is_false, houayletan_is_false, Amount);
-asks!(is_clause, houayletan_is_clause, Amount);
-asks!(is_valuation, houayletan_is_valuation, Amount);
-writes!(size_per_variable, houayletan_size_per_variable, Verdict);
-writes!(not, houayletan_not, Diagram);
-cuts_by_list!(underapproximate, houayletan_underapproximate);
-cuts_by_list!(overapproximate, houayletan_overapproximate);
-cuts_to!(underapproximate_to_size, houayletan_underapproximate_to_size_2, u32);
-cuts_to!(overapproximate_to_size, houayletan_overapproximate_to_size_2, u32);
-cuts_to!(underapproximate_to_cardinality, houayletan_underapproximate_to_cardinality_2, Count);
-cuts_to!(overapproximate_to_cardinality, houayletan_overapproximate_to_cardinality_2, Count);
+asks!(validate, Verdict);
+asks!(exact_cardinality, Counted);
+asks!(exact_clause_cardinality, Counted);
+asks!(cardinality, CountedFloat);
+writes!(count_and_weights, Counted);
+writes!(node_valuation_weights, Verdict);
+writes!(reduce, Diagram);
+asks!(size, Amount);
+asks!(num_vars, Amount);
+asks!(is_true, Amount);
+asks!(is_false, Amount);
+asks!(is_clause, Amount);
+asks!(is_valuation, Amount);
+writes!(size_per_variable, Verdict);
+writes!(not, Diagram);
+cuts_by_list!(underapproximate);
+cuts_by_list!(overapproximate);
+cuts_to!(underapproximate_to_size, u32);
+cuts_to!(overapproximate_to_size, u32);
+cuts_to!(underapproximate_to_cardinality, Count);
+cuts_to!(overapproximate_to_cardinality, Count);
 
 /// Makes the first `count` words zero, or all where there are fewer.
 pub fn clear(room: &mut [u32], count: usize) {
     extern "C" {
-        fn houayletan_clear(room: *mut u32, room_len: usize, count: usize);
+        #[link_name = linked!(clear)]
+        fn symbol(room: *mut u32, room_len: usize, count: usize);
     }
-    unsafe { houayletan_clear(room.as_mut_ptr(), room.len(), count) }
+    unsafe { symbol(room.as_mut_ptr(), room.len(), count) }
 }

@@ -97,6 +97,8 @@ pub fn validate(words: &[u32]) -> Result<Accepted, Refusal> {
 /// ```
 /// let v = houayletan::MOST_VARS as u32;
 /// assert_eq!(houayletan::exact_cardinality(&[v, 0, 0, v, 1, 1])?, houayletan::Count::power_of_two(v));
+/// // x0, of so many variables
+/// assert_eq!(houayletan::exact_cardinality(&[v, 0, 0, v, 1, 1, 0, 0, 1])?, houayletan::Count::power_of_two(v - 1));
 /// # Ok::<(), houayletan::Refusal>(())
 /// ```
 pub fn exact_cardinality(words: &[u32]) -> Result<Count, Refusal> {
@@ -437,6 +439,39 @@ mod tests {
             assert_eq!(all(3, 1, 3, as_is), [reduced.clone(), reduced, (vec![2, 0, 0], 1), (vec![2, 0, 0, 2, 1, 1], 1)]);
             assert_eq!(underapproximate_to_cardinality(&words, Count::ZERO, as_is), Ok(Cut { words: vec![2, 0, 0], trials: 0 }));
         }
+    }
+
+    /// The valuations below a number, x0 its highest bit: as many as the number says.
+    fn below(number: Count) -> Vec<u32> {
+        let v = MOST_VARS as u32;
+        let bit = |i: u32| number.words()[i as usize / 32] >> (i % 32) & 1 == 1;
+        let mut words = vec![v, 0, 0, v, 1, 1];
+        let mut rest = 0;
+        for i in (0..v).skip_while(|i| !bit(*i)) {
+            words.extend(if bit(i) { [v - 1 - i, 1, rest] } else { [v - 1 - i, rest, 0] });
+            rest = words.len() as u32 / 3 - 1;
+        }
+        words
+    }
+
+    #[test]
+    fn counts_of_all_words() {
+        let sum = |powers: &[u32]| {
+            let mut words = [0; COUNT_WORDS];
+            powers.iter().for_each(|i| words[*i as usize / 32] |= 1 << (i % 32));
+            Count::new(words)
+        };
+        let (number, lower, higher) = (sum(&[0, 255, 510]), sum(&[255, 510]), sum(&[1, 255, 510]));
+        let words = below(number);
+        assert_eq!(exact_cardinality(&words), Ok(number));
+        assert_eq!(cardinality(&words), Ok(2f64.powi(510)));
+        let (count, weights) = count_and_weights(&words).unwrap();
+        assert_eq!((count, weights[0], weights[1], weights[2]), (number, Count::ZERO, number, 1u32.into()));
+        // a node at bit i weighs the number's bits from i down
+        assert_eq!((weights[2 + 255], weights[2 + 509], weights[2 + 510]), (sum(&[0, 255]), sum(&[0, 255]), number));
+        assert_eq!(underapproximate_to_cardinality(&words, lower, false), Ok(Cut { words: below(lower), trials: 1 }));
+        assert_eq!(overapproximate_to_cardinality(&words, higher, false), Ok(Cut { words: below(higher), trials: 1 }));
+        assert_eq!(overapproximate_to_cardinality(&words, sum(&[0, 511]), false).unwrap_err().number, 16);
     }
 
     #[test]

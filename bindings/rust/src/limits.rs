@@ -5,10 +5,18 @@
 pub const MOST_NODES: usize = 4096;
 
 /// The most variables of a diagram that is accepted.
-pub const MOST_VARS: usize = 255;
+pub const MOST_VARS: usize = 511;
 
 /// The words of working room for each node.
-pub const ROOM_PER_NODE: usize = 64;
+pub const ROOM_PER_NODE: usize = 128;
 
 /// The words of a count.
-pub const COUNT_WORDS: usize = 8;
+pub const COUNT_WORDS: usize = 16;
+
+/// The name for the linker of a function that the header calls `houayletan_..`, as its `HOUAYLETAN_LINKED` makes it.
+macro_rules! linked {
+    ($name:ident) => {
+        concat!("houayletan_", stringify!($name), "_3")
+    };
+}
+pub(crate) use linked;

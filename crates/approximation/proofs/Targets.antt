@@ -12,7 +12,7 @@ use Rattle.diagram.specs.Diagram.{size, vars, holds, Ordered, Accepted}
 use Rattle.diagram.specs.Valuations.{tally, countOf}
 use Rattle.diagram.proofs.Tests.{by-test, by-eq, not-both}
 use Rattle.diagram.proofs.Reading.{accepted-ordered}
-use Rattle.diagram.proofs.Tally.{tally-zero, tally-suc, tally-none, tally-most}
+use Rattle.diagram.proofs.Tally.{tally-none, tally-most, tally-mono}
 use Rattle.approximation.specs.Constants.{falseOf, trueOf}
 use Rattle.negation.specs.Negation.{negated}
 use Rattle.approximation.specs.Cut.{Under, Over}
@@ -176,18 +176,6 @@ module _ (w : List ℕ) (t : ℕ) (a : Accepted w) where
         rw (back-words (underToSize (negated w) t)) (omega arith)))
 
 -- ---- counts
-
--- a test that passes wherever another does
-bit-more : (a b : Bool) → (a ≡ true → b ≡ true) → cond a 1 0 ≤ cond b 1 0
-bit-more false b h = omega arith
-bit-more true b h = rw (h refl) (omega arith)
-
-pub tally-mono : (k : ℕ) (f g : List Bool → Bool) → ((bs : List Bool) → length bs ≡ k → f bs ≡ true → g bs ≡ true) → tally k f ≤ tally k g
-tally-mono zero f g h = omega (arith, tally-zero f, tally-zero g, bit-more (f []) (g []) (h [] refl))
-tally-mono (suc k) f g h =
-    let a = tally-mono k (λ bs. f (false ∷ bs)) (λ bs. g (false ∷ bs)) (λ bs l. h (false ∷ bs) (ap suc l)) in
-    let b = tally-mono k (λ bs. f (true ∷ bs)) (λ bs. g (true ∷ bs)) (λ bs l. h (true ∷ bs) (ap suc l)) in
-    omega (arith, tally-suc k f, tally-suc k g)
 
 pub under-count : (w u : List ℕ) → Under w u → countOf u ≤ countOf w
 under-count w u under =

@@ -4,11 +4,11 @@
 use diagram::limits::ROOM_PER_NODE;
 use diagram::node::word;
 use houayletan::HouayletanVerdict;
-use houayletan::asking::houayletan_is_false;
-use houayletan::cutting::houayletan_overapproximate;
-use houayletan::cutting::houayletan_underapproximate_to_size_2;
-use houayletan::houayletan_exact_cardinality;
-use houayletan::houayletan_validate;
+use houayletan::asking::houayletan_is_false_3;
+use houayletan::cutting::houayletan_overapproximate_3;
+use houayletan::cutting::houayletan_underapproximate_to_size_3;
+use houayletan::houayletan_exact_cardinality_3;
+use houayletan::houayletan_validate_3;
 use libc::STDOUT_FILENO;
 
 fn say(text: &[u8], value: u64) {
@@ -28,12 +28,12 @@ fn end_line() {
 }
 
 fn check(words: &[u32], room: &mut [u32]) {
-    say_verdict(houayletan_validate(words, room));
+    say_verdict(houayletan_validate_3(words, room));
     end_line();
 }
 
 fn count(words: &[u32], room: &mut [u32]) {
-    let answer = houayletan_exact_cardinality(words, room);
+    let answer = houayletan_exact_cardinality_3(words, room);
     let verdict = answer.verdict;
     let count = answer.count;
     say_verdict(verdict);
@@ -42,7 +42,7 @@ fn count(words: &[u32], room: &mut [u32]) {
 }
 
 fn ask(words: &[u32], room: &mut [u32]) {
-    let answer = houayletan_is_false(words, room);
+    let answer = houayletan_is_false_3(words, room);
     let verdict = answer.verdict;
     say_verdict(verdict);
     say(b", amount ", answer.amount as u64);
@@ -51,7 +51,7 @@ fn ask(words: &[u32], room: &mut [u32]) {
 
 fn cut(words: &[u32], room: &mut [u32], output: &mut [u32]) {
     let list = [3u32; 1];
-    let answer = houayletan_overapproximate(words, &list, room, output);
+    let answer = houayletan_overapproximate_3(words, &list, room, output);
     let verdict = answer.verdict;
     say_verdict(verdict);
     say(b", nodes ", answer.nodes as u64);
@@ -60,7 +60,7 @@ fn cut(words: &[u32], room: &mut [u32], output: &mut [u32]) {
 }
 
 fn cut_to_size(words: &[u32], as_is: u32, room: &mut [u32], output: &mut [u32]) {
-    let answer = houayletan_underapproximate_to_size_2(words, 4, as_is, room, output);
+    let answer = houayletan_underapproximate_to_size_3(words, 4, as_is, room, output);
     let verdict = answer.verdict;
     say_verdict(verdict);
     say(b", nodes ", answer.nodes as u64);

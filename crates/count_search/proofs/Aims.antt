@@ -22,7 +22,8 @@ use Rattle.approximation.specs.Cut.{listed}
 use Rattle.approximation.specs.Search.{Answer, underToCount}
 use Rattle.approximation.proofs.Listing.{under-accepted-open}
 use Rattle.approximation.proofs.Targets.{one-count, to-count-none, search-many}
-use Rattle.priorities.specs.Prioritised.{Fits, Prioritised}
+use Rattle.priorities.specs.Prioritised.{Topped, Prioritised}
+use Rattle.priorities.proofs.Ordering.{weights-topped}
 use Rattle.cuts.specs.Marks.{markedIn}
 use Rattle.cuts.proofs.Rooms.{drop-more}
 use Rattle.room_map.specs.Map.{marksTo, linksFrom, countsTo, weightsFrom, weightsTo, searchTo}
@@ -138,19 +139,19 @@ module _ {w heads r : List ℕ} {n v : ℕ} (a : Weighing w heads r n v) where
     same-long : length weighted ≡ length r
     same-long = part-kept (linksFrom n) (weightsTo n) r part (omega arith) (a .preparing .long) same
 
-    pub weighing-fits : Fits n weighted
-    weighing-fits =
-        let many = a .preparing .many in
-        let few = weighing-few in
-        let long = a .preparing .long in
-        let kept = same-long in
-        record { least = omega arith; most = omega arith; long = omega arith }
-
     weights-stand : (p : ℕ) → p < n → Holds (weightOf w p) (entry (weightsFrom n) weighted p)
     weights-stand p h =
         let long = lent-long (linksFrom n) (weightsTo n) r (omega arith) (a .preparing .long) in
         rw (part-entry (linksFrom n) (weightsTo n) r part (omega arith) (a .preparing .long) same (weightsInFrom n) p (omega arith) {place = weightsFrom n} (omega arith))
         (x .weight p h)
+
+    pub weighing-fits : Topped n weighted
+    weighing-fits =
+        let many = a .preparing .many in
+        let few = weighing-few in
+        let long = a .preparing .long in
+        let kept = same-long in
+        weights-topped w (record { least = omega arith; most = omega arith; long = omega arith }) weights-stand
 
     pub weighing-done : {t : List ℕ} → Prioritised n weighted t → Weighed w heads r t
     weighing-done {t} p =

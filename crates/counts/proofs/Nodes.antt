@@ -158,12 +158,14 @@ unfolding doublings
 doublings-most true d = omega arith
 doublings-most false d = omega arith
 
-pub under-limit : (x k : ℕ) → x ≤ 2 ^ k → k ≤ maxVariables → x < limit
+-- the bound, for any number of words
+pub under-words : (n x k : ℕ) → x ≤ 2 ^ k → k < 32 * n → x < limitIn n
 unfolding limitIn
-under-limit x k a b =
-    let m = pow-mono b in
-    let l : 2 ^ maxVariables < 2 ^ (32 * wordCount) = pow-lt {i = maxVariables} {j = 32 * wordCount} (omega arith) in
-    lt-of-le-of-lt (le-trans a m) l
+under-words n x k a b = lt-of-le-of-lt a (pow-lt {i = k} {j = 32 * n} b)
+
+-- and at the words of a count, which the most variables leave room in
+pub under-limit : (x k : ℕ) → x ≤ 2 ^ k → k ≤ maxVariables → x < limit
+under-limit x k a b = under-words wordCount x k a (omega arith)
 
 scaled-most : (x a d e : ℕ) → x ≤ 2 ^ a → d ≤ e → x * 2 ^ d ≤ 2 ^ (a + e)
 scaled-most x a d e h l = rw (pow-add 2 a e) (mul-le-mul h (pow-mono l))

@@ -1,19 +1,21 @@
 -- The counts are numbers of valuations and of paths: there is a list of all of them, each once, of that length.
-use Prim.Native.Nat.{ℕ, zero, suc, _+_, _≤_, _<_}
+use Prim.Native.Nat.{ℕ, zero, suc, _+_, _*_, _≤_, _<_}
 use mathlib.Core.Path.{_≡_, refl, sym, ap, _∙_, subst}
 use mathlib.Core.Logic.{_⊎_, inl, inr, ⊎-elim}
-use mathlib.Core.Bool.{Bool, true, false, cond}
+use mathlib.Core.Bool.{Bool, true, false, cond, _&&_}
 use mathlib.Core.List.{List, [], _∷_, _++_, map}
 use native.Mathlib.Omega.{arith}
 use lib.ListN.{length, length-append, length-map}
 use lib.Dec.{eqb}
 use Rattle.diagram.specs.Diagram.{varOf, lowOf, highOf, size, vars, root, holds, Ordered}
-use Rattle.diagram.specs.Valuations.{tally}
+use Rattle.naturals.specs.Natural.{wordCount}
+use Rattle.diagram.specs.Valuations.{tally, meets}
 use Rattle.diagram.proofs.Tests.{by-test, not-both, cond-true, cond-false}
+use Rattle.diagram.proofs.Tally.{tally-most}
 use Rattle.diagram.proofs.Reading.{layered, root-in, by-two, at-end}
 use Rattle.counts.specs.Paths.{paths, Path, arrived, turn}
-use Rattle.counts.specs.Counting.{In, here, there, Once, none, more, Number, Counting}
-use Rattle.counts.proofs.Nodes.{paths-ends, paths-node}
+use Rattle.counts.specs.Counting.{In, here, there, Once, none, more, Number, Within, Counting}
+use Rattle.counts.proofs.Nodes.{paths-ends, paths-node, paths-most, under-words}
 
 -- ---- entries
 
@@ -169,9 +171,19 @@ path-number w o (suc k) p h f = by-two p
     (number-as (λ bs r. turn two false r) (after-turn w p false) refl (path-number w o k (lowOf w p) (g .low) (omega (arith, g .above-low))))
     (number-as (λ bs r. turn two true r) (after-turn w p true) refl (path-number w o k (highOf w p) (g .high) (omega (arith, g .above-high))))))
 
+-- none of them is above 2 to the number of variables
+within : (n : ℕ) (w : List ℕ) → vars w < 32 * n → Within n w
+within n w h = record {
+  count = under-words n _ (vars w) (tally-most (vars w) (holds w)) h;
+  path-count = under-words n _ (vars w) (paths-most w (vars w) (root w)) h;
+  weight = λ p. under-words n _ (vars w) (tally-most (vars w) (λ bs. holds w bs && meets w bs (eqb p))) h;
+}
+
 pub counting : Counting
 counting = record {
   tallies = tally-number;
   valuations = λ w. tally-number (vars w) (holds w);
   paths = λ w o. path-number w o (vars w) (root w) (root-in w o) (omega arith);
+  bound = within;
+  fits = λ w o. within wordCount w (omega (arith, o .formed .variables));
 }

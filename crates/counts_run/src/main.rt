@@ -43,6 +43,9 @@ const ROOM: usize = ROOM_PER_NODE * NODES;
 
 const OUTPUT: usize = 3 * NODES;
 
+// A word less than the output of the nodes of each variable has to have.
+const NARROW: usize = MAX_VARIABLES - 1;
+
 fn say(text: &[u8], value: u64) {
     io::write_all(STDOUT_FILENO, text);
     io::print_decimal(STDOUT_FILENO, value);
@@ -132,14 +135,36 @@ fn say_room(room: &[u32], word: u32) {
     say(b" kept ", run_of(room, zeros, word) as u64);
 }
 
-// The nodes of each variable: what stands before the first word that is as it was.
-fn run_per_variable(words: &[u32], room: &mut [u32], output: &mut [u32], word: u32) {
+fn listed(verdict: Verdict) -> usize {
+    match verdict {
+        Verdict::Accepted { nodes: _, vars } => vars as usize,
+        Verdict::Refused {
+            number: _,
+            place: _,
+        } => 0,
+    }
+}
+
+// The nodes of each variable; how many words of the output after these are as they were.
+fn run_listing(words: &[u32], room: &mut [u32], output: &mut [u32], word: u32) {
     fill(output, word);
     let verdict = size_per_variable(words, room, output);
-    io::write_all(STDOUT_FILENO, b", per variable ");
+    say(b", per variable in ", output.len() as u64);
+    io::write_all(STDOUT_FILENO, b" ");
     say_verdict(verdict);
+    let count = listed(verdict);
+    say(b" kept ", run_of(output, count, word) as u64);
     io::write_all(STDOUT_FILENO, b" words");
-    say_words(output, MAX_VARIABLES + 1);
+    say_words(output, count);
+}
+
+// In a long output, in one of just the length that is asked for, and in one that is a word short.
+fn run_per_variable(words: &[u32], room: &mut [u32], output: &mut [u32], word: u32) {
+    let mut exact = [0u32; MAX_VARIABLES];
+    let mut narrow = [0u32; NARROW];
+    run_listing(words, room, output, word);
+    run_listing(words, room, &mut exact, word);
+    run_listing(words, room, &mut narrow, word);
 }
 
 // Negation with an output that is too short for any answer, which has to stay as it was.

@@ -28,7 +28,7 @@ use targets::size::underapproximate_to_size;
 ghost use Prim.Native.Nat.{_≤_, _<_};
 ghost use lib.ListN.{length};
 
-const TEXT: usize = 524288;
+const TEXT: usize = 655360;
 
 // A few nodes more than a diagram may have: some cases offer and lend more than is taken.
 const NODES: usize = MAX_NODES + 4;

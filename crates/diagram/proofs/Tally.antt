@@ -76,3 +76,15 @@ tally-or (suc k) f g =
     let a = tally-or k (λ bs. f (false ∷ bs)) (λ bs. g (false ∷ bs)) in
     let b = tally-or k (λ bs. f (true ∷ bs)) (λ bs. g (true ∷ bs)) in
     omega (arith, tally-suc k f, tally-suc k g, tally-suc k (λ bs. f bs || g bs))
+
+-- a test that passes wherever another does
+bit-more : (a b : Bool) → (a ≡ true → b ≡ true) → cond a 1 0 ≤ cond b 1 0
+bit-more false b h = omega arith
+bit-more true b h = rw (h refl) (omega arith)
+
+pub tally-mono : (k : ℕ) (f g : List Bool → Bool) → ((bs : List Bool) → length bs ≡ k → f bs ≡ true → g bs ≡ true) → tally k f ≤ tally k g
+tally-mono zero f g h = omega (arith, tally-zero f, tally-zero g, bit-more (f []) (g []) (h [] refl))
+tally-mono (suc k) f g h =
+    let a = tally-mono k (λ bs. f (false ∷ bs)) (λ bs. g (false ∷ bs)) (λ bs l. h (false ∷ bs) (ap suc l)) in
+    let b = tally-mono k (λ bs. f (true ∷ bs)) (λ bs. g (true ∷ bs)) (λ bs l. h (true ∷ bs) (ap suc l)) in
+    omega (arith, tally-suc k f, tally-suc k g)

@@ -12,8 +12,8 @@ maxWords = 3 * maxNodes
 
 -- the most variables
 abbrev pub maxVariables : ℕ
-maxVariables = 255
+maxVariables = 511
 
 -- words of working room for each node
 abbrev pub roomPerNode : ℕ
-roomPerNode = 64
+roomPerNode = 128

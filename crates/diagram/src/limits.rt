@@ -7,7 +7,7 @@ pub const MAX_NODES: usize = 4096;
 pub const MAX_WORDS: usize = 3 * MAX_NODES;
 
 // The most variables.
-pub const MAX_VARIABLES: usize = 255;
+pub const MAX_VARIABLES: usize = 511;
 
 // Words of working room for each node.
-pub const ROOM_PER_NODE: usize = 64;
+pub const ROOM_PER_NODE: usize = 128;

@@ -16,7 +16,7 @@ use libc::STDOUT_FILENO;
 ghost use Prim.Native.Nat.{_≤_, _<_};
 ghost use lib.ListN.{length};
 
-const TEXT: usize = 262144;
+const TEXT: usize = 524288;
 
 // A few nodes more than a diagram may have: some cases offer and lend more than is taken.
 const NODES: usize = MAX_NODES + 4;

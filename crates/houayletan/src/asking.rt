@@ -50,7 +50,7 @@ fn flat_answer(answer: Answer) -> HouayletanAmount
 
 // How many nodes there are.
 #[no_mangle]
-pub extern "C" fn houayletan_size(words: &[u32], room: &mut [u32]) -> HouayletanAmount
+pub extern "C" fn houayletan_size_3(words: &[u32], room: &mut [u32]) -> HouayletanAmount
     ensures { λ r. ⌜ FlatAmount (Tells (now (words .entry)) (sizeOf (now (words .entry))) 0 (now (room .entry)) (now (room .exit))) r ⌝ }
 {
     flat_amount(size(words, room))
@@ -58,7 +58,7 @@ pub extern "C" fn houayletan_size(words: &[u32], room: &mut [u32]) -> Houayletan
 
 // How many variables there are.
 #[no_mangle]
-pub extern "C" fn houayletan_num_vars(words: &[u32], room: &mut [u32]) -> HouayletanAmount
+pub extern "C" fn houayletan_num_vars_3(words: &[u32], room: &mut [u32]) -> HouayletanAmount
     ensures { λ r. ⌜ FlatAmount (Tells (now (words .entry)) (varsOf (now (words .entry))) 0 (now (room .entry)) (now (room .exit))) r ⌝ }
 {
     flat_amount(num_vars(words, room))
@@ -66,7 +66,7 @@ pub extern "C" fn houayletan_num_vars(words: &[u32], room: &mut [u32]) -> Houayl
 
 // Whether the array is the constant true.
 #[no_mangle]
-pub extern "C" fn houayletan_is_true(words: &[u32], room: &mut [u32]) -> HouayletanAmount
+pub extern "C" fn houayletan_is_true_3(words: &[u32], room: &mut [u32]) -> HouayletanAmount
     ensures { λ r. ⌜ FlatAmount (Tells (now (words .entry)) (bit (eqb (sizeOf (now (words .entry))) 2)) 0 (now (room .entry)) (now (room .exit))) r ⌝ }
 {
     flat_answer(is_true(words, room))
@@ -74,7 +74,7 @@ pub extern "C" fn houayletan_is_true(words: &[u32], room: &mut [u32]) -> Houayle
 
 // Whether the array is the constant false.
 #[no_mangle]
-pub extern "C" fn houayletan_is_false(words: &[u32], room: &mut [u32]) -> HouayletanAmount
+pub extern "C" fn houayletan_is_false_3(words: &[u32], room: &mut [u32]) -> HouayletanAmount
     ensures { λ r. ⌜ FlatAmount (Tells (now (words .entry)) (bit (eqb (sizeOf (now (words .entry))) 1)) 0 (now (room .entry)) (now (room .exit))) r ⌝ }
 {
     flat_answer(is_false(words, room))
@@ -82,7 +82,7 @@ pub extern "C" fn houayletan_is_false(words: &[u32], room: &mut [u32]) -> Houayl
 
 // Whether the array is a single path to node 1.
 #[no_mangle]
-pub extern "C" fn houayletan_is_clause(words: &[u32], room: &mut [u32]) -> HouayletanAmount
+pub extern "C" fn houayletan_is_clause_3(words: &[u32], room: &mut [u32]) -> HouayletanAmount
     ensures { λ r. ⌜ FlatAmount (Tells (now (words .entry)) (bit (isClause (now (words .entry)))) 0 (now (room .entry)) (now (room .exit))) r ⌝ }
 {
     flat_answer(is_clause(words, room))
@@ -90,7 +90,7 @@ pub extern "C" fn houayletan_is_clause(words: &[u32], room: &mut [u32]) -> Houay
 
 // Whether it is a single path that tests every variable.
 #[no_mangle]
-pub extern "C" fn houayletan_is_valuation(words: &[u32], room: &mut [u32]) -> HouayletanAmount
+pub extern "C" fn houayletan_is_valuation_3(words: &[u32], room: &mut [u32]) -> HouayletanAmount
     ensures { λ r. ⌜ FlatAmount (Tells (now (words .entry)) (bit (isValuation (now (words .entry)))) 0 (now (room .entry)) (now (room .exit))) r ⌝ }
 {
     flat_answer(is_valuation(words, room))
@@ -98,7 +98,7 @@ pub extern "C" fn houayletan_is_valuation(words: &[u32], room: &mut [u32]) -> Ho
 
 // For each variable how many nodes test it, in the first words of the output.
 #[no_mangle]
-pub extern "C" fn houayletan_size_per_variable(
+pub extern "C" fn houayletan_size_per_variable_3(
     words: &[u32],
     room: &mut [u32],
     output: &mut [u32],
@@ -110,7 +110,7 @@ pub extern "C" fn houayletan_size_per_variable(
 
 // The diagram that holds exactly where this one doesn't.
 #[no_mangle]
-pub extern "C" fn houayletan_not(
+pub extern "C" fn houayletan_not_3(
     words: &[u32],
     room: &mut [u32],
     output: &mut [u32],

@@ -1,5 +1,4 @@
-// Cuts by a list, to a size and to a count. The names of those to a target end in 2: before document 02's E8 they took no flag, and
-// what was compiled against that must not link.
+// Cuts by a list, to a size and to a count.
 use crate::HouayletanApproximation;
 use crate::HouayletanDiagram;
 use crate::HouayletanNatural;
@@ -43,7 +42,7 @@ fn flat_target(answer: Approximated) -> HouayletanApproximation
 
 // Valuations whose path meets a listed node no longer hold; all others are as they were.
 #[no_mangle]
-pub extern "C" fn houayletan_underapproximate(
+pub extern "C" fn houayletan_underapproximate_3(
     words: &[u32],
     list: &[u32],
     room: &mut [u32],
@@ -56,7 +55,7 @@ pub extern "C" fn houayletan_underapproximate(
 
 // Valuations whose path meets a listed node now hold; all others are as they were.
 #[no_mangle]
-pub extern "C" fn houayletan_overapproximate(
+pub extern "C" fn houayletan_overapproximate_3(
     words: &[u32],
     list: &[u32],
     room: &mut [u32],
@@ -69,7 +68,7 @@ pub extern "C" fn houayletan_overapproximate(
 
 // At most so many nodes; holds only where the diagram does.
 #[no_mangle]
-pub extern "C" fn houayletan_underapproximate_to_size_2(
+pub extern "C" fn houayletan_underapproximate_to_size_3(
     words: &[u32],
     target: u32,
     as_is: u32,
@@ -83,7 +82,7 @@ pub extern "C" fn houayletan_underapproximate_to_size_2(
 
 // At most so many nodes; holds wherever the diagram does.
 #[no_mangle]
-pub extern "C" fn houayletan_overapproximate_to_size_2(
+pub extern "C" fn houayletan_overapproximate_to_size_3(
     words: &[u32],
     target: u32,
     as_is: u32,
@@ -97,7 +96,7 @@ pub extern "C" fn houayletan_overapproximate_to_size_2(
 
 // At most so many valuations; holds only where the diagram does.
 #[no_mangle]
-pub extern "C" fn houayletan_underapproximate_to_cardinality_2(
+pub extern "C" fn houayletan_underapproximate_to_cardinality_3(
     words: &[u32],
     target: HouayletanNatural,
     as_is: u32,
@@ -118,7 +117,7 @@ pub extern "C" fn houayletan_underapproximate_to_cardinality_2(
 
 // At least so many valuations; holds wherever the diagram does.
 #[no_mangle]
-pub extern "C" fn houayletan_overapproximate_to_cardinality_2(
+pub extern "C" fn houayletan_overapproximate_to_cardinality_3(
     words: &[u32],
     target: HouayletanNatural,
     as_is: u32,

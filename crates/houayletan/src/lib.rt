@@ -1,5 +1,6 @@
 // The operations for C and Rust: numbers, slices as pointer and length, and structs by value.
-// include/houayletan.h declares the same for C.
+// include/houayletan.h declares the same for C. The names end in the number that its HOUAYLETAN_LINKED puts there, so that what was
+// compiled against an older header does not link.
 pub mod asking;
 pub mod cutting;
 
@@ -101,7 +102,7 @@ pub(crate) fn flat(verdict: Verdict) -> HouayletanVerdict
 
 // The check of any words as a diagram.
 #[no_mangle]
-pub extern "C" fn houayletan_validate(words: &[u32], room: &mut [u32]) -> HouayletanVerdict
+pub extern "C" fn houayletan_validate_3(words: &[u32], room: &mut [u32]) -> HouayletanVerdict
     ensures { λ r. ⌜ Flat (Checked (now (words .entry)) Output.Nothing (now (room .entry)) (now (room .exit))) r ⌝ }
 {
     flat(validate(words, room))
@@ -120,7 +121,7 @@ fn flat_count(counted: Counted) -> HouayletanCount
 
 // How many valuations the diagram holds for.
 #[no_mangle]
-pub extern "C" fn houayletan_exact_cardinality(words: &[u32], room: &mut [u32]) -> HouayletanCount
+pub extern "C" fn houayletan_exact_cardinality_3(words: &[u32], room: &mut [u32]) -> HouayletanCount
     ensures { λ r. ⌜ FlatCount (Counts (now (words .entry)) (countOf (now (words .entry))) (now (room .entry)) (now (room .exit))) r ⌝ }
 {
     flat_count(exact_cardinality(words, room))
@@ -128,7 +129,7 @@ pub extern "C" fn houayletan_exact_cardinality(words: &[u32], room: &mut [u32]) 
 
 // How many paths lead from the root to node 1.
 #[no_mangle]
-pub extern "C" fn houayletan_exact_clause_cardinality(
+pub extern "C" fn houayletan_exact_clause_cardinality_3(
     words: &[u32],
     room: &mut [u32],
 ) -> HouayletanCount
@@ -149,7 +150,7 @@ fn flat_float(counted: CountedFloat) -> HouayletanFloat
 
 // How many valuations the diagram holds for, as an f64: exact up to 2^53.
 #[no_mangle]
-pub extern "C" fn houayletan_cardinality(words: &[u32], room: &mut [u32]) -> HouayletanFloat
+pub extern "C" fn houayletan_cardinality_3(words: &[u32], room: &mut [u32]) -> HouayletanFloat
     ensures { λ r. ⌜ FlatFloat (CountsFloat (now (words .entry)) (now (room .entry)) (now (room .exit))) r ⌝ }
 {
     flat_float(cardinality(words, room))
@@ -157,7 +158,7 @@ pub extern "C" fn houayletan_cardinality(words: &[u32], room: &mut [u32]) -> Hou
 
 // How many valuations the diagram holds for, and in the output the weights of its nodes.
 #[no_mangle]
-pub extern "C" fn houayletan_count_and_weights(
+pub extern "C" fn houayletan_count_and_weights_3(
     words: &[u32],
     room: &mut [u32],
     output: &mut [u32],
@@ -169,7 +170,7 @@ pub extern "C" fn houayletan_count_and_weights(
 
 // For each node, in the words of a count in the output, how many valuations that the diagram holds for have a path that visits it.
 #[no_mangle]
-pub extern "C" fn houayletan_node_valuation_weights(
+pub extern "C" fn houayletan_node_valuation_weights_3(
     words: &[u32],
     room: &mut [u32],
     output: &mut [u32],
@@ -191,7 +192,7 @@ fn flat_diagram(reduced: Reduced) -> HouayletanDiagram
 
 // The reduced diagram of the same function.
 #[no_mangle]
-pub extern "C" fn houayletan_reduce(
+pub extern "C" fn houayletan_reduce_3(
     words: &[u32],
     room: &mut [u32],
     output: &mut [u32],
@@ -203,7 +204,7 @@ pub extern "C" fn houayletan_reduce(
 
 // Makes the first `count` words zero, or all where there are fewer: what every answer does to its working room.
 #[no_mangle]
-pub extern "C" fn houayletan_clear(room: &mut [u32], count: usize)
+pub extern "C" fn houayletan_clear_3(room: &mut [u32], count: usize)
     ensures { λ _. ⌜ now (room .exit) ≡ replicate (min count (length (now (room .entry)))) 0 ++ drop count (now (room .entry)) ⌝ }
 {
     clear(room, count);

@@ -1,26 +1,53 @@
 // Runs every function of `in_place` over fixed cases and writes one line for each, in hex. The expected output was computed apart from
 // this code by tests/in_place_cases.py, with whole numbers of any size.
 use in_place::comparing::compare_at;
+use in_place::difference::subtract_from_power;
 use in_place::product::multiply_at;
 use in_place::sum::Shifted;
 use in_place::sum::add_shifted;
 use in_place::sum::words_for;
 use libc::STDOUT_FILENO;
 use naturals::Order;
+use naturals::WORD_BITS;
 use naturals::WORDS;
 ghost use mathlib.Core.Path.{_≡_};
-ghost use Prim.Native.Nat.{_≤_};
+ghost use Prim.Native.Nat.{_*_, _≤_, _<_};
 ghost use lib.ListN.{length};
 ghost use Rattle.naturals.specs.Natural.{wordCount};
 ghost use Rattle.in_place_run.specs.Room.{roomLength};
 
 const SAMPLES: usize = 5;
 
-const SHIFTS: [u32; 12] = [0, 0, 31, 31, 0, 32, 33, 0, 64, 95, 255, 4294967295];
+// The bits of a number, and those of its lower half.
+const BITS: u32 = WORD_BITS * WORDS as u32;
 
-const USED: [usize; 3] = [WORDS, WORDS / 2 + 1, 0];
+const HALF: u32 = BITS / 2;
 
-const PLACES: [usize; 6] = [0, 1, 24, 25, 18446744073709551608, 18446744073709551615];
+// Two for each sum.
+const SHIFT_PAIRS: usize = 8;
+
+const SHIFTS: [u32; 2 * SHIFT_PAIRS] = [
+    0,
+    0,
+    31,
+    31,
+    33,
+    32,
+    64,
+    95,
+    HALF - 1,
+    HALF - 1,
+    HALF + 1,
+    HALF,
+    1,
+    HALF + 32,
+    BITS - 1,
+    4294967295,
+];
+
+const USED_COUNT: usize = 3;
+
+const USED: [usize; USED_COUNT] = [WORDS, WORDS / 2 + 1, 0];
 
 // Two numbers, a place for their sum, and words behind it.
 const ROOM: usize = 4 * WORDS;
@@ -28,6 +55,21 @@ const ROOM: usize = 4 * WORDS;
 const SECOND: usize = WORDS;
 
 const THIRD: usize = 2 * WORDS;
+
+const PLACE_COUNT: usize = 7;
+
+const TOP: usize = 18446744073709551615;
+
+// The last one inside, and the next; of those near the top, one and the words of a number make TOP, the next ones more than that.
+const PLACES: [usize; PLACE_COUNT] = [
+    0,
+    1,
+    ROOM - WORDS,
+    ROOM - WORDS + 1,
+    TOP - WORDS,
+    TOP - WORDS + 1,
+    TOP,
+];
 
 const BEHIND: u32 = 3735928559;
 
@@ -51,11 +93,15 @@ fn sample(k: usize, i: usize) -> u32 {
     }
 }
 
+// In the lower half, above a zero, words that all differ and are large.
 fn between(i: usize) -> u32 {
     if i == 0 {
         return 0;
     }
-    if i < WORDS - 2 { 2309737967 } else { 0 }
+    if i < WORDS / 2 {
+        return 4294967295 - 65537 * i as u32;
+    }
+    0
 }
 
 fn room(a: usize, b: usize) -> [u32; ROOM] {
@@ -205,7 +251,7 @@ fn pair(a: usize, b: usize, used: usize)
     requires { ⌜ used ≤ wordCount ⌝ }
 {
     let mut i = 0;
-    while i < 6 {
+    while i < SHIFT_PAIRS {
         sums(a, b, SHIFTS[2 * i], SHIFTS[2 * i + 1], used);
         i += 1;
     }
@@ -221,7 +267,7 @@ fn pair(a: usize, b: usize, used: usize)
 
 fn pairs(a: usize, b: usize) {
     let mut i = 0;
-    while i < 3 {
+    while i < USED_COUNT {
         let used = USED[i];
         if used <= WORDS {
             pair(a, b, used);
@@ -233,7 +279,7 @@ fn pairs(a: usize, b: usize) {
 // Places that are inside, and such that are not.
 fn places() {
     let mut i = 0;
-    while i < 6 {
+    while i < PLACE_COUNT {
         let mut s = [0u32; ROOM];
         s[0] = 7;
         text(b"compare at ");
@@ -246,11 +292,49 @@ fn places() {
     }
 }
 
+// 2 ^ bits less a word, and 2 ^ bits less that: the word again.
+fn power_less(bits: u32, x: u32)
+    requires { ⌜ (32 ≤ bits) × (bits < 32 * wordCount) ⌝ }
+{
+    text(b"power less ");
+    number(bits as u64);
+    number(x as u64);
+    let mut s = [0u32; ROOM];
+    s[0] = x;
+    subtract_from_power(&mut s, 0, bits);
+    show(&s, 0);
+    text(b" ");
+    subtract_from_power(&mut s, 0, bits);
+    show(&s, 0);
+    text(b"\n");
+}
+
+fn powers_less(x: u32) {
+    power_less(32, x);
+    power_less(33, x);
+    power_less(95, x);
+    power_less(HALF - 1, x);
+    power_less(HALF, x);
+    power_less(HALF + 1, x);
+    power_less(BITS - 1, x);
+}
+
 fn words_of(bits: u32) {
     text(b"words for ");
     number(bits as u64);
     io::print_decimal(STDOUT_FILENO, words_for(bits) as u64);
     text(b"\n");
+}
+
+fn all_words_of() {
+    words_of(0);
+    words_of(31);
+    words_of(32);
+    words_of(HALF - 1);
+    words_of(HALF);
+    words_of(BITS - 1);
+    words_of(BITS);
+    words_of(4294967295);
 }
 
 fn main() {
@@ -264,9 +348,8 @@ fn main() {
         a += 1;
     }
     places();
-    words_of(0);
-    words_of(31);
-    words_of(32);
-    words_of(255);
-    words_of(4294967295);
+    powers_less(0);
+    powers_less(1);
+    powers_less(4294967295);
+    all_words_of();
 }

@@ -4,27 +4,64 @@ use libc::STDOUT_FILENO;
 use naturals::Fit;
 use naturals::Natural;
 use naturals::Order;
+use naturals::WORD_BITS;
 use naturals::WORDS;
 
-const SAMPLES: usize = 12;
+const SAMPLES: usize = 15;
 
-const SHIFTS: [u32; 11] = [0, 1, 31, 32, 33, 127, 128, 224, 255, 256, 4294967295];
+// The bits of a number, and those of its lower half.
+const BITS: u32 = WORD_BITS * WORDS as u32;
 
-const DIVISORS: [u32; 7] = [0, 1, 3, 10, 65536, 2147483649, 4294967295];
+const HALF: u32 = BITS / 2;
 
-const ROOM: usize = WORDS + 12;
+const SHIFT_COUNT: usize = 17;
+
+const SHIFTS: [u32; SHIFT_COUNT] = [
+    0,
+    1,
+    31,
+    32,
+    33,
+    127,
+    128,
+    HALF - 32,
+    HALF - 1,
+    HALF,
+    HALF + 1,
+    HALF + 32,
+    BITS - 32,
+    BITS - 1,
+    BITS,
+    BITS + 1,
+    4294967295,
+];
+
+const DIVISOR_COUNT: usize = 7;
+
+const DIVISORS: [u32; DIVISOR_COUNT] = [0, 1, 3, 10, 65536, 2147483649, 4294967295];
+
+// The last place of a room that a number can stand at.
+const LAST: usize = 12;
+
+const ROOM: usize = LAST + WORDS;
 
 const SHORT: usize = WORDS - 1;
 
-const PLACES: [usize; 8] = [
+const PLACE_COUNT: usize = 9;
+
+const TOP: usize = 18446744073709551615;
+
+// Of those near the top, one and the words of a number make TOP, the next ones more than that.
+const PLACES: [usize; PLACE_COUNT] = [
     0,
     1,
-    11,
-    12,
-    13,
-    20,
-    18446744073709551608,
-    18446744073709551615,
+    LAST - 1,
+    LAST,
+    LAST + 1,
+    ROOM,
+    TOP - WORDS,
+    TOP - WORDS + 1,
+    TOP,
 ];
 
 fn text(s: &[u8]) {
@@ -58,6 +95,19 @@ fn half_and_one() -> Natural {
     Natural { words }
 }
 
+// So many words that all differ, each of them large, and zeros.
+fn falling(count: usize) -> Natural {
+    let mut words = [0u32; WORDS];
+    let mut i = 0;
+    while i < WORDS {
+        if i < count {
+            words[i] = 4294967295 - 65537 * i as u32;
+        }
+        i += 1;
+    }
+    Natural { words }
+}
+
 fn sample(k: usize) -> Natural {
     match k {
         0 => block(0, 0, 0),
@@ -71,7 +121,10 @@ fn sample(k: usize) -> Natural {
         8 => block(0, WORDS, 2309737967),
         9 => block(0, 1, 3),
         10 => half_and_one(),
-        _ => block(2, WORDS - 2, 4275878552),
+        11 => block(2, WORDS - 2, 4275878552),
+        12 => falling(WORDS / 2),
+        13 => falling(WORDS / 2 + 1),
+        _ => falling(WORDS),
     }
 }
 
@@ -154,7 +207,7 @@ fn shift(i: usize, k: u32) {
 
 fn shifts(i: usize) {
     let mut j = 0;
-    while j < 11 {
+    while j < SHIFT_COUNT {
         shift(i, SHIFTS[j]);
         j += 1;
     }
@@ -183,7 +236,7 @@ fn times(i: usize, m: u32, c: u32) {
 
 fn by_words(i: usize) {
     let mut j = 0;
-    while j < 7 {
+    while j < DIVISOR_COUNT {
         let d = DIVISORS[j];
         divide(i, d);
         times(i, d, 0);
@@ -212,7 +265,7 @@ fn power(k: u32) {
 
 fn powers() {
     let mut j = 0;
-    while j < 11 {
+    while j < SHIFT_COUNT {
         power(SHIFTS[j]);
         j += 1;
     }
@@ -257,7 +310,7 @@ fn store_to(s: &mut [u32], at: usize) {
 
 fn places() {
     let mut j = 0;
-    while j < 8 {
+    while j < PLACE_COUNT {
         let at = PLACES[j];
         let mut s = room();
         load_from(&s, at);

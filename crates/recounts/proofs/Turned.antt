@@ -7,11 +7,10 @@ use mathlib.Core.Bool.{Bool, true, false, cond, not}
 use mathlib.Core.List.{List, [], _∷_}
 use native.Mathlib.Omega.{arith}
 use lib.ListN.{length}
-use lib.Dec.{leb, eqb}
-use borrow.Author.Tests.{le-leb}
-use Rattle.naturals.specs.Natural.{value, Holds, Answers, Fitted}
-use Rattle.naturals.specs.declared.Fit.{Fit}
-use Rattle.naturals.proofs.Answer.{holds-as, answers-yes, fitted-below}
+use lib.Dec.{eqb}
+use Rattle.naturals.specs.Natural.{wordCount}
+use Rattle.naturals.proofs.Answer.{holds-as}
+use Rattle.in_place.specs.InPlace.{numberIn, Put, Subtracting}
 use Rattle.diagram.specs.Limits.{maxNodes}
 use Rattle.diagram.specs.Diagram.{varOf, lowOf, highOf, size, vars, Formed, Ordered, Accepted}
 use Rattle.diagram.specs.Reading.{eval}
@@ -22,7 +21,8 @@ use Rattle.diagram.proofs.Tally.{tally-same, tally-not}
 use Rattle.levels.specs.Chains.{Last}
 use Rattle.counts.specs.Table.{num, Noted}
 use Rattle.counts.specs.Worth.{worthOf}
-use Rattle.counts.proofs.Nodes.{worth-end, worth-most, under-limit}
+use Rattle.counts.proofs.Nodes.{worth-end, worth-most}
+use Rattle.counts.proofs.Entries.{noted-put}
 use Rattle.negation.specs.Negation.{exchanged, negated}
 use Rattle.negation.proofs.Words.{exchanged-low, exchanged-high, more-length, word-end, word-var, word-link}
 use Rattle.negation.proofs.Meaning.{negated-accepted}
@@ -134,19 +134,20 @@ module _ {w room : List ℕ} {n v p : ℕ} (a : Opposing w room n v p) where
   pub opposing-variable : {variable : ℕ} → variable ≡ varOf w p → variable ≤ v
   opposing-variable e = let up = a .above in omega arith
 
-  pub opposed : {count : List ℕ} → Holds (num (countsFrom n) room p) count → {variable : ℕ} → variable ≡ varOf w p
-      → {all : Fit} → Fitted (2 ^ (v - variable)) all
-      → {left : Fit} → Answers (leb (value count) (value (all .natural .words))) (value (all .natural .words) - value count) left
-      → {after : List ℕ} → ((x : ℕ) → Holds x (left .natural .words) → Noted (countsFrom n) room p x after)
-      → Noted (countsFrom n) room p (opposite w room n v p) after
-  opposed {count} held {variable} e {all} fit {left} ans noted =
-      let few = a .variables in
-      let whole = fitted-below fit (under-limit (2 ^ (v - variable)) (v - variable) (omega arith) (omega arith)) .1 .worth in
-      let same : 2 ^ (v - variable) ≡ 2 ^ (v - varOf w p) = ap (λ (i : ℕ). 2 ^ (v - i)) e in
-      let most = a .most in
-      let is = held .worth in
-      let fits : value count ≤ value (all .natural .words) = omega arith in
-      noted (opposite w room n v p) (holds-as (omega arith) (answers-yes ans (le-leb (value count) (value (all .natural .words)) fits) .1))
+  module _ {variable : ℕ} (e : variable ≡ varOf w p) {at : ℕ} (place : at ≡ countsFrom n + wordCount * p) where
+    pub opposes : Subtracting wordCount room at (v - variable)
+    opposes =
+        let few = a .variables in
+        let inside = a .inside in
+        record {
+          few = omega arith;
+          inside = omega arith;
+          most = rw (place, e) (a .most);
+        }
+
+    pub opposed : {after : List ℕ} → Put wordCount room at (2 ^ (v - variable) - numberIn wordCount room at) after
+        → Noted (countsFrom n) room p (opposite w room n v p) after
+    opposed p = noted-put (countsFrom n) room _ (a .inside) (rw (place, e) at p)
 
 -- ---- all nodes
 

@@ -1,11 +1,9 @@
 // The counts of a diagram turned to those of its negation, which has the same nodes at the same variables: so the chains stay,
 // and at each node all valuations of the variables from its own on are shared out between the two.
-use counts::table::count_at;
-use counts::table::note;
+use counts::links::place;
 use diagram::node::BddPointer;
 use diagram::node::var_of;
-use naturals::power_of_two;
-use naturals::subtract;
+use in_place::difference::subtract_from_power;
 use room_map::COUNTS;
 ghost use Rattle.counts.specs.Table.{Noted};
 ghost use Rattle.room_map.specs.Map.{countsFrom};
@@ -15,11 +13,8 @@ fn turn_node(words: &[u32], room: &mut [u32], nodes: usize, vars: u32, node: Bdd
     requires { ⌜ Opposing (now words) (now room) nodes vars (node .0) ⌝ }
     ensures { λ _. ⌜ Noted (countsFrom nodes) (now (room .entry)) (node .0) (opposite (now (words .entry)) (now (room .entry)) nodes vars (node .0)) (now (room .exit)) ⌝ }
 {
-    let count = count_at(room, COUNTS * nodes, node);
     let variable = var_of(words, node);
-    let all = power_of_two(vars - variable.0);
-    let left = subtract(all.natural, count);
-    note(room, COUNTS * nodes, node, left.natural);
+    subtract_from_power(room, place(COUNTS * nodes, node), vars - variable.0);
 }
 
 // All non-terminals. The terminals' counts are those of the negation already.

@@ -9,7 +9,6 @@ use cases::number;
 use cases::run_of;
 use cases::words_of;
 use diagram::limits::MAX_NODES;
-use diagram::limits::MAX_WORDS;
 use diagram::limits::ROOM_PER_NODE;
 use diagram::node::word;
 use diagram::verdict::Verdict;
@@ -20,11 +19,12 @@ ghost use lib.ListN.{length};
 
 const TEXT: usize = 524288;
 
-// The words of one node more than a diagram may have, and of the lengths and fillings of a line.
-const WORDS: usize = MAX_WORDS + 12;
+// A few nodes more than a diagram may have: some cases offer and lend more than is taken, and a line has lengths and fillings too.
+const NODES: usize = MAX_NODES + 4;
 
-// More room than is asked for.
-const ROOM: usize = ROOM_PER_NODE * MAX_NODES + 256;
+const WORDS: usize = 3 * NODES;
+
+const ROOM: usize = ROOM_PER_NODE * NODES;
 
 fn say(text: &[u8], value: u64) {
     io::write_all(STDOUT_FILENO, text);

@@ -14,8 +14,8 @@ use Rattle.room_map.specs.Map.{marksTo, linksFrom, weightsFrom, weightsTo, tabl
 use Rattle.counts.specs.Table.{entry}
 use Rattle.counts.proofs.Parts.{part-entry, part-kept, part-beyond, lent-long}
 use Rattle.weights.specs.Passes.{weightsFrom as weightsInFrom, Weighable, Standing}
-use Rattle.priorities.specs.Prioritised.{Fits, Prioritised}
-use Rattle.priorities.proofs.Ordering.{prioritised-order, prioritised-entry}
+use Rattle.priorities.specs.Prioritised.{Topped, Prioritised}
+use Rattle.priorities.proofs.Ordering.{weights-topped, prioritised-order, prioritised-entry}
 use Rattle.approximation.specs.Search.{order}
 use Rattle.cuts.proofs.Rooms.{drop-more}
 use Rattle.trials.specs.Trials.{Ready, Preparing, Prepared}
@@ -50,20 +50,20 @@ module _ {w r : List ℕ} {n v : ℕ} (a : Preparing w r n v) where
     same-long : length weighted ≡ length r
     same-long = part-kept (linksFrom n) (weightsTo n) r part (omega arith) (a .long) (weighed .kept)
 
-    pub preparing-fits : Fits n weighted
-    preparing-fits =
-        let many = a .many in
-        let few = preparing-few in
-        let long = a .long in
-        let kept = same-long in
-        record { least = omega arith; most = omega arith; long = omega arith }
-
     weights-stand : (p : ℕ) → p < n → Holds (weightOf w p) (entry (weightsFrom n) weighted p)
     weights-stand p h =
         let long = lent-long (linksFrom n) (weightsTo n) r (omega arith) (a .long) in
         let kept = weighed .kept in
         rw (part-entry (linksFrom n) (weightsTo n) r part (omega arith) (a .long) (weighed .kept) (weightsInFrom n) p (omega arith) {place = weightsFrom n} (omega arith))
         (weighed .weight p h)
+
+    pub preparing-fits : Topped n weighted
+    preparing-fits =
+        let many = a .many in
+        let few = preparing-few in
+        let long = a .long in
+        let kept = same-long in
+        weights-topped w (record { least = omega arith; most = omega arith; long = omega arith }) weights-stand
 
     pub prepared : {t : List ℕ} → Prioritised n weighted t → Prepared w r t
     prepared {t} p =

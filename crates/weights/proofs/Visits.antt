@@ -14,7 +14,7 @@ use Rattle.diagram.specs.Verdict.{any}
 use Rattle.diagram.specs.Valuations.{tally, countOf, meets, weightOf}
 use Rattle.diagram.proofs.Tests.{by-test, not-both}
 use Rattle.diagram.proofs.Count.{any-intro, any-elim}
-use Rattle.diagram.proofs.Tally.{tally-same, tally-none, tally-or}
+use Rattle.diagram.proofs.Tally.{tally-same, tally-none, tally-or, tally-mono}
 use Rattle.diagram.proofs.Meeting.{any-or, walk-zero, walk-ends, walk-on}
 use Rattle.counts.proofs.Turns.{counting}
 use Rattle.weights.specs.Listed.{among, sumOf, visitedBy}
@@ -104,11 +104,20 @@ module _ (w : List ℕ) (one : size w ≡ 1) where
   unfolding weightWords wordsOf
   words-alone = rw (one, weight-of-zero w) refl
 
+-- whatever visits a node is held
+both-first : (a b : Bool) → (a && b) ≡ true → a ≡ true
+both-first true b e = refl
+both-first false b e = e
+
+weight-most : (w : List ℕ) (p : ℕ) → weightOf w p ≤ countOf w
+weight-most w p = tally-mono (vars w) (λ bs. holds w bs && meets w bs (eqb p)) (holds w) (λ bs l e. both-first (holds w bs) (meets w bs (eqb p)) e)
+
 pub weighing : Weighing
 weighing = record {
   visits = λ w p. counting .tallies (vars w) (λ bs. holds w bs && meets w bs (eqb p));
   zero-node = weight-of-zero;
   one-node = weight-of-one;
   root-node = weight-of-root;
+  most = weight-most;
   alone = λ w one. (none-alone w one, words-alone w one);
 }

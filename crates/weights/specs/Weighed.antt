@@ -1,6 +1,6 @@
 -- What the count and the weights of a diagram's nodes are answered with (document 01, port order 6; document 02, E2), and what they
 -- are numbers of.
-use Prim.Native.Nat.{ℕ, zero, suc}
+use Prim.Native.Nat.{ℕ, zero, suc, _≤_}
 use mathlib.Core.Path.{_≡_}
 use mathlib.Core.Bool.{true, _&&_}
 use mathlib.Core.List.{List, [], _++_}
@@ -30,11 +30,12 @@ pub record CountsAndWeighs (w room room′ out out′ : List ℕ) (r : Verdict) 
   pub counted : Holds (ifAccepted (verdictFor Weights w (length room) (length out)) (countOf w) 0) count
 
 -- A node's weight is the number of the valuations for which the diagram holds and whose path visits the node. Node 0 has 0;
--- node 1 and the root have the full count (`weighing` of proofs/Visits.antt).
+-- node 1 and the root have the full count, and no node has more (`weighing` of proofs/Visits.antt).
 pub record Weighing : Type 0 where
   pub visits : (w : List ℕ) (p : ℕ) → Number (λ bs. (length bs ≡ vars w) × ((holds w bs && meets w bs (eqb p)) ≡ true)) (weightOf w p)
   pub zero-node : (w : List ℕ) → weightOf w 0 ≡ 0
   pub one-node : (w : List ℕ) → weightOf w 1 ≡ countOf w
   pub root-node : (w : List ℕ) → weightOf w (root w) ≡ countOf w
+  pub most : (w : List ℕ) (p : ℕ) → weightOf w p ≤ countOf w
   -- the one-node diagram has count 0 and one weight of 0
   pub alone : (w : List ℕ) → size w ≡ 1 → (countOf w ≡ 0) × (weightWords w (size w) ≡ replicate wordCount 0)

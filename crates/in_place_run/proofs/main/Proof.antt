@@ -47,20 +47,17 @@ loop-again c = search needs
 places-requires : tie.Need-places-requires Inv-loop2 μ-loop2 Inv-loop μ-loop
 places-requires c κs = search needs
 
-words-of-requires : tie.Need-words-of-requires Inv-loop2 μ-loop2 Inv-loop μ-loop
-words-of-requires c κs = search needs
+powers-less-requires : tie.Need-powers-less-requires Inv-loop2 μ-loop2 Inv-loop μ-loop
+powers-less-requires c κs = search needs
 
-words-of-requires-2 : tie.Need-words-of-requires-2 Inv-loop2 μ-loop2 Inv-loop μ-loop
-words-of-requires-2 c κs = search needs
+powers-less-requires-2 : tie.Need-powers-less-requires-2 Inv-loop2 μ-loop2 Inv-loop μ-loop
+powers-less-requires-2 c κs = search needs
 
-words-of-requires-3 : tie.Need-words-of-requires-3 Inv-loop2 μ-loop2 Inv-loop μ-loop
-words-of-requires-3 c κs = search needs
+powers-less-requires-3 : tie.Need-powers-less-requires-3 Inv-loop2 μ-loop2 Inv-loop μ-loop
+powers-less-requires-3 c κs = search needs
 
-words-of-requires-4 : tie.Need-words-of-requires-4 Inv-loop2 μ-loop2 Inv-loop μ-loop
-words-of-requires-4 c κs = search needs
-
-words-of-requires-5 : tie.Need-words-of-requires-5 Inv-loop2 μ-loop2 Inv-loop μ-loop
-words-of-requires-5 c κs = search needs
+all-words-of-requires : tie.Need-all-words-of-requires Inv-loop2 μ-loop2 Inv-loop μ-loop
+all-words-of-requires c κs = search needs
 
 returns : tie.Need-returns Inv-loop2 μ-loop2 Inv-loop μ-loop
 returns c = search needs
@@ -83,9 +80,8 @@ main-spec =
     loop-less
     loop-again
     places-requires
-    words-of-requires
-    words-of-requires-2
-    words-of-requires-3
-    words-of-requires-4
-    words-of-requires-5
+    powers-less-requires
+    powers-less-requires-2
+    powers-less-requires-3
+    all-words-of-requires
     returns)

@@ -6,10 +6,10 @@ use Rattle.in_place_run.proofs.pair.Statement.{statement}
 use Rattle.in_place_run.proofs.pair.Tie as tie
 
 abbrev Inv-loop : tie.InvT-loop
-Inv-loop a b used i₀ t7 t8 i = i ≤ 6
+Inv-loop a b used i₀ t7 t8 i = i ≤ 8
 
 abbrev μ-loop : tie.MeasureT-loop
-μ-loop a b used i₀ t7 t8 i = 6 - i
+μ-loop a b used i₀ t7 t8 i = 8 - i
 
 loop-holds : tie.Need-loop-holds Inv-loop μ-loop
 loop-holds c = search needs

@@ -6,10 +6,10 @@ use Rattle.in_place_run.proofs.places.Statement.{statement}
 use Rattle.in_place_run.proofs.places.Tie as tie
 
 abbrev Inv-loop : tie.InvT-loop
-Inv-loop i₀ t3 t4 i = i ≤ 6
+Inv-loop i₀ t3 t4 i = i ≤ 7
 
 abbrev μ-loop : tie.MeasureT-loop
-μ-loop i₀ t3 t4 i = 6 - i
+μ-loop i₀ t3 t4 i = 7 - i
 
 loop-holds : tie.Need-loop-holds Inv-loop μ-loop
 loop-holds c = search needs

@@ -8,35 +8,27 @@ use Rattle.in_place_run.proofs.product_to_first.Reads as reads
 use Rattle.in_place_run.proofs.product_to_first.Lts as lts
 use Rattle.in_place.proofs.product.multiply_at.Reads as multiply-at-reads
 
--- src/main.rt:173:9
 multiply-at-requires : tie.Need-multiply-at-requires
 multiply-at-requires c κs = let e = c .before .before .before .pre .0 in let few = c .before .before .before .pre .1 in record { first = omega arith; second = omega arith; few = omega arith; target = omega arith; inside = omega arith }
 
--- src/main.rt:173:9
 same-length : tie.Need-same-length
 same-length c = search needs
 
--- src/main.rt:173:9
 returns : tie.Need-returns
 returns c = search needs
 
--- src/main.rt:175:37
 add-multiply-at : tie.Need-add-multiply-at
 add-multiply-at c = search needs
 
--- src/main.rt:175:37
 sub-multiply-at : tie.Need-sub-multiply-at
 sub-multiply-at c = search needs
 
--- src/main.rt:175:5
 multiply-at-requires-2 : tie.Need-multiply-at-requires-2
 multiply-at-requires-2 c κs = let e = c .before .before .before .pre .0 in let few = c .before .before .before .pre .1 in record { first = omega arith; second = omega arith; few = omega arith; target = omega arith; inside = omega arith }
 
--- src/main.rt:169:1
 same-length-2 : tie.Need-same-length-2
 same-length-2 c = search needs
 
--- src/main.rt:169:1
 returns-2 : tie.Need-returns-2
 returns-2 c = search needs
 

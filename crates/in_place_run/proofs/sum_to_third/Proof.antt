@@ -8,15 +8,12 @@ use Rattle.in_place_run.proofs.sum_to_third.Reads as reads
 use Rattle.in_place_run.proofs.sum_to_third.Lts as lts
 use Rattle.in_place.proofs.sum.add_shifted.Reads as add-shifted-reads
 
--- src/main.rt:155:5
 add-shifted-requires : tie.Need-add-shifted-requires
 add-shifted-requires c κs = let e = c .before .before .pre .0 in let few = c .before .before .pre .1 in record { few = few; target = omega arith; first = omega arith; second = omega arith; first-clear = inl (inl (omega arith)); second-clear = inl (inl (omega arith)) }
 
--- src/main.rt:147:1
 same-length : tie.Need-same-length
 same-length c = search needs
 
--- src/main.rt:147:1
 returns : tie.Need-returns
 returns c = search needs
 

@@ -14,10 +14,10 @@ use Rattle.naturals_run.proofs.shifts.Reads as shifts-reads
 use Rattle.naturals_run.proofs.too_short.Reads as too-short-reads
 
 abbrev Inv-loop : tie.InvT-loop
-Inv-loop i₀ i = i ≤ 12
+Inv-loop i₀ i = i ≤ 15
 
 abbrev μ-loop : tie.MeasureT-loop
-μ-loop i₀ i = 12 - i
+μ-loop i₀ i = 15 - i
 
 loop-holds : tie.Need-loop-holds Inv-loop μ-loop
 loop-holds c = search needs

@@ -4,10 +4,10 @@ use Rattle.naturals_run.proofs.pairs.Statement.{statement}
 use Rattle.naturals_run.proofs.pairs.Tie as tie
 
 abbrev Inv-loop : tie.InvT-loop
-Inv-loop i j₀ j = j ≤ 12
+Inv-loop i j₀ j = j ≤ 15
 
 abbrev μ-loop : tie.MeasureT-loop
-μ-loop i j₀ j = 12 - j
+μ-loop i j₀ j = 15 - j
 
 loop-holds : tie.Need-loop-holds Inv-loop μ-loop
 loop-holds c = search needs

@@ -9,10 +9,10 @@ use Rattle.naturals_run.proofs.room.Reads as room-reads
 use Rattle.naturals_run.proofs.store_to.Reads as store-to-reads
 
 abbrev Inv-loop : tie.InvT-loop
-Inv-loop j₀ j = j ≤ 8
+Inv-loop j₀ j = j ≤ 9
 
 abbrev μ-loop : tie.MeasureT-loop
-μ-loop j₀ j = 8 - j
+μ-loop j₀ j = 9 - j
 
 loop-holds : tie.Need-loop-holds Inv-loop μ-loop
 loop-holds c = search needs

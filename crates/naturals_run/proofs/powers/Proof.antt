@@ -4,10 +4,10 @@ use Rattle.naturals_run.proofs.powers.Statement.{statement}
 use Rattle.naturals_run.proofs.powers.Tie as tie
 
 abbrev Inv-loop : tie.InvT-loop
-Inv-loop j₀ t2 j = j ≤ 11
+Inv-loop j₀ t2 j = j ≤ 17
 
 abbrev μ-loop : tie.MeasureT-loop
-μ-loop j₀ t2 j = 11 - j
+μ-loop j₀ t2 j = 17 - j
 
 loop-holds : tie.Need-loop-holds Inv-loop μ-loop
 loop-holds c = search needs

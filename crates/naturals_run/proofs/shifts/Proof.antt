@@ -4,10 +4,10 @@ use Rattle.naturals_run.proofs.shifts.Statement.{statement}
 use Rattle.naturals_run.proofs.shifts.Tie as tie
 
 abbrev Inv-loop : tie.InvT-loop
-Inv-loop i j₀ j = j ≤ 11
+Inv-loop i j₀ j = j ≤ 17
 
 abbrev μ-loop : tie.MeasureT-loop
-μ-loop i j₀ j = 11 - j
+μ-loop i j₀ j = 17 - j
 
 loop-holds : tie.Need-loop-holds Inv-loop μ-loop
 loop-holds c = search needs
