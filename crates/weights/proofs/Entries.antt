@@ -1,14 +1,17 @@
 -- Tables of numbers in lent words: kept, emptied and copied.
-use Prim.Native.Nat.{ℕ, _+_, _-_, _*_, _≤_, _<_, min}
+use Prim.Native.Nat.{ℕ, _+_, _-_, _*_, _^_, _≤_, _<_, min}
 use mathlib.Core.Path.{_≡_, refl, sym, ap, _∙_}
 use mathlib.Core.List.{List, _++_}
 use native.Mathlib.Omega.{arith}
-use lib.ListN.{length, getD, take, drop, length-take, length-drop}
-use lib.Seq.{ext-getD, getD-take, getD-drop, take-append-le, drop-append-le, drop-drop, length-take-le, length-front, drop-at}
-use Rattle.naturals.specs.Natural.{wordCount, Holds}
+use lib.ListN.{length, getD, take, drop, set, length-take, length-drop, length-set}
+use lib.Seq.{ext-getD, getD-take, getD-drop, getD-set-same, getD-set-other, drop-set-lt, take-append-le, drop-append-le, drop-drop, length-take-le, length-front, drop-at}
+use Rattle.naturals.specs.Natural.{value, wordCount, Holds}
+use Rattle.naturals.proofs.Place.{words-count, words-at}
+use Rattle.in_place.specs.Words.{Blanked}
+use Rattle.in_place.proofs.Placed.{words-small-at, blank-put}
 use Rattle.diagram.specs.Valuations.{weightOf}
 use Rattle.diagram.proofs.Tests.{by-eq}
-use Rattle.counts.specs.Table.{entry, num, In, Noted}
+use Rattle.counts.specs.Table.{entry, num, In}
 use Rattle.weights.specs.Passes.{weightsFrom, weightsTo, Standing, Emptied, Handed}
 
 -- words that are as they were, in an entry
@@ -35,37 +38,72 @@ entry-front base q part rest inside =
 
 -- ---- emptying a table
 
-pub empty-begins : (base : ℕ) (s : List ℕ) → Emptied base s 0 s
-empty-begins base s = record { size = refl; none = λ q h. absurd (omega arith); before = λ k h. refl }
-
-pub empty-on : {base : ℕ} {s now : List ℕ} {p : ℕ} → Emptied base s p now → {after : List ℕ} → Noted base now p 0 after → Emptied base s (p + 1) after
-empty-on {base} {s} {now} {p} e {after} m = record {
-  size = m .size ∙ e .size;
-  none = λ q h. by-eq q p (λ x. rw x (m .here)) (λ ne. rw (m .other q ne) (e .none q (omega arith)));
-  before = λ k h. m .before k h ∙ e .before k h;
+pub emptied : {base : ℕ} {s after : List ℕ} {n : ℕ} → base + wordCount * n ≤ length s → Blanked s base (wordCount * n) after → Emptied base s n after
+emptied {base} {s} {after} {n} inside b = record {
+  size = b .kept;
+  none = λ q h. blank-put (omega arith) (here q h) .here;
+  before = b .before;
 }
+  where
+    -- one entry, which is zero now
+    here : (q : ℕ) → q < n → Blanked after (base + wordCount * q) wordCount after
+    here q h = record {
+      kept = refl;
+      none = λ i l. let place : base + wordCount * q + i ≡ base + (wordCount * q + i) = omega arith in rw place (b .none (wordCount * q + i) (omega arith));
+      before = λ i l. refl;
+      beyond = λ i l. refl;
+    }
 
 -- ---- copying one
 
-pub hand-begins : (base : ℕ) (room out : List ℕ) → Handed base room out 0 out
-hand-begins base room out = record { kept = refl; number = λ q h. absurd (omega arith); rest = refl }
+-- the first i words are those from a base on; all others are as they were
+pub record Copied (base : ℕ) (room before : List ℕ) (i : ℕ) (now : List ℕ) : Type 0 where
+  pub kept : length now ≡ length before
+  pub front : (j : ℕ) → j < i → getD now j 0 ≡ getD room (base + j) 0
+  pub small : (j : ℕ) → j < i → getD now j 0 < 2 ^ 32
+  pub rest : drop i now ≡ drop i before
 
-pub hand-on : {base : ℕ} {room before s : List ℕ} {p : ℕ} → Handed base room before p s → {after : List ℕ} → Noted 0 s p (num base room p) after
-    → Handed base room before (p + 1) after
-hand-on {base} {room} {before} {s} {p} e {after} m = record {
-  kept = m .size ∙ e .kept;
-  number = λ q h. by-eq q p (λ x. rw x (m .here)) (λ ne. rw (m .other q ne) (e .number q (omega arith)));
-  rest =
-      m .beyond (wordCount * (p + 1)) (omega arith)
-      ∙ sym (further s)
-      ∙ ap (λ (l : List ℕ). drop wordCount l) (e .rest)
-      ∙ further before;
+pub copy-begins : (base : ℕ) (room before : List ℕ) → Copied base room before 0 before
+copy-begins base room before = record { kept = refl; front = λ j h. absurd (omega arith); small = λ j h. absurd (omega arith); rest = refl }
+
+pub copy-on : {base : ℕ} {room before : List ℕ} {i : ℕ} {now : List ℕ} → Copied base room before i now → i < length before
+    → getD room (base + i) 0 < 2 ^ 32 → Copied base room before (i + 1) (set now i (getD room (base + i) 0))
+copy-on {base} {room} {before} {i} {now} c h word = record {
+  kept = length-set now i (getD room (base + i) 0) ∙ c .kept;
+  front = λ j l. by-eq j i
+      (λ e. rw e (getD-set-same now i (getD room (base + i) 0) 0 (omega (arith, c .kept))))
+      (λ ne. getD-set-other now i j (getD room (base + i) 0) 0 (λ e. ne (omega arith)) ∙ c .front j (omega arith));
+  small = λ j l. by-eq j i
+      (λ e. rw (e, getD-set-same now i (getD room (base + i) 0) 0 (omega (arith, c .kept))) word)
+      (λ ne. rw (getD-set-other now i j (getD room (base + i) 0) 0 (λ e. ne (omega arith))) (c .small j (omega arith)));
+  rest = drop-set-lt (i + 1) now i (getD room (base + i) 0) (omega arith) ∙ sym (drop-drop 1 i now) ∙ ap (λ (l : List ℕ). drop 1 l) (c .rest) ∙ drop-drop 1 i before;
 }
+
+pub handed : {base : ℕ} {room before after : List ℕ} {n : ℕ} → base + wordCount * n ≤ length room → wordCount * n ≤ length before
+    → Copied base room before (wordCount * n) after → Handed base room before n after
+handed {base} {room} {before} {after} {n} from to c = record { kept = c .kept; number = number; rest = c .rest }
   where
-    further : (l : List ℕ) → drop wordCount (drop (wordCount * p) l) ≡ drop (wordCount * (p + 1)) l
-    further l =
-        let j : wordCount * p + wordCount ≡ wordCount * (p + 1) = omega arith in
-        drop-drop wordCount (wordCount * p) l ∙ ap (λ (k : ℕ). drop k l) j
+    same : (q : ℕ) → q < n → entry 0 after q ≡ entry base room q
+    same q h =
+        let in-room : base + wordCount * q + wordCount ≤ length room = omega arith in
+        let in-after : 0 + wordCount * q + wordCount ≤ length after = omega (arith, c .kept) in
+        ext-getD 0 (entry 0 after q) (entry base room q)
+        (words-count wordCount after (0 + wordCount * q) in-after ∙ sym (words-count wordCount room (base + wordCount * q) in-room))
+        (λ i l.
+        let less : i < wordCount = omega (arith, words-count wordCount after (0 + wordCount * q) in-after) in
+        words-at wordCount after (0 + wordCount * q) in-after i less
+        ∙ c .front (0 + wordCount * q + i) (omega arith)
+        ∙ ap (λ (k : ℕ). getD room k 0) (omega arith)
+        ∙ sym (words-at wordCount room (base + wordCount * q) in-room i less))
+
+    number : (q : ℕ) → q < n → Holds (num base room q) (entry 0 after q)
+    number q h =
+        let inside : 0 + wordCount * q + wordCount ≤ length after = omega (arith, c .kept) in
+        record {
+          count = words-count wordCount after (0 + wordCount * q) inside;
+          small = words-small-at wordCount after (0 + wordCount * q) inside (λ i l. c .small (0 + wordCount * q + i) (omega arith));
+          worth = ap value (same q h);
+        }
 
 -- ---- a part that is lent
 

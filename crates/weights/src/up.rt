@@ -14,10 +14,10 @@ use in_place::product::multiply_at;
 use in_place::sum::Shifted;
 use in_place::sum::add_shifted;
 use in_place::sum::words_for;
+use in_place::words::blank;
 use levels::head_of;
 use levels::next_of;
 use naturals::power_of_two;
-use naturals::zero;
 ghost use Prim.Native.Nat.{_+_, _*_, _≤_, suc};
 ghost use lib.ListN.{length};
 ghost use Rattle.naturals.specs.Natural.{wordCount};
@@ -86,11 +86,7 @@ fn empty(room: &mut [u32], nodes: usize, base: usize)
     requires { ⌜ (nodes ≤ maxNodes) × (base + wordCount * nodes ≤ length (now room)) ⌝ }
     ensures { λ _. ⌜ Emptied base (now (room .entry)) nodes (now (room .exit)) ⌝ }
 {
-    let mut p = 0;
-    while p < nodes {
-        note(room, base, BddPointer(p as u32), zero());
-        p += 1;
-    }
+    blank(room, base, naturals::WORDS * nodes);
 }
 
 // At first the root alone has received: one for each valuation of the variables before its own.

@@ -1,6 +1,5 @@
 // The count of an ordered diagram and the weights of its nodes, in the working room: behind the chains' links and the counts.
 use crate::up::pass_all;
-use counts::table::count_at;
 use counts::table::note;
 use counts::total::total;
 use diagram::node::BddPointer;
@@ -12,7 +11,6 @@ ghost use lib.ListN.{length};
 ghost use Rattle.naturals.specs.Natural.{wordCount, Holds};
 ghost use Rattle.diagram.specs.Limits.{maxNodes};
 ghost use Rattle.diagram.specs.Valuations.{countOf};
-ghost use Rattle.counts.specs.Table.{In, num};
 ghost use Rattle.weights.specs.Passes.{weightsFrom, weightsTo, Rising, Tables, Weighable, Both, Standing, Handed};
 
 // Words of the room for each node: a link and a count, and behind all of these a weight.
@@ -54,23 +52,15 @@ pub fn count_and_weigh(words: &[u32], room: &mut [u32], nodes: usize, vars: u32)
     passes(words, &mut room[..used], nodes, vars)
 }
 
-// The weight of a node, from the room.
-fn weight_at(room: &[u32], nodes: usize, node: BddPointer) -> Natural
-    requires { ⌜ In (weightsFrom nodes) (now room) (node .0) ⌝ }
-    ensures { λ r. ⌜ Holds (num (weightsFrom nodes) (now (room .entry)) (node .0)) (r .words) ⌝ }
-{
-    count_at(room, BEFORE * nodes, node)
-}
-
-// Copies the weights from the room to the output.
+// Copies the weights from the room to the output: all words as they stand.
 pub fn hand_over(room: &[u32], output: &mut [u32], nodes: usize)
     requires { ⌜ (nodes ≤ maxNodes) × (weightsTo nodes ≤ length (now room)) × (wordCount * nodes ≤ length (now output)) ⌝ }
     ensures { λ _. ⌜ Handed (weightsFrom nodes) (now (room .entry)) (now (output .entry)) nodes (now (output .exit)) ⌝ }
 {
-    let mut p = 0;
-    while p < nodes {
-        let node = BddPointer(p as u32);
-        note(output, 0, node, weight_at(room, nodes, node));
-        p += 1;
+    let base = BEFORE * nodes;
+    let mut i = 0;
+    while i < naturals::WORDS * nodes {
+        output[i] = room[base + i];
+        i += 1;
     }
 }
