@@ -1,6 +1,6 @@
 #!/usr/bin/env bash
 # All tests: the layout of every file; the papers held to the crates; every crate proved from nothing, every must-fail edit refused, every test program
-# run and its output compared (rt ci); then, over the same proofs, the programs on stored inputs, the archive for C and
+# run and its output compared (rt ci); then, over the same proofs, the programs on stored inputs, the evening script, the archive for C and
 # Rust, the C test, the replay of stored requests and the Rust crate's tests. Each of these counts as one beside what rt ci counts.
 # The last line is 'N passed, M failed'; the exit status is 0 only where M is 0.
 # A missing C compiler, cargo or python3 is said; what needs it is not run and not counted, and does not fail the others.
@@ -95,6 +95,7 @@ else
 fi
 if gate; then
     step "programs" bash tests/programs.sh target/bin
+    step "evening" bash tests/evening.sh target/bin
     step "archive for C and Rust" make_archive
     if [ ! -f "$archive" ]; then
         leave_out "the C test, the replay and the Rust tests: there is no archive"
@@ -112,7 +113,7 @@ if gate; then
         fi
     fi
 else
-    leave_out "the programs, the archive, the C test, the replay and the Rust tests: rt ci failed"
+    leave_out "the programs, the evening, the archive, the C test, the replay and the Rust tests: rt ci failed"
 fi
 
 [ -z "$left_out" ] || echo "${left_out#?}"

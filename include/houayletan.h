@@ -6,9 +6,9 @@
  * Nodes may stand in any order, equal nodes and nodes with low = high are taken.
  * A valuation's path starts at the root and follows low for 0, high for 1; the diagram holds where the path ends at node 1.
  *
- * Any words may be offered: what is no diagram is refused, with a number and a place. Lengths are counted in words. A
- * pointer is not null, also where its length is 0, points to that many words, and what a call writes to does not overlap
- * what it reads. Nothing is allocated and nothing is kept between calls; calls with buffers of their own may run in
+ * Any words may be offered: what is no diagram is refused, with a number and a place. Lengths are counted in words, those of
+ * bytes in bytes. A pointer is not null, also where its length is 0, points to that many, and what a call writes to does not
+ * overlap what it reads. Nothing is allocated and nothing is kept between calls; calls with buffers of their own may run in
  * several threads. Link target/staticlib/libhouayletan.a (x86-64).
  *
  * Below, n is the number of nodes of the input and m the larger of n and 2.
@@ -49,6 +49,21 @@
  *
  * Of 8, 9 and 10 the first faulty node is reported, and in it the variable, then low, then high. Of 11 and 17 likewise: the
  * node is chosen first, then its low child comes before its high child.
+ *
+ * A node file is HOUAYLETAN_BYTES_PER_NODE bytes for each node, in the order of the nodes: variable (2), low link (4), high
+ * link (4), each least byte first, with nothing before, between or after them; 1 to HOUAYLETAN_NODES nodes. Reading and writing
+ * take any words, diagram or not, and refuse with these numbers, in the order in which the checks run; writing has 1 and 2 before
+ * them.
+ *
+ *   no.  given when                                                     place
+ *   51   reading: the file is empty                                     0
+ *   53   more than HOUAYLETAN_NODES nodes                               0
+ *   52   reading: the length of the file is not a multiple of ten       0
+ *   54   the output, or the buffer for the file, is too short           0
+ *   55   writing: a variable is over 65,535                             the first such node
+ *
+ * For 53 the whole nodes of a file are counted: one to nine bytes more than HOUAYLETAN_BYTES(HOUAYLETAN_NODES) are refused 52, and
+ * any longer file 53. So whoever reads from a stream has to look at HOUAYLETAN_BYTES(HOUAYLETAN_NODES + 1) bytes and no more.
  */
 #ifndef HOUAYLETAN_H
 #define HOUAYLETAN_H
@@ -65,6 +80,9 @@ extern "C" {
 #define HOUAYLETAN_ROOM(n) (HOUAYLETAN_ROOM_PER_NODE * ((size_t)(n) < 2 ? (size_t)2 : (size_t)(n)))
 #define HOUAYLETAN_OUTPUT(n) (3 * ((size_t)(n) < 2 ? (size_t)2 : (size_t)(n)))
 #define HOUAYLETAN_WEIGHTS(n) (HOUAYLETAN_COUNT_WORDS * (size_t)(n))
+
+/* The bytes of a node file of n nodes. */
+#define HOUAYLETAN_BYTES(n) (HOUAYLETAN_BYTES_PER_NODE * (size_t)(n))
 
 /* The functions' names for the linker: what was compiled against an older header does not link. They ended in nothing at first; in 2
  * those of the four cuts to a target, when these took as_is; in 3 all, when a count got sixteen words, and structs, rooms and
@@ -92,6 +110,8 @@ extern "C" {
 #define houayletan_overapproximate_to_size HOUAYLETAN_LINKED(houayletan_overapproximate_to_size)
 #define houayletan_underapproximate_to_cardinality HOUAYLETAN_LINKED(houayletan_underapproximate_to_cardinality)
 #define houayletan_overapproximate_to_cardinality HOUAYLETAN_LINKED(houayletan_overapproximate_to_cardinality)
+#define houayletan_read_as_bytes HOUAYLETAN_LINKED(houayletan_read_as_bytes)
+#define houayletan_write_as_bytes HOUAYLETAN_LINKED(houayletan_write_as_bytes)
 
 /* number 0: accepted, with the counts of nodes and of variables, and place 0.
  * Any other number: refused; place is as in the table, nodes and vars are 0. */
@@ -215,6 +235,22 @@ HouayletanApproximation houayletan_underapproximate_to_cardinality(const uint32_
                                                                    uint32_t *room, size_t room_len, uint32_t *output, size_t output_len);
 HouayletanApproximation houayletan_overapproximate_to_cardinality(const uint32_t *words, size_t words_len, HouayletanNatural target, uint32_t as_is,
                                                                   uint32_t *room, size_t room_len, uint32_t *output, size_t output_len);
+
+/* What reading or writing a node file says. number 0: done, with the number of nodes, and place 0. Any other number: refused; place is
+ * as in the table, nodes is 0. */
+typedef struct {
+    uint32_t number;
+    size_t place;
+    size_t nodes;
+} HouayletanStored;
+
+/* The nodes of a node file, three words each, in the first words of an output of at least 3 x nodes; whether they are a diagram is not
+ * looked at. A refusal leaves the output as it was, an answer leaves it as it was beyond the nodes. Refusals: 51, 53, 52, 54. */
+HouayletanStored houayletan_read_as_bytes(const uint8_t *bytes, size_t bytes_len, uint32_t *output, size_t output_len);
+
+/* The node file of any words, in the first of at least HOUAYLETAN_BYTES(nodes) bytes. A refusal leaves the bytes as they were, an answer
+ * leaves them as they were beyond the file. Refusals: 1, 2, 53, 54, 55. */
+HouayletanStored houayletan_write_as_bytes(const uint32_t *words, size_t words_len, uint8_t *bytes, size_t bytes_len);
 
 #ifdef __cplusplus
 }

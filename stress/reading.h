@@ -1,4 +1,4 @@
-/* The table of refusals of include/houayletan.h, the reduced diagram and when a target is met, read on their own in C. */
+/* The tables of refusals of include/houayletan.h, the reduced diagram and when a target is met, read on their own in C. */
 #ifndef READING_H
 #define READING_H
 
@@ -140,6 +140,27 @@ static inline Refused reading_argument(const Operation *o, const Request *q) {
         int to_all = compare_counts(q->target, all);
         if (over && to_all > 0) return (Refused){16, 0};
         if (n == (over ? 1 : 2) && to_all < 0 && compare_counts(q->target, none) > 0) return (Refused){19, 0};
+    }
+    return (Refused){0, 0};
+}
+
+/* The rows of node files: of bytes to be read to an output, and of words to be written to a buffer. */
+static inline Refused reading_bytes(size_t len, size_t output) {
+    if (len == 0) return (Refused){51, 0};
+    if (len >= HOUAYLETAN_BYTES(HOUAYLETAN_NODES + 1)) return (Refused){53, 0};
+    if (len % HOUAYLETAN_BYTES_PER_NODE) return (Refused){52, 0};
+    if (output < 3 * (len / HOUAYLETAN_BYTES_PER_NODE)) return (Refused){54, 0};
+    return (Refused){0, 0};
+}
+
+static inline Refused reading_words(const uint32_t *w, size_t len, size_t bytes) {
+    size_t n = len / 3;
+    if (len == 0) return (Refused){1, 0};
+    if (len % 3) return (Refused){2, 0};
+    if (n > HOUAYLETAN_NODES) return (Refused){53, 0};
+    if (bytes < HOUAYLETAN_BYTES(n)) return (Refused){54, 0};
+    for (size_t p = 0; p < n; p++) {
+        if (w[3 * p] > UINT16_MAX) return (Refused){55, p};
     }
     return (Refused){0, 0};
 }

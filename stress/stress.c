@@ -1,14 +1,15 @@
 /* Random and damaged words through the C interface, with guard words around every lent buffer:
  *
  *     stress SEED REQUESTS [GUARD]   GUARD words on each side, 16 unless given; 0 for a memory checker, which sees the first
- *                                    word beyond a buffer by itself
+ *                                    word beyond a buffer by itself; and a quarter as many node files more, with guard bytes
  *     stress deep                    the longest paths, each operation on a stack of its own: how many bytes of it are used
  *
  * Of every call: guard words, input, room and output as the header says; number and place as a reading of the table says; and
  * of an answer what can be seen from outside (a result is accepted, a cut goes the right way and meets its target; reduced where it
  * must be, by a reduction of its own, and the input's words where as_is keeps them; node 0 weighs nothing, node 1 and the root as
- * much as the count, which the count and weights together give too, and no node more). */
-#include "../tests/c/lent.h"
+ * much as the count, which the count and weights together give too, and no node more). Of every node file: guards, input and what is
+ * beyond the result; number and place; words and bytes by another way of reading them; and the way back. */
+#include "../tests/c/files.h"
 #include "reading.h"
 #include <pthread.h>
 
@@ -155,6 +156,7 @@ static void any_target(const Operation *o, size_t n, uint32_t v, uint32_t *targe
 static uint32_t any_flag(void) { return one_in(2) ? 0 : one_in(2) ? 1 : one_in(2) ? (uint32_t)1 << below(32) : (uint32_t)next(); }
 
 static unsigned long made, refused[32];
+static unsigned long files, file_refused[2][64]; /* of reading and of writing, by number */
 static unsigned long kept, reduced, reworded; /* of the targets that the array meets: with as_is, without, and without to other words */
 static unsigned long many_vars, wide_counts, wide_targets; /* of the answers: more variables, or more words, than there were at first */
 
@@ -295,6 +297,99 @@ static void one_request(size_t guard) {
     give_back(&l);
 }
 
+/* ---- node files */
+
+#define MOST_BYTES HOUAYLETAN_BYTES(HOUAYLETAN_NODES)
+static uint8_t bytes[MOST_BYTES + 64];
+
+/* Words as a file, their variables cut to two bytes. */
+static size_t file_of(size_t len) {
+    static const int shifts[HOUAYLETAN_BYTES_PER_NODE] = {0, 8, 0, 8, 16, 24, 0, 8, 16, 24};
+    size_t n = len / 3 < HOUAYLETAN_NODES ? len / 3 : HOUAYLETAN_NODES;
+    for (size_t i = 0; i < HOUAYLETAN_BYTES(n); i++) {
+        size_t at = i % HOUAYLETAN_BYTES_PER_NODE;
+        bytes[i] = (uint8_t)(words[3 * (i / HOUAYLETAN_BYTES_PER_NODE) + (at < 2 ? 0 : at < 6 ? 1 : 2)] >> shifts[at]);
+    }
+    return HOUAYLETAN_BYTES(n);
+}
+
+/* A diagram's file, whole, damaged, cut or with bytes more; any bytes; or as many as are about the limit. */
+static size_t any_bytes(void) {
+    size_t len = file_of(any_words());
+    if (one_in(500)) len = MOST_BYTES - 12 + below(36);
+    else if (one_in(6)) len = below(60);
+    else if (one_in(6) && len) len -= 1 + below(len < 12 ? len : 12);
+    else if (one_in(6) && len < MOST_BYTES) len += 1 + below(12);
+    else if (one_in(3) && len) bytes[below(len)] ^= (uint8_t)(1u << below(8));
+    if (one_in(4)) {
+        for (size_t i = 0; i < len; i++) bytes[i] = (uint8_t)next();
+    }
+    return len;
+}
+
+/* A diagram's words, whole or damaged, any words, or as many as are about the limit; now and then with a variable that is too wide. */
+static size_t any_file_words(void) {
+    size_t len = one_in(500) ? 3 * (HOUAYLETAN_NODES - 1) + below(9) : any_words();
+    if (one_in(4)) {
+        for (size_t i = 0; i < len; i++) words[i] = (uint32_t)next() >> (i % 3 == 0 ? 16 : 0);
+    }
+    if (one_in(6) && len >= 3) words[3 * below(len / 3)] = UINT16_MAX + (uint32_t)below(3);
+    return len;
+}
+
+static void stop_file(const FileLoan *l, const HouayletanStored *r, Refused expected, const char *fault) {
+    printf("FAILED: %s: %s\n  expected %u at %zu, got %u at %zu, %zu nodes; %zu words, %zu bytes;", l->writes ? "write_as_bytes" : "read_as_bytes", fault,
+           expected.number, expected.place, r->number, r->place, r->nodes, l->words.len, l->bytes.len);
+    for (size_t i = 0; i < (l->writes ? l->words.len : l->bytes.len); i++) printf(" %u", l->writes ? words[i] : bytes[i]);
+    printf("\n");
+    exit(1);
+}
+
+/* What was read is written again, and what was written read again: the input comes back. */
+static const char *wrong_way_back(const FileLoan *l, size_t n) {
+    static uint32_t words_back[3 * HOUAYLETAN_NODES];
+    static uint8_t bytes_back[MOST_BYTES];
+    if (l->writes) {
+        HouayletanStored r = houayletan_read_as_bytes(l->bytes.bytes, HOUAYLETAN_BYTES(n), words_back, 3 * n);
+        return r.number || memcmp(words_back, words, 12 * n) ? "what was written doesn't read back" : NULL;
+    }
+    HouayletanStored r = houayletan_write_as_bytes(l->words.words, 3 * n, bytes_back, HOUAYLETAN_BYTES(n));
+    return r.number || memcmp(bytes_back, bytes, HOUAYLETAN_BYTES(n)) ? "what was read doesn't come back as it was" : NULL;
+}
+
+static void check_file(const FileLoan *l, const HouayletanStored *r) {
+    Refused expected = l->writes ? reading_words(words, l->words.len, l->bytes.len) : reading_bytes(l->bytes.len, l->words.len);
+    const char *fault = wrong_file(l, r, l->writes ? (const void *)words : bytes);
+    if (!fault && (r->number != expected.number || r->place != expected.place)) fault = "another answer";
+    if (!fault && !r->number) fault = wrong_way_back(l, r->nodes);
+    if (fault) stop_file(l, r, expected, fault);
+    files++;
+    file_refused[l->writes][expected.number]++;
+}
+
+static void one_file(size_t guard) {
+    bool writes = one_in(2);
+    size_t len = writes ? any_file_words() : any_bytes();
+    size_t lent = any_length(writes ? HOUAYLETAN_BYTES(len / 3) : 3 * (len / HOUAYLETAN_BYTES_PER_NODE));
+    uint32_t seed = (uint32_t)next();
+    FileLoan l = writes ? loan_to_write(words, len, lent, seed, guard) : loan_to_read(bytes, len, lent, seed, guard);
+    HouayletanStored r = call_file(&l);
+    check_file(&l, &r);
+    give_file_back(&l);
+}
+
+static void tell_files(void) {
+    static const char *const names[] = {"read", "written"};
+    printf("node files: %lu, 0 failed", files);
+    for (int writes = 0; writes < 2; writes++) {
+        printf("; %s %lu, refused", names[writes], file_refused[writes][0]);
+        for (int i = 1; i < 64; i++) {
+            if (file_refused[writes][i]) printf(" %d: %lu", i, file_refused[writes][i]);
+        }
+    }
+    printf("\n");
+}
+
 /* ---- the longest paths */
 
 /* A level for each variable, columns and a tree above them: as many nodes as are taken. Each column goes to itself and to the next one. Order 0:
@@ -360,6 +455,14 @@ static void *on_own_stack(void *unused) {
     return unused;
 }
 
+static FileLoan deep_file;
+static HouayletanStored deep_stored;
+
+static void *file_on_own_stack(void *unused) {
+    deep_stored = call_file(&deep_file);
+    return unused;
+}
+
 static size_t stack_used(void (*start)(void)) {
     memset(stack, 0xC3, STACK);
     start();
@@ -409,7 +512,16 @@ static int deep(void) {
         }
         printf("  %-32s %zu\n", o->name, most > idle ? most - idle : 0);
     }
-    printf("stress deep: %lu calls, %lu of them to a target that is met, 0 failed\n", made, reduced);
+    thread_body = file_on_own_stack;
+    for (int writes = 0; writes < 2; writes++) {
+        size_t len = ladder(0, 0), file_len = file_of(len);
+        deep_file = writes ? loan_to_write(words, len, file_len, 77, 16) : loan_to_read(bytes, file_len, len, 77, 16);
+        size_t used = stack_used(start_thread);
+        check_file(&deep_file, &deep_stored);
+        give_file_back(&deep_file);
+        printf("  %-32s %zu\n", writes ? "write_as_bytes" : "read_as_bytes", used > idle ? used - idle : 0);
+    }
+    printf("stress deep: %lu calls, %lu of them to a target that is met, 0 failed; node files: %lu, 0 failed\n", made, reduced, files);
     return 0;
 }
 
@@ -423,6 +535,7 @@ int main(int argc, char **argv) {
     unsigned long requests = strtoul(argv[2], NULL, 10);
     size_t guard = argc > 3 ? strtoul(argv[3], NULL, 10) : 16;
     while (made < requests) one_request(guard);
+    while (files < requests / 4) one_file(guard);
     printf("targets that the array meets: %lu with as_is; %lu without, %lu of these to other words\n", kept, reduced, reworded);
     printf("answered with more than %d variables: %lu; of 2^%d or more: %lu counts, %lu targets\n", FIRST_VARS, many_vars, 32 * FIRST_WORDS,
            wide_counts, wide_targets);
@@ -431,5 +544,6 @@ int main(int argc, char **argv) {
         if (refused[i]) printf(" %d: %lu", i, refused[i]);
     }
     printf("\n");
+    tell_files();
     return 0;
 }

@@ -1,11 +1,13 @@
 """Writes crates/blocks_run/stdin and stdout: files, whole and damaged, texts and reports, and what document 01 says of
-each; crates/weigh/stdin and stdout; and the files of examples/."""
+each; crates/weigh/stdin and stdout; and the files of examples/, node files among them."""
 import os
 import random
 
 import block
+import node_file
+import plant
 from diagram_cases import D, HALF, ladder, terminals, widened
-from limits import BLOCK, BLOCK_NODES, COUNT, FILE_NODES, MAX_VARS, ROOM
+from limits import BLOCK, BLOCK_NODES, COUNT, FILE_NODES, MAX_NODES, MAX_VARS, ROOM
 from reading import nodes, verdict
 from weights_cases import by_chances, count_of
 
@@ -25,6 +27,7 @@ SENTENCES = {
     16: 'the count to reach is above the number of all valuations', 17: 'node %d has a high child that is not at a larger variable', 18: 'no answer has so few nodes; 2 are always enough', 19: "a constant can't be cut to a count between 0 and the number of all valuations",
     21: 'a block is short or missing, or bytes stand after the last one', 22: 'a check sum is wrong',
     23: 'a block number, a node count or the order of blocks is wrong', 24: 'unused bytes are not zero', 25: 'there are more than %s nodes' % FILE_NODES,
+    51: 'the file is empty', 52: 'the length of the file is not a multiple of ten bytes', 53: 'there are more than %s nodes' % MAX_NODES,
 }
 
 
@@ -33,18 +36,17 @@ def refused_line(number, place):
     return 'refused %d at %d: %s\n' % (number, place, sentence % place if '%d' in sentence else sentence)
 
 
-
 def said(answer):
     return 'nodes %d' % answer[1] if answer[0] == 'nodes' else 'refused %d at %d' % answer[1:]
 
 
-def report(data):
+def report(data, reader=block.reader):
     """What the program prints."""
-    answer, output = block.reader(data, [0] * FILE_WORDS)
+    answer, output = reader(data, [0] * 3 * MAX_NODES)
     if answer[0] == 'refused':
         return said(answer) + '\n'
     words = output[:3 * answer[1]]
-    judged = verdict(words, ROOM * FILE_NODES, ('weights', COUNT * FILE_NODES))
+    judged = verdict(words, ROOM * MAX_NODES, ('weights', COUNT * MAX_NODES))
     if judged[0] == 'refused':
         return 'refused %d at %d\n' % judged[1:]
     weights = by_chances(words)
@@ -178,6 +180,13 @@ def reported():
         yield data
 
 
+def node_files():
+    """The same diagrams as node files, and files that are none."""
+    for words in (D, [3, 0, 0], chain(50), filled(), D[:12] + [0, 2, 4], [9, 8, 7]):
+        yield node_file.write(words)
+    yield from (b'', node_file.write(D)[:-1], node_file.write(D) + b'\0', block.write(D)[0])
+
+
 def texts():
     decimals = ['0', '1', '9', '10', '4294967295', '4294967296', '99999999999999999999', '', '00', '01', '1a', 'a', ' 1', '1 ', '-1', '/', ':', '007']
     wide = [MIDDLE - 1, MIDDLE, MIDDLE + 1, 16 * MIDDLE - 1, 2 ** MAX_VARS - 1, 2 ** MAX_VARS, 2 ** MAX_VARS + 1, LIMIT // 3, LIMIT - 1, LIMIT, LIMIT + 1, LIMIT + 12345]
@@ -216,7 +225,10 @@ def main():
     for data in reported():
         cases.append([2, 0, 0, *data])
         answers.append(report(data))
-    for number in list(range(28)) + [2 ** 32 - 1]:
+    for data in node_files():
+        cases.append([2, 1, 0, *data])
+        answers.append(report(data, node_file.reader))
+    for number in [*range(28), *range(50, 57), 2 ** 32 - 1]:
         cases.append([7, 4095, number])
         answers.append(refused_line(number, 4095))
     for kind, text, answer in texts():
@@ -233,10 +245,16 @@ def main():
         f.write(whole)
     with open(os.path.join(TOP, 'crates', 'weigh', 'stdout'), 'w') as f:
         f.write(report(whole))
+    # as docs/NODE-FILES.md has it by hand
+    assert node_file.write(D) == bytes.fromhex('03000000000000000000 03000100000001000000 02000000000001000000 01000200000001000000 00000200000003000000')
     examples = os.path.join(TOP, 'examples')
     os.makedirs(examples, exist_ok=True)
-    for name, data in (('D', whole), ('chain120', b''.join(block.write(chain(FILE_NODES)))), ('damaged', changed(whole, 30, whole[30] ^ 4)), ('false', block.write([3, 0, 0])[0])):
-        with open(os.path.join(examples, name + '.block'), 'wb') as f:
+    made = {
+        'D.block': whole, 'chain120.block': b''.join(block.write(chain(FILE_NODES))), 'damaged.block': changed(whole, 30, whole[30] ^ 4), 'false.block': block.write([3, 0, 0])[0],
+        'D.bdd': node_file.write(D), 'cut-short.bdd': node_file.write(D)[:-1], 'pump-trips.bdd': node_file.write(plant.pump_trips()),
+    }
+    for name, data in made.items():
+        with open(os.path.join(examples, name), 'wb') as f:
             f.write(data)
     print(len(cases), 'cases')
 

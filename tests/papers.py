@@ -187,6 +187,8 @@ NUMBERS = [
     ("crates/blocks/src/layout.rt", "BLOCK", "crates/blocks/specs/Block.antt", "blockBytes", "bytes of a block", None, None, "BLOCK"),
     ("crates/blocks/src/layout.rt", "NODES", "crates/blocks/specs/Block.antt", "blockNodes", "nodes in a block, at most", None, None, "BLOCK_NODES"),
     ("crates/blocks/src/layout.rt", "MOST", "crates/blocks/specs/Block.antt", "maxStored", "nodes in a block file, at most", None, None, "FILE_NODES"),
+    ("crates/blocks/src/layout.rt", "PLACE", "crates/blocks/specs/Block.antt", "placeBytes", "bytes of a node in a file", "HOUAYLETAN_BYTES_PER_NODE", "BYTES_PER_NODE", "NODE_BYTES"),
+    (LIMITS, "MAX_NODES", "crates/diagram/specs/Limits.antt", "maxNodes", "nodes in a node file, at most"),
 ]
 for code, name, definitions_file, defined_as, ruled, *outside in NUMBERS:
     places = [(code, CODE, name), (definitions_file, SAID, defined_as), (RULES, RULED, ruled)]
@@ -208,14 +210,16 @@ def section(text, heading):
 
 
 ROW, CONSTANT = r"^\| (\d+) \| ", r"^pub const \w+: u32 = (\d+);$"
-ruled, stored = (numbers(ROW, section(text_of(RULES), heading)) for heading in ("Refusals", "Refusals of block files"))
+ruled, stored, filed = (numbers(ROW, section(text_of(RULES), heading)) for heading in ("Refusals", "Refusals of block files", "Refusals of node files"))
 own = ruled[:ruled.index(12) + 1]
 for path, found, said in [
     ("crates/diagram/src/refusal.rt", sorted(numbers(CONSTANT, text_of("crates/diagram/src/refusal.rt"))), sorted(ruled)),
     ("crates/diagram/specs/Verdict.antt", numbers(r"\brow (\d+) ", text_of("crates/diagram/specs/Verdict.antt")), own),
-    ("include/houayletan.h", numbers(r"^ \*   {,2}(\d+)   ", text_of("include/houayletan.h")), ruled),
-    ("bindings/rust/src/refusal.rs", sorted(numbers(r"^            (\d+) => ", text_of("bindings/rust/src/refusal.rs"))), sorted(ruled)),
+    ("include/houayletan.h", numbers(r"^ \*   {,2}(\d+)   ", text_of("include/houayletan.h")), ruled + filed),
+    ("bindings/rust/src/refusal.rs", sorted(numbers(r"^            (\d+) => ", text_of("bindings/rust/src/refusal.rs"))), sorted(ruled + filed)),
     ("crates/blocks/src/stored.rt", sorted(numbers(CONSTANT, text_of("crates/blocks/src/stored.rt"))), sorted(set(stored) - set(ruled))),
+    ("crates/node_file/src/layout.rt", sorted(numbers(CONSTANT, text_of("crates/node_file/src/layout.rt"))), sorted(filed)),
+    ("crates/node_file/specs/NodeFile.antt", numbers(r"\brow (\d+) ", text_of("crates/node_file/specs/NodeFile.antt")), filed[:-1] + ruled[:2] + filed[-1:]),
 ]:
     if found != said:
         amiss.append(f"{RULES} has the refusals {said}, {path} has {found}")

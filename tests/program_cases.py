@@ -1,19 +1,25 @@
 """Writes tests/programs: for each case NAME.call (the program and its words, one to a line), NAME.in, NAME.out and NAME.err, which
-tests/programs.sh holds the built programs to. Block files by block.py, reports by blocks_cases.py, cuts by cuts_cases.py:
-readings of document 01 that share nothing with the code.
+tests/programs.sh holds the built programs to. Inputs of which several cases take the first bytes stand once, and NAME.from in place of NAME.in has
+the file and the number of bytes; of a very long output NAME.sum in place of NAME.out has the SHA-256 sum. Block files by block.py, node files by node_file.py, reports by blocks_cases.py, cuts by cuts_cases.py:
+readings of the papers that share nothing with the code.
 
     python3 tests/program_cases.py"""
+import hashlib
 import os
+import random
+import sys
 
 import block
+import node_file
+import plant
 from blocks_cases import SENTENCES, chain, changed, filled, longest, refused_line, report, resummed
 from cuts_cases import count, count_words, cuts, flat, refusal
-from diagram_cases import D, HALF, terminals, widened
-from limits import BLOCK, COUNT, FILE_NODES, MAX_VARS, ROOM
-from reading import nodes
+from diagram_cases import D, HALF, crowded, terminals, widened
+from limits import BLOCK, COUNT, FILE_NODES, MAX_NODES, MAX_VARS, NODE_BYTES, ROOM
+from reading import nodes, verdict
 
 FOLDER = os.path.join(os.path.dirname(os.path.abspath(__file__)), 'programs')
-UNKNOWN = b'shrink: the words are keep or suppress, size or cases or hex, a number, and as-is where it is wanted; shrink alone prints its help\n'
+UNKNOWN = b'shrink: the words are nodes where it is a node file, keep or suppress, size or cases or hex, a number, and as-is where it is wanted; shrink alone prints its help\n'
 WHICH = b'shrink: count does not say which base its number is in: write cases for decimal, hex for hexadecimal\n'
 HELP = b"""shrink keep size N       at most N nodes: cases are added until it fits
 shrink keep cases N      at least N cases
@@ -22,18 +28,36 @@ shrink suppress size N   at most N nodes: cases are lost until it fits
 shrink suppress cases N  at most N cases
 shrink suppress hex N    at most N cases, N in hexadecimal as weigh prints it
 A condition that fits already loses no case and gains none, and comes out in the fewest nodes; as-is after N leaves its nodes as they are.
-Reads a block file on standard input and writes it cut to fit to standard output, the summary to standard error.
+Reads a block file on standard input and writes it cut to fit to standard output, the summary to standard error; shrink nodes .. does the same with a node file, of up to 4096 nodes.
 keep only adds cases, suppress only loses them. Numbers are decimal but for hex, with no zeros in front.
+"""
+WEIGH_UNKNOWN = b'weigh: the word is nodes for a node file; without a word it is a block file\n'
+CONVERT_UNKNOWN = b'convert: the words are blocks to nodes, or nodes to blocks; convert alone prints its help\n'
+CONVERT_HELP = b"""convert blocks to nodes   a block file to a node file
+convert nodes to blocks   a node file of at most 120 nodes to a block file
+Reads standard input and writes standard output. What is not a diagram is refused.
 """
 FALSE, TRUE = [3, 0, 0], [3, 0, 0, 3, 1, 1]
 NONE = TRUE + [1, 0, 0]                                 # false, in three nodes
 DEAD = TRUE + [2, 0, 1, 1, 2, 2, 2, 0, 1, 0, 3, 4]      # x2, in six nodes: a node twice, and two with low = high
 # The longest word that the program looks at: as many digits as a count may have.
 WORD = 10 * COUNT
+# Inputs up to so many bytes stand with their case, and so do outputs.
+SMALL, LARGE = 6 * BLOCK, 2 ** 19
 
 
 def file_of(words):
     return b''.join(block.write(words))
+
+
+# Reader and writer of each form.
+FORMS = {'blocks': (block.reader, file_of), 'nodes': (node_file.reader, node_file.write)}
+
+
+def read(form, data):
+    """(answer, words): the words only where the reader doesn't refuse."""
+    answer, output = FORMS[form][0](data, [0] * 3 * MAX_NODES)
+    return answer, output[:3 * answer[1]] if answer[0] == 'nodes' else None
 
 
 def refused(number, place):
@@ -44,17 +68,16 @@ def twice(n):
     return '%d (hex %x)' % (n, n)
 
 
-def shrunk(direction, kind, target, data, as_is=False):
+def shrunk(direction, kind, target, data, as_is=False, form='blocks'):
     """Standard output and standard error."""
-    answer, output = block.reader(data, [0] * 3 * FILE_NODES)
+    answer, words = read(form, data)
     if answer[0] == 'refused':
         return refused(*answer[1:])
-    words = output[:3 * answer[1]]
     counted = kind != 'size'
     letter = {('suppress', False): 's', ('keep', False): 't', ('suppress', True): 'c', ('keep', True): 'd'}[direction, counted]
     letter = letter.upper() if as_is else letter
     wanted = count_words(target) if counted else [target]
-    said = refusal(letter, wanted, words, ROOM * FILE_NODES, 3 * FILE_NODES)
+    said = refusal(letter, wanted, words, ROOM * MAX_NODES, 3 * MAX_NODES)
     if said[0] == 'refused':
         return refused(*said[1:])
     made, trials = cuts(letter, wanted, words)
@@ -64,7 +87,19 @@ def shrunk(direction, kind, target, data, as_is=False):
     assert (new >= target if most == 'at least' else new <= target) if counted else len(made) <= target
     lines += ['nodes %d to %d' % (len(words) // 3, len(made)), 'cases %s to %s' % (twice(old), twice(new)),
               ('added ' if direction == 'keep' else 'lost ') + twice(new - old if direction == 'keep' else old - new), 'trials %d' % trials]
-    return file_of(flat(made)), ('\n'.join(lines) + '\n').encode()
+    return FORMS[form][1](flat(made)), ('\n'.join(lines) + '\n').encode()
+
+
+def converted(old, new, data):
+    """Standard output and standard error."""
+    answer, words = read(old, data)
+    if answer[0] == 'nodes':
+        answer = verdict(words, ROOM * MAX_NODES)
+    if answer[0] == 'accepted' and new == 'blocks':
+        answer = block.writer(words, BLOCK * len(words))[0]
+    if answer[0] == 'refused':
+        return refused(*answer[1:])
+    return FORMS[new][1](words), b'nodes %d\n' % answer[1]
 
 
 def weighed():
@@ -98,14 +133,17 @@ def wide_requests():
     yield from (('suppress', 'size', t, true) for t in (3, FILE_NODES))
 
 
+# An array for each of the diagram's own refusals that a file can meet.
+DIAGRAMS = {6: [3, 0, 0, 3, 1, 2], 7: [MAX_VARS + 1, 0, 0, MAX_VARS + 1, 1, 1], 8: TRUE + [3, 0, 1], 9: TRUE + [0, 3, 1], 10: TRUE + [0, 0, 3], 11: TRUE + [0, 2, 1],
+            12: TRUE + [2, 0, 1, 1, 0, 1], 17: TRUE + [0, 1, 2]}
+NODES_ONLY = {51, 52, 53}                               # refusals of the node file's reader
+
+
 def broken():
     """A file for each refusal that can come up, and the words of a request."""
     d, big = file_of(D), file_of(chain(FILE_NODES))
-    ends = TRUE
-    diagrams = {6: [3, 0, 0, 3, 1, 2], 7: [MAX_VARS + 1, 0, 0, MAX_VARS + 1, 1, 1], 8: ends + [3, 0, 1], 9: ends + [0, 3, 1], 10: ends + [0, 0, 3], 11: ends + [0, 2, 1],
-                12: ends + [2, 0, 1, 1, 0, 1]}
-    for number, words in diagrams.items():
-        yield number, 'keep', 'size', 4, file_of(words)
+    for number in range(6, 13):
+        yield number, 'keep', 'size', 4, file_of(DIAGRAMS[number])
     yield 16, 'keep', 'cases', 9, d
     yield 18, 'keep', 'size', 1, d
     yield 18, 'keep', 'size', 0, file_of(FALSE)
@@ -121,7 +159,7 @@ def broken():
     yield 23, 'keep', 'size', 4, resummed(changed(d, 0, 1))
     yield 24, 'keep', 'size', 4, resummed(changed(d, 503, 1))
     yield 25, 'keep', 'size', 4, b''.join(block.write(chain(FILE_NODES + 1)))
-    yield 17, 'suppress', 'size', 4, file_of(ends + [0, 1, 2])
+    yield 17, 'suppress', 'size', 4, file_of(DIAGRAMS[17])
 
 
 def asked():
@@ -141,7 +179,7 @@ def asked():
         seen.add(number)
         assert shrunk(*request)[1].startswith(b'refused %d at ' % number), (number, shrunk(*request))
         requests.append(tuple(request))
-    assert seen == set(SENTENCES) - {4}
+    assert seen == set(SENTENCES) - {4} - NODES_ONLY
     requests = [(*request, False) for request in requests]
     requests += [(*request[:4], True) for request in requests if request[3] in (d, file_of(DEAD)) and request[1] != 'hex' or request[0] == 'suppress' and request[3] == b'']
     requests += [(*request, as_is) for request in wide_requests() for as_is in ((False, True) if request[1:3] == ('size', FILE_NODES) else (False,))]
@@ -160,10 +198,121 @@ def asked():
     return requests, others
 
 
+def broad():
+    """The most nodes over the most variables, eight or nine at each from the fourth on: almost every weight has as many digits as one can have."""
+    rng = random.Random(1986)
+    sizes = [1, 2, 4] + [8] * (MAX_VARS - 3)
+    for i in range(MAX_NODES - 2 - sum(sizes)):
+        sizes[-1 - i] += 1
+    words, below = terminals(MAX_VARS), [0, 1]
+    for var in reversed(range(MAX_VARS)):
+        links = below + [rng.choice(below) for _ in range(2 * sizes[var] - len(below))]
+        rng.shuffle(links)
+        below = [len(words) // 3 + i for i in range(sizes[var])]
+        words += [x for i in range(sizes[var]) for x in (var, links[2 * i], links[2 * i + 1])]
+    assert len(words) == 3 * MAX_NODES
+    return words
+
+
+def shared():
+    """The inputs of which several cases take the first bytes: the most nodes with one more and a byte, the most variables, and both."""
+    return {'whole.bytes': node_file.write(plant.whole() + [0, MAX_NODES - 2, MAX_NODES - 1]) + b'\0', 'wide.bytes': node_file.write(plant.wide()),
+            'crowded.bytes': node_file.write(crowded()), 'broad.bytes': node_file.write(broad())}
+
+
+def lengths():
+    """Bytes around the reader's limits: of no node, of less than one, of the most and of more."""
+    bytes_ = shared()['whole.bytes']
+    most = NODE_BYTES * MAX_NODES
+    return {'%d-bytes' % n: bytes_[:n] for n in (0, 1, NODE_BYTES - 1, NODE_BYTES + 1, most - 1, most + 1, most + NODE_BYTES - 1, most + NODE_BYTES, most + NODE_BYTES + 1)}
+
+
+def node_files():
+    """Node files by name: right ones of each size, those that the reader refuses, those that are no diagram, and block files."""
+    large = 2 ** 32 - 1
+    found = {'D': D, 'false': FALSE, 'true': TRUE, 'none': NONE, 'dead': DEAD, '120': chain(FILE_NODES), '121': chain(FILE_NODES + 1), '4096': plant.whole(), 'broad': broad(), 'widest': filled()}
+    found.update(('refused-%02d' % number, words) for number, words in DIAGRAMS.items())
+    found.update({'far-variable': TRUE + [node_file.WIDEST, 0, 1], 'far-low': TRUE + [0, large, 1], 'far-high': TRUE + [0, 0, large], 'far-terminal': [3, 0, large], 'far-count': [node_file.WIDEST, 0, 0],
+                  '121-refused-12': chain(FILE_NODES) + chain(FILE_NODES)[-3:], '3000-refused-12': plant.whole()[:3 * 3000]})
+    found = {name: node_file.write(words) for name, words in found.items()}
+    return {**found, **lengths(), 'a-block': file_of(D), 'three-blocks': file_of(chain(FILE_NODES)), 'ten-blocks': 10 * file_of(D)}
+
+
+def node_requests():
+    """Requests over node files: (direction, kind, target, data, as_is)."""
+    near, both = lengths(), ('keep', 'suppress')
+    yield from ((a, 'size', 4, data, False) for name, data in node_files().items() for a in (both if name in near else both[:1]))
+    for words in (FALSE, TRUE, D, DEAD, NONE):
+        data = node_file.write(words)
+        yield from ((a, 'size', t, data, as_is) for a in both for t in (1, 2, 3, 2 ** 32 - 1) for as_is in (False, True)[:1 + (words in (D, DEAD))])
+        yield from ((a, b, t, data, False) for a in both for b in ('cases', 'hex')[:1 + (words == D)] for t in (0, 4, 5, 9))
+    for n in (FILE_NODES, FILE_NODES + 1):
+        yield from ((a, 'size', t, node_file.write(chain(n)), False) for a in both for t in (40, FILE_NODES, FILE_NODES + 1))
+    for words in (plant.whole(), plant.wide(), crowded()):
+        data, whole = node_file.write(words), count(nodes(words))
+        yield from ((a, 'size', 400, data, False) for a in both)
+        yield from (('keep', b, 6 * whole // 5, data, False) for b in ('cases', 'hex'))
+        yield from (('suppress', b, 7 * whole // 10, data, False) for b in ('cases', 'hex'))
+        yield 'keep', 'cases', 2 ** words[0] + 1, data, False
+    whole = node_file.write(plant.whole())
+    yield from (('suppress', 'size', t, whole, False) for t in (1, 2, 3, MAX_NODES - 1))
+    yield from (('suppress', 'size', MAX_NODES, whole, as_is) for as_is in (False, True))
+    yield 'keep', 'size', MAX_NODES, node_file.write(crowded()), True
+
+
+NODE_WORDS = [(w.split(), UNKNOWN) for w in (
+    'nodes keep', 'nodes keep size', 'nodes nodes', 'nodes nodes keep size 4', 'keep nodes size 4', 'keep size nodes 4', 'keep size 4 nodes', 'keep size 4 as-is nodes', 'nodes keep size 4 5',
+    'nodes keep size 4 as-is 5', 'nodes keep size 4 as-is as-is', 'nodes as-is keep size 4', 'nodes keep size 4 nodes', 'blocks keep size 4', 'node keep size 4', 'Nodes keep size 4', 'nodes grow size 4', 'nodes keep size 04',
+    'nodes keep hex 1F', 'nodes keep cases 1f', 'nodes keep size 4294967296', 'blocks', 'nodes as-is', 'keep keep size 4', 'nodes keep size nodes', 'nodes suppress size 4 asis', 'nodes keep count', 'nodes count 6',
+    'nodes grow count 6', 'keep keep size 4 as-is', 'size keep size 4 as-is')]
+NODE_WORDS += [(w, UNKNOWN) for w in (['nodes', ''], ['', 'keep', 'size', '4'], ['nodes', '', 'size', '4'], ['nodes', 'keep', 'size', ''], ['nodes' + WORD * 's', 'keep', 'size', '4'], [' nodes', 'keep', 'size', '4'],
+                                      ['nodes', 'keep', 'size', (WORD + 1) * '4'], ['nodes', 'keep', 'size', '4', ''], ['nodes' + WORD * 's'])]
+NODE_WORDS += [(['nodes'], HELP)] + [(w.split(), WHICH) for w in ('nodes keep count 6', 'nodes suppress count 1f', 'nodes keep count 6 as-is')]
+WEIGH_WORDS = [w.split() for w in ('blocks', 'node', 'Nodes', 'nodes nodes', 'nodes keep', 'keep size 4', 'D.bdd')] + [[''], ['nodes '], ['nodes', ''], ['', 'nodes'], ['nodes' + WORD * 's']]
+CONVERT_WORDS = [w.split() for w in ('blocks', 'nodes', 'blocks to', 'blocks to blocks', 'nodes to nodes', 'to nodes', 'nodes blocks', 'blocks into nodes', 'nodes to blocks nodes', 'Blocks to nodes', 'blocks to Nodes',
+                                     'block to node', 'to blocks nodes', 'blocks nodes to', 'nodes to blocks as-is', 'blocks To nodes')]
+CONVERT_WORDS += [[''], ['', '', ''], ['blocks', 'to', ''], ['blocks', '', 'nodes'], ['', 'to', 'blocks'], ['blocks to nodes'], ['blocks', 'to', 'nodes', ''], ['blocks' + WORD * 's', 'to', 'nodes'], ['nodes', 'to', 'blocks' + WORD * 's']]
+
+
+def node_cases():
+    """(name, call, input, standard output, standard error) of what the programs do with node files."""
+    d = node_file.write(D)
+    for name, data in node_files().items():
+        yield 'weigh-nodes-' + name, ['weigh', 'nodes'], data, report(data, node_file.reader).encode(), b''
+        yield 'convert-nodes-' + name, ['convert', 'nodes', 'to', 'blocks'], data, *converted('nodes', 'blocks', data)
+    for i, (direction, kind, target, data, as_is) in enumerate(dict.fromkeys(node_requests())):
+        words = ['shrink', 'nodes', direction, kind, '%x' % target if kind == 'hex' else '%d' % target] + ['as-is'] * as_is
+        yield 'shrink-nodes-%03d-%s-%s' % (i, direction, kind), words, data, *shrunk(direction, kind, target, data, as_is, 'nodes')
+    for name, data in {**weighed(), **{'51': file_of(chain(51)), 'node-file': d, 'dead': file_of(DEAD)}, **{'refused-%02d' % number: file_of(words) for number, words in DIAGRAMS.items()}}.items():
+        yield 'convert-blocks-' + name.replace('weigh-', ''), ['convert', 'blocks', 'to', 'nodes'], data, *converted('blocks', 'nodes', data)
+    # a node file where a block file is awaited
+    for name, data in (('D', d), ('120', node_file.write(chain(FILE_NODES))), ('4096', node_file.write(plant.whole()))):
+        yield 'weigh-node-file-' + name, ['weigh'], data, report(data).encode(), b''
+        yield 'shrink-node-file-' + name, ['shrink', 'keep', 'size', '4'], data, *shrunk('keep', 'size', 4, data)
+    for program, answers in (('shrink', NODE_WORDS), ('weigh', [(w, WEIGH_UNKNOWN) for w in WEIGH_WORDS]), ('convert', [([], CONVERT_HELP)] + [(w, CONVERT_UNKNOWN) for w in CONVERT_WORDS])):
+        for i, (words, said) in enumerate(answers):
+            yield '%s-nodes-words-%02d' % (program, i), [program] + words, d, b'', said
+
+
+def numbers_of(cases, program, form):
+    """The refusals that the cases of a program over a form meet."""
+    found = set()
+    for _, call, _, out, err in cases:
+        line = err or out
+        if call[0] == program and form == ('nodes' if call[1:2] == ['nodes'] else 'blocks') and line.startswith(b'refused '):
+            found.add(int(line.split()[1]))
+    return found
+
+
+def hold_to_refusals(cases):
+    """Every refusal that can come up in a program does."""
+    own, cut, blocks = set(DIAGRAMS), {16, 18, 19}, {21, 22, 23, 24, 25}
+    for program, form, said in (('weigh', 'nodes', own | NODES_ONLY), ('shrink', 'nodes', own | cut | NODES_ONLY), ('convert', 'nodes', own | NODES_ONLY | {25}), ('convert', 'blocks', own | blocks)):
+        assert numbers_of(cases, program, form) == said, (program, form, numbers_of(cases, program, form))
+
+
 def main():
-    os.makedirs(FOLDER, exist_ok=True)
-    for old in os.listdir(FOLDER):
-        os.remove(os.path.join(FOLDER, old))
+    sys.setrecursionlimit(10000)
     cases = [(name, ['weigh'], data, report(data).encode(), b'') for name, data in weighed().items()]
     requests, others = asked()
     for i, (direction, kind, target, data, as_is) in enumerate(requests):
@@ -171,8 +320,22 @@ def main():
         cases.append(('shrink-%03d-%s-%s' % (i, direction, kind), words, data) + shrunk(direction, kind, target, data, as_is))
     for i, (words, said) in enumerate(others):
         cases.append(('shrink-words-%02d' % i, ['shrink'] + words, file_of(D), b'', said))
+    old = len(cases)
+    cases += node_cases()
+    hold_to_refusals(cases[old:])
+    assert len({case[0] for case in cases}) == len(cases)
+    os.makedirs(FOLDER, exist_ok=True)
+    for old in os.listdir(FOLDER):
+        os.remove(os.path.join(FOLDER, old))
+    inputs = shared()
+    for name, data in inputs.items():
+        with open(os.path.join(FOLDER, name), 'wb') as f:
+            f.write(data)
     for name, call, data, out, err in cases:
-        for end, text in (('call', ''.join(word + '\n' for word in call).encode()), ('in', data), ('out', out), ('err', err)):
+        shown = ('sum', b'%s  -\n' % hashlib.sha256(out).hexdigest().encode()) if len(out) > LARGE else ('out', out)
+        source = next((file for file, whole in inputs.items() if len(data) > SMALL and whole.startswith(data)), None)
+        given = ('from', b'%s %d\n' % (source.encode(), len(data))) if source else ('in', data)
+        for end, text in (('call', ''.join(word + '\n' for word in call).encode()), given, shown, ('err', err)):
             with open(os.path.join(FOLDER, name + '.' + end), 'wb') as f:
                 f.write(text)
     print(len(cases), 'cases')

@@ -3,6 +3,7 @@ answers."""
 import os
 
 import block
+import node_file
 from blocks_cases import changed
 from diagram_cases import D
 from program_cases import UNKNOWN, shrunk
@@ -29,8 +30,14 @@ FILE = b''.join(block.write(OR4))
 DAMAGED = changed(FILE, 508, 0)
 assert DAMAGED != FILE
 answers = [shrunk('suppress', 'cases', 12, FILE), shrunk('keep', 'size', 4, FILE), (b'', UNKNOWN), shrunk('keep', 'size', 9, FILE),
-           shrunk('keep', 'size', 9, FILE, True), (b'', UNKNOWN), shrunk('keep', 'size', 4, DAMAGED)]
+           shrunk('keep', 'size', 9, FILE, True), (b'', UNKNOWN)]
 assert answers[4][0] == FILE != answers[3][0]
+# The same nodes as a node file, and the block taken for one.
+NODES = node_file.write(OR4)
+for data in (NODES, FILE):
+    answers += [shrunk('keep', 'size', 9, data, True, 'nodes'), shrunk('suppress', 'size', 4, data, False, 'nodes')]
+assert answers[6][0] == NODES and answers[8][1].startswith(b'refused 52 at 0')
+answers += [shrunk('keep', 'size', 4, DAMAGED)]
 for name, data in (('stdin', FILE), ('stdout', b''.join(a + b for a, b in answers))):
     with open(os.path.join(TOP, 'crates', 'shrinking_run', name), 'wb') as file:
         file.write(data)

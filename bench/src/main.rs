@@ -1,4 +1,5 @@
 //! Times the Rust text and the proved library side by side, and compares what they answer.
+mod files;
 mod generate;
 #[path = "../../bindings/rust/src/limits.rs"]
 mod limits;
@@ -21,7 +22,7 @@ const BATCHES: usize = 21;
 const BATCH_NS: f64 = 1_000_000.0;
 
 /// The median of some batches, in ns a call; a batch goes through all the cases some times.
-fn time(cases: &[Case], mut call: impl FnMut(&Case)) -> f64 {
+fn time<T>(cases: &[T], mut call: impl FnMut(&T)) -> f64 {
     let mut batch = |k: usize| {
         let start = Instant::now();
         (0..k).for_each(|_| cases.iter().for_each(&mut call));
@@ -148,8 +149,11 @@ fn main() {
     if !rows.is_empty() {
         print(&rows);
     }
-    if wanted.map_or(true, |w| w == "many cuts") {
+    if wanted.as_ref().map_or(true, |w| w == "many cuts") {
         many_cuts(&mut lent);
+    }
+    if wanted.map_or(true, |w| w == "node files") {
+        files::node_files(seed);
     }
 }
 

@@ -39,6 +39,13 @@ pub struct Natural {
     pub words: [u32; COUNT_WORDS],
 }
 
+#[repr(C)]
+pub struct Stored {
+    pub number: u32,
+    pub place: usize,
+    pub nodes: usize,
+}
+
 extern "C" {
     #[link_name = linked!(underapproximate)]
     fn houayletan_underapproximate(words: *const u32, words_len: usize, list: *const u32, list_len: usize, room: *mut u32, room_len: usize, output: *mut u32, output_len: usize) -> Diagram;
@@ -66,6 +73,10 @@ extern "C" {
     fn houayletan_node_valuation_weights(words: *const u32, words_len: usize, room: *mut u32, room_len: usize, output: *mut u32, output_len: usize) -> Verdict;
     #[link_name = linked!(count_and_weights)]
     fn houayletan_count_and_weights(words: *const u32, words_len: usize, room: *mut u32, room_len: usize, output: *mut u32, output_len: usize) -> Count;
+    #[link_name = linked!(read_as_bytes)]
+    fn houayletan_read_as_bytes(bytes: *const u8, bytes_len: usize, output: *mut u32, output_len: usize) -> Stored;
+    #[link_name = linked!(write_as_bytes)]
+    fn houayletan_write_as_bytes(words: *const u32, words_len: usize, bytes: *mut u8, bytes_len: usize) -> Stored;
     #[link_name = linked!(reduce)]
     fn houayletan_reduce(words: *const u32, words_len: usize, room: *mut u32, room_len: usize, output: *mut u32, output_len: usize) -> Diagram;
 }
@@ -133,4 +144,12 @@ pub fn underapproximate_to_cardinality(words: &[u32], target: Natural, as_is: bo
 pub fn overapproximate_to_cardinality(words: &[u32], target: Natural, as_is: bool, room: &mut [u32], output: &mut [u32]) -> Approximation {
     let (out, out_len) = (output.as_mut_ptr(), output.len());
     unsafe { houayletan_overapproximate_to_cardinality(words.as_ptr(), words.len(), target, as_is as u32, room.as_mut_ptr(), room.len(), out, out_len) }
+}
+
+pub fn read_as_bytes(bytes: &[u8], output: &mut [u32]) -> Stored {
+    unsafe { houayletan_read_as_bytes(bytes.as_ptr(), bytes.len(), output.as_mut_ptr(), output.len()) }
+}
+
+pub fn write_as_bytes(words: &[u32], bytes: &mut [u8]) -> Stored {
+    unsafe { houayletan_write_as_bytes(words.as_ptr(), words.len(), bytes.as_mut_ptr(), bytes.len()) }
 }

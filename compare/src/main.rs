@@ -2,6 +2,7 @@
 //!
 //!     houayletan-compare SEED REQUESTS          compares; the first difference is printed as a line for tests/c/replay.c
 //!     houayletan-compare store SEED REQUESTS    prints requests with the expected answers, for tests/c/replay.txt
+mod files;
 mod generate;
 mod random;
 mod reading;
@@ -15,6 +16,12 @@ use random::Random;
 use request::{Argument, Operation, Reply, Request, OPERATIONS};
 use rust_text::Bdd;
 use std::collections::BTreeMap;
+
+/// Of the requests asked for, one node file more for so many.
+const FILES_ONE_IN: u64 = 4;
+
+/// Node files among the stored requests, after the others.
+const STORED_FILES: u64 = 400;
 
 /// The most nodes of a request's diagram: many small ones, some of every size.
 fn most_nodes(random: &mut Random) -> usize {
@@ -174,7 +181,8 @@ fn main() {
     let requests = number(arguments.next(), 200_000);
     let random = &mut Random(seed);
     if store {
-        return self::store(random, requests);
+        self::store(random, requests);
+        return files::store(seed, STORED_FILES);
     }
 
     let mut tally = vec![[0u64; 2]; OPERATIONS.len()];
@@ -244,6 +252,7 @@ fn main() {
     for ((name, _), [whole, damaged]) in generate::FAMILIES.iter().zip(families) {
         println!("| {name} | {whole} | {damaged} |");
     }
+    files::compare(seed, requests / FILES_ONE_IN);
 }
 
 /// Small diagrams, and a few large ones. The searches come up three times as often as the others, with more nodes.

@@ -164,39 +164,39 @@ fn call(request: &Request, w: &[u32], list: &[u32], room: &mut [u32], out: &mut 
 }
 
 /// What stands at place i of a lent buffer at first (tests/c/lent.h has the same).
-fn filling(seed: u32, i: usize) -> u32 {
+pub fn filling(seed: u32, i: usize) -> u32 {
     seed.wrapping_add((i as u32).wrapping_mul(2654435761))
 }
 
 const GUARD: usize = 16;
 
 /// A buffer with guard words on both sides.
-struct Lent {
+pub struct Lent {
     all: Vec<u32>,
     len: usize,
     seed: u32,
 }
 
 impl Lent {
-    fn new(len: usize, seed: u32) -> Lent {
+    pub fn new(len: usize, seed: u32) -> Lent {
         let guard = |i: usize| !filling(seed, i) ^ 0x5a5a5a5a;
         let all = (0..GUARD).map(guard).chain((0..len).map(|i| filling(seed, i))).chain((GUARD..2 * GUARD).map(guard));
         Lent { all: all.collect(), len, seed }
     }
-    fn of(words: &[u32], seed: u32) -> Lent {
+    pub fn of(words: &[u32], seed: u32) -> Lent {
         let mut lent = Lent::new(words.len(), seed);
         lent.words().copy_from_slice(words);
         lent
     }
-    fn words(&mut self) -> &mut [u32] {
+    pub fn words(&mut self) -> &mut [u32] {
         &mut self.all[GUARD..GUARD + self.len]
     }
-    fn guarded(&self) -> bool {
+    pub fn guarded(&self) -> bool {
         let fresh = |i: usize, w: &u32| *w == !filling(self.seed, i) ^ 0x5a5a5a5a;
         let (before, after) = (&self.all[..GUARD], &self.all[GUARD + self.len..]);
         before.iter().enumerate().all(|(i, w)| fresh(i, w)) && after.iter().enumerate().all(|(i, w)| fresh(GUARD + i, w))
     }
-    fn kept_from(&mut self, from: usize) -> bool {
+    pub fn kept_from(&mut self, from: usize) -> bool {
         let seed = self.seed;
         self.words().iter().enumerate().skip(from).all(|(i, w)| *w == filling(seed, i))
     }
@@ -239,6 +239,11 @@ fn sum_of(words: &[u32]) -> u64 {
     bytes.fold(0xcbf29ce484222325, |sum, b| (sum ^ b as u64).wrapping_mul(0x100000001b3))
 }
 
+/// A result in a line: the words, or where they are many their sum.
+pub fn written_form(words: &[u32]) -> String {
+    if words.len() > 60 { format!(" # {}", sum_of(words)) } else { words.iter().map(|w| format!(" {w}")).collect() }
+}
+
 /// As a line of tests/c/replay.txt; tests/c/replay.c says how it is laid out.
 pub fn line(request: &Request, reply: &Reply) -> String {
     let mut line = format!("{} {}", OPERATIONS[request.operation].1, request.words.len());
@@ -262,12 +267,7 @@ pub fn line(request: &Request, reply: &Reply) -> String {
     put(reply.values.len() as u64);
     reply.values.iter().for_each(|x| put(*x));
     put(reply.written.len() as u64);
-    if reply.written.len() > 60 {
-        line.push_str(" #");
-        write!(line, " {}", sum_of(&reply.written)).unwrap();
-    } else {
-        reply.written.iter().for_each(|w| put(*w as u64));
-    }
+    line.push_str(&written_form(&reply.written));
     line
 }
 

@@ -8,8 +8,15 @@
  *   as_is (to a size and to a count),
  *   length of the room, length of the output, seed of what both hold at first, '=',
  *   number, place, nodes, vars, number of values, the values,
- *   number of output words, and these words, or '#' and their sum by FNV-1a. */
-#include "lent.h"
+ *   number of output words, and these words, or '#' and their sum by FNV-1a.
+ *
+ * Of a node file:
+ *
+ *   read_as_bytes, number of bytes, the bytes, length of the output, seed, '=', number, place, nodes, number of output words, and these
+ *   words, or '#' and their sum;
+ *   write_as_bytes, number of words, the words, length of the bytes, seed, '=', number, place, nodes, number of bytes written, and these
+ *   bytes, or '#' and the sum of as many words. */
+#include "files.h"
 #include <inttypes.h>
 
 static FILE *in;
@@ -60,6 +67,47 @@ static uint64_t sum_of(const uint32_t *w, size_t len) {
     return sum;
 }
 
+/* The words that are expected, or their sum; how many there are. */
+static size_t expected_words(uint64_t *sum) {
+    size_t len = number();
+    if (len > sizeof output / 4) spoilt("too long an output");
+    blank();
+    int c = getc(in);
+    if (c == '#') {
+        *sum = number();
+    } else {
+        ungetc(c, in);
+        for (size_t i = 0; i < len; i++) output[i] = (uint32_t)number();
+        *sum = sum_of(output, len);
+    }
+    mark('\n');
+    return len;
+}
+
+/* NULL, or what is wrong with the answer to a line that asks for a node file to be read or written. */
+static const char *replay_file(bool writes) {
+    static uint8_t bytes[sizeof words];
+    size_t len = numbers(words, sizeof words / 4), lent = number();
+    uint32_t seed = (uint32_t)number();
+    for (size_t i = 0; i < len && !writes; i++) bytes[i] = (uint8_t)words[i];
+    mark('=');
+    HouayletanStored expected;
+    expected.number = (uint32_t)number();
+    expected.place = number();
+    expected.nodes = number();
+    uint64_t sum;
+    size_t written = expected_words(&sum);
+    FileLoan l = writes ? loan_to_write(words, len, lent, seed, 16) : loan_to_read(bytes, len, lent, seed, 16);
+    HouayletanStored r = call_file(&l);
+    const char *fault = wrong_file(&l, &r, writes ? (const void *)words : bytes);
+    if (!fault && (r.number != expected.number || r.place != expected.place || r.nodes != expected.nodes)) fault = "answer";
+    if (!fault && written != (writes ? HOUAYLETAN_BYTES(r.nodes) : 3 * r.nodes)) fault = "length of the result";
+    for (size_t i = 0; !fault && writes && i < written; i++) output[i] = l.bytes.bytes[i];
+    if (!fault && sum_of(writes ? output : l.words.words, written) != sum) fault = "the result";
+    give_file_back(&l);
+    return fault;
+}
+
 int main(int argc, char **argv) {
     if (argc != 2 || !(in = fopen(argv[1], "r"))) {
         fprintf(stderr, "usage: replay FILE\n");
@@ -68,6 +116,14 @@ int main(int argc, char **argv) {
     unsigned long passed = 0, failed = 0;
     char name[64];
     while (fscanf(in, "%63[a-z_]", name) == 1) {
+        bool writes = strcmp(name, "write_as_bytes") == 0;
+        if (writes || strcmp(name, "read_as_bytes") == 0) {
+            const char *fault = replay_file(writes);
+            if (fault) printf("FAILED: line %lu, %s: %s\n", line, name, fault);
+            fault ? failed++ : passed++;
+            line++;
+            continue;
+        }
         const Operation *o = operation(name);
         if (!o) spoilt("no such operation");
         size_t words_len = numbers(words, sizeof words / 4), list_len = 0;
@@ -90,19 +146,8 @@ int main(int argc, char **argv) {
         expected.values = number();
         if (expected.values > HOUAYLETAN_COUNT_WORDS) spoilt("too many values");
         for (size_t i = 0; i < expected.values; i++) expected.value[i] = number();
-        expected.written = number();
-        if (expected.written > sizeof output / 4) spoilt("too long an output");
         uint64_t sum;
-        blank();
-        int c = getc(in);
-        if (c == '#') {
-            sum = number();
-        } else {
-            ungetc(c, in);
-            for (size_t i = 0; i < expected.written; i++) output[i] = (uint32_t)number();
-            sum = sum_of(output, expected.written);
-        }
-        mark('\n');
+        expected.written = expected_words(&sum);
 
         Loan l = loan(words, words_len, list, list_len, room_len, output_len, seed, 16);
         Request q = request_of(&l, target, as_is);

@@ -1,8 +1,6 @@
-/* The archive as a C program sees it: worked examples, every row of the table of refusals, lengths exact and one short,
+/* The archive as a C program sees it: worked examples, every row of the tables of refusals, lengths exact and one short,
  * and what a call leaves in the lent buffers. Prints what fails; the last line has the counts. */
-#include "operations.h"
-#include <stdio.h>
-#include <stdlib.h>
+#include "files.h"
 
 static int passed, failed;
 
@@ -428,7 +426,111 @@ static void limits(const Operation *o, uint32_t as_is) {
     }
 }
 
+/* ---- node files */
+
+#define MOST_BYTES HOUAYLETAN_BYTES(HOUAYLETAN_NODES)
+
+/* A call with guards all around, and what it must say. */
+static void stores(FileLoan *l, const void *input, uint32_t number, size_t place) {
+    const char *name = l->writes ? "write_as_bytes" : "read_as_bytes";
+    HouayletanStored r = call_file(l);
+    const char *fault = wrong_file(l, &r, input);
+    expect(!fault, fault, name);
+    expect(r.number == number && r.place == place, "number and place", name);
+    if (r.number != number || r.place != place) printf("  got %u at %zu, not %u at %zu\n", r.number, r.place, number, place);
+    give_file_back(l);
+}
+
+static void reads(const uint8_t *bytes, size_t len, size_t output_len, uint32_t number, size_t place) {
+    FileLoan l = loan_to_read(bytes, len, output_len, (uint32_t)len, 16);
+    stores(&l, bytes, number, place);
+}
+
+static void writes(const uint32_t *words, size_t len, size_t bytes_len, uint32_t number, size_t place) {
+    FileLoan l = loan_to_write(words, len, bytes_len, (uint32_t)len, 16);
+    stores(&l, words, number, place);
+}
+
+static uint32_t file_words[3 * (HOUAYLETAN_NODES + 2)];
+static uint8_t file_bytes[2 * MOST_BYTES];
+
+/* Any words, but for variables that fit two bytes, are written and read back; one side too short for them is refused. */
+static void round_trip(size_t n) {
+    static uint8_t bytes[MOST_BYTES];
+    static uint32_t back[3 * HOUAYLETAN_NODES];
+    HouayletanStored w = houayletan_write_as_bytes(file_words, 3 * n, bytes, sizeof bytes);
+    HouayletanStored r = houayletan_read_as_bytes(bytes, HOUAYLETAN_BYTES(n), back, LEN(back));
+    expect(w.number == 0 && w.nodes == n && r.number == 0 && r.nodes == n, "there and back", "write_as_bytes");
+    expect(memcmp(back, file_words, 12 * n) == 0, "the same words", "read_as_bytes");
+    for (size_t more = 0; more < 25; more += 8) {
+        writes(file_words, 3 * n, HOUAYLETAN_BYTES(n) + more, 0, 0);
+        reads(bytes, HOUAYLETAN_BYTES(n), 3 * n + more, 0, 0);
+    }
+    writes(file_words, 3 * n, HOUAYLETAN_BYTES(n) - 1, 54, 0);
+    writes(file_words, 3 * n, 0, 54, 0);
+    reads(bytes, HOUAYLETAN_BYTES(n), 3 * n - 1, 54, 0);
+    reads(bytes, HOUAYLETAN_BYTES(n), 0, 54, 0);
+    reads(bytes, HOUAYLETAN_BYTES(n) - 1, 3 * n, 52, 0);
+    writes(file_words, 3 * n - 1, HOUAYLETAN_BYTES(n), 2, 0);
+    /* the widest variable fits; one more is refused at the first node that has it */
+    uint32_t kept = file_words[3 * (n - 1)];
+    file_words[3 * (n - 1)] = UINT16_MAX;
+    writes(file_words, 3 * n, HOUAYLETAN_BYTES(n), 0, 0);
+    file_words[3 * (n - 1)] = UINT16_MAX + 1;
+    writes(file_words, 3 * n, HOUAYLETAN_BYTES(n), 55, n - 1);
+    writes(file_words, 3 * n, HOUAYLETAN_BYTES(n) - 1, 54, 0);
+    uint32_t first = file_words[0];
+    file_words[0] = UINT32_MAX;
+    writes(file_words, 3 * n, HOUAYLETAN_BYTES(n), 55, 0);
+    file_words[0] = first;
+    file_words[3 * (n - 1)] = kept;
+}
+
+static void node_files(void) {
+    static const size_t sizes[] = {1, 2, 3, 50, 51, 120, 121, HOUAYLETAN_NODES - 1, HOUAYLETAN_NODES};
+    for (size_t i = 0; i < LEN(file_words); i++) file_words[i] = filling(9, i) >> (i % 3 == 0 ? 16 : 0);
+    for (size_t i = 0; i < sizeof file_bytes; i++) file_bytes[i] = filling_byte(9, i);
+    for (size_t i = 0; i < LEN(sizes); i++) round_trip(sizes[i]);
+
+    /* D, byte by byte */
+    static const uint8_t BYTES_OF_D[] = {3, 0, 0, 0, 0, 0, 0, 0, 0, 0, 3, 0, 1, 0, 0, 0, 1, 0, 0, 0, 2, 0, 0, 0, 0, 0, 1, 0, 0, 0,
+                                         1, 0, 2, 0, 0, 0, 1, 0, 0, 0, 0, 0, 2, 0, 0, 0, 3, 0, 0, 0};
+    static const uint8_t WIDEST_NODE[] = {255, 255, 1, 2, 3, 4, 0xFC, 0xFD, 0xFE, 0xFF};
+    uint8_t bytes[sizeof BYTES_OF_D];
+    uint32_t words[LEN(D)];
+    expect(houayletan_write_as_bytes(D, LEN(D), bytes, sizeof bytes).nodes == 5 && memcmp(bytes, BYTES_OF_D, sizeof bytes) == 0, "D's bytes", "write_as_bytes");
+    expect(houayletan_read_as_bytes(BYTES_OF_D, sizeof BYTES_OF_D, words, LEN(words)).nodes == 5 && memcmp(words, D, sizeof D) == 0, "D's words", "read_as_bytes");
+    expect(houayletan_read_as_bytes(WIDEST_NODE, sizeof WIDEST_NODE, words, LEN(words)).nodes == 1, "one node", "read_as_bytes");
+    expect(words[0] == 65535 && words[1] == 0x04030201 && words[2] == 0xFFFEFDFC, "least byte first", "read_as_bytes");
+
+    /* each refusal before the next, and at its bounds */
+    reads(file_bytes, 0, 0, 51, 0);
+    reads(file_bytes, 0, 9, 51, 0);
+    for (size_t len = 1; len < HOUAYLETAN_BYTES(3); len++) {
+        bool whole = len % HOUAYLETAN_BYTES_PER_NODE == 0;
+        reads(file_bytes, len, 9, whole ? 0 : 52, 0);
+        reads(file_bytes, len, 0, whole ? 54 : 52, 0);
+    }
+    for (size_t len = MOST_BYTES - 2; len < MOST_BYTES + 25; len++) {
+        uint32_t number = len >= HOUAYLETAN_BYTES(HOUAYLETAN_NODES + 1) ? 53 : len == MOST_BYTES ? 0 : 52;
+        reads(file_bytes, len, 3 * (HOUAYLETAN_NODES + 3), number, 0);
+        reads(file_bytes, len, 0, number ? number : 54, 0);
+    }
+    reads(file_bytes, sizeof file_bytes, 3 * HOUAYLETAN_NODES, 53, 0);
+    writes(file_words, 0, 0, 1, 0);
+    writes(file_words, 0, HOUAYLETAN_BYTES(1), 1, 0);
+    writes(file_words, 1, HOUAYLETAN_BYTES(1), 2, 0);
+    writes(file_words, 2, 0, 2, 0);
+    file_words[0] = UINT32_MAX;
+    writes(file_words, 3 * HOUAYLETAN_NODES - 1, 0, 2, 0);
+    writes(file_words, 3 * HOUAYLETAN_NODES + 1, 0, 2, 0);
+    writes(file_words, 3 * HOUAYLETAN_NODES + 3, 0, 53, 0);
+    writes(file_words, 3 * HOUAYLETAN_NODES + 4, 0, 2, 0);
+    writes(file_words, 3 * HOUAYLETAN_NODES + 3, HOUAYLETAN_BYTES(HOUAYLETAN_NODES + 1), 53, 0);
+}
+
 int main(void) {
+    node_files();
     for (size_t i = 0; i < OPERATIONS; i++) {
         refusals(&operations[i], 0);
         limits(&operations[i], 0);

@@ -1,7 +1,8 @@
 //! STAND-IN. This file and `_impl_bdd/mod.rs` are not text of biodivine-lib-bdd: they are the least that its two files
 //! `_impl_bdd/_impl_util.rs` and `_impl_bdd/_impl_approximation.rs` (MIT, LICENSE.txt; unchanged here) need in order to
 //! compile, written from document 01. So `and`, `not` and the constructors of nodes are not the crate's, and a time that
-//! goes through them (reduction, the cuts) says nothing of the crate's own `and`.
+//! goes through them (reduction, the cuts) says nothing of the crate's own `and`. Neither are `write_as_bytes` and `read_as_bytes`,
+//! which have the form that the crate documents for its own.
 #![allow(dead_code)]
 
 use std::collections::{HashMap, HashSet};

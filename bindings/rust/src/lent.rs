@@ -1,7 +1,8 @@
 //! The functions of `include/houayletan.h` as they are: the caller lends working room and output, and nothing is allocated.
 //!
 //! Any slices may be lent; what is too short is refused. The room is [`crate::limits::ROOM_PER_NODE`] words a node, for two nodes
-//! at least ([`room_for`]); a diagram output 3 words a node, at least 6 ([`output_for`]).
+//! at least ([`room_for`]); a diagram output 3 words a node, at least 6 ([`output_for`]). Node files need no room: their bytes are
+//! [`crate::limits::BYTES_PER_NODE`] a node ([`bytes_for`]), their words 3.
 //!
 //! ```
 //! use houayletan::lent;
@@ -13,7 +14,7 @@
 //! assert_eq!(output[..6], [1, 0, 0, 1, 1, 1]);
 //! assert_eq!(lent::reduce(&words, &mut room[1..], &mut output).verdict.number, 5);
 //! ```
-use crate::limits::{linked, ROOM_PER_NODE};
+use crate::limits::{linked, BYTES_PER_NODE, ROOM_PER_NODE};
 use crate::Count;
 
 /// Words of working room for a diagram of that many nodes.
@@ -24,6 +25,11 @@ pub const fn room_for(nodes: usize) -> usize {
 /// Words of a diagram output for a diagram of that many nodes.
 pub const fn output_for(nodes: usize) -> usize {
     3 * if nodes < 2 { 2 } else { nodes }
+}
+
+/// Bytes of a node file of that many nodes.
+pub const fn bytes_for(nodes: usize) -> usize {
+    BYTES_PER_NODE * nodes
 }
 
 /// Number 0: accepted, with the input's counts. Else refused, and the counts are 0.
@@ -75,6 +81,15 @@ pub struct Approximation {
     pub verdict: Verdict,
     pub nodes: usize,
     pub trials: usize,
+}
+
+/// What reading or writing a node file says. Number 0: done, with the number of nodes. Else refused, and there are none.
+#[derive(Clone, Copy, Debug, Eq, PartialEq)]
+#[repr(C)]
+pub struct Stored {
+    pub number: u32,
+    pub place: usize,
+    pub nodes: usize,
 }
 
 // The archive's functions ask for nothing but that pointer and length are a slice's, so each is safe over slices.
@@ -175,4 +190,24 @@ pub fn clear(room: &mut [u32], count: usize) {
         fn symbol(room: *mut u32, room_len: usize, count: usize);
     }
     unsafe { symbol(room.as_mut_ptr(), room.len(), count) }
+}
+
+/// [`crate::read_as_bytes`], over what is lent: the words are the first of the output, 3 for each node. Besides 51, 53 and 52 it is
+/// refused 54 where the output is shorter.
+pub fn read_as_bytes(bytes: &[u8], output: &mut [u32]) -> Stored {
+    extern "C" {
+        #[link_name = linked!(read_as_bytes)]
+        fn symbol(bytes: *const u8, bytes_len: usize, output: *mut u32, output_len: usize) -> Stored;
+    }
+    unsafe { symbol(bytes.as_ptr(), bytes.len(), output.as_mut_ptr(), output.len()) }
+}
+
+/// [`crate::write_as_bytes`], over what is lent: the file is the first of the bytes. It is refused 54 where they are fewer, after 53
+/// and before 55.
+pub fn write_as_bytes(words: &[u32], bytes: &mut [u8]) -> Stored {
+    extern "C" {
+        #[link_name = linked!(write_as_bytes)]
+        fn symbol(words: *const u32, words_len: usize, bytes: *mut u8, bytes_len: usize) -> Stored;
+    }
+    unsafe { symbol(words.as_ptr(), words.len(), bytes.as_mut_ptr(), bytes.len()) }
 }

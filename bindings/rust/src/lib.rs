@@ -5,8 +5,8 @@
 //! root is the last node. At most [`MOST_NODES`] nodes and [`MOST_VARS`] variables; nodes may stand in any order.
 //!
 //! Any words may be offered. What is no diagram is refused with a number, a place and a sentence ([`Refusal`]): *the diagram's
-//! own* refusals are 1 to 12 and 17. Each function here allocates its output and its working room, so that 4 and 5 don't come
-//! up; in [`lent`] the caller lends them.
+//! own* refusals are 1 to 12 and 17. Each function here allocates its output and its working room, so that 4, 5 and 54 don't come
+//! up; in [`lent`] the caller lends them. [`swapping`] is for who comes from biodivine-lib-bdd.
 //!
 //! ```
 //! # fn main() -> Result<(), houayletan::Refusal> {
@@ -29,12 +29,13 @@ mod refusal;
 #[allow(missing_docs)]
 pub mod lent;
 pub mod limits;
+pub mod swapping;
 
 pub use count::Count;
 pub use limits::{MOST_NODES, MOST_VARS};
 pub use refusal::Refusal;
 
-use limits::COUNT_WORDS;
+use limits::{BYTES_PER_NODE, COUNT_WORDS};
 
 /// The counts of an accepted diagram.
 #[derive(Clone, Copy, Debug, Eq, PartialEq)]
@@ -388,6 +389,44 @@ pub fn overapproximate_to_cardinality(words: &[u32], target: Count, as_is: bool)
     cut(words, |room, output| lent::overapproximate_to_cardinality(words, target, as_is, room, output))
 }
 
+fn stored(answer: lent::Stored) -> Result<usize, Refusal> {
+    let lent::Stored { number, place, nodes } = answer;
+    if number == 0 { Ok(nodes) } else { Err(Refusal { number, place }) }
+}
+
+/// The words of a node file: [`limits::BYTES_PER_NODE`] bytes for each node, variable (2), low link (4) and high link (4), each least
+/// byte first. Whether they are a diagram is for the function to say that they are given to. Refusals: 51 without bytes, 53 over
+/// [`MOST_NODES`] nodes, 52 where the length is not a multiple of ten.
+///
+/// ```
+/// let bytes = [1, 0, 0, 0, 0, 0, 0, 0, 0, 0, 1, 0, 1, 0, 0, 0, 1, 0, 0, 0];
+/// assert_eq!(houayletan::read_as_bytes(&bytes)?, [1, 0, 0, 1, 1, 1]);
+/// let refusal = houayletan::read_as_bytes(&bytes[..19]).unwrap_err();
+/// assert_eq!(refusal.to_string(), "refused 52 at 0: the length of the file is not a multiple of ten bytes");
+/// # Ok::<(), houayletan::Refusal>(())
+/// ```
+pub fn read_as_bytes(bytes: &[u8]) -> Result<Vec<u32>, Refusal> {
+    let mut output = vec![0; 3 * (bytes.len() / BYTES_PER_NODE).min(MOST_NODES)];
+    stored(lent::read_as_bytes(bytes, &mut output)).map(|_| output)
+}
+
+/// The node file of any words, three for each node. Refusals: 1 without words, 2 where they are no multiple of three, 53 over
+/// [`MOST_NODES`] nodes, 55 for a variable that two bytes don't hold.
+///
+/// ```
+/// let words = [3, 0, 0, 3, 1, 1, 2, 0, 1, 1, 2, 1, 0, 2, 3];
+/// let bytes = houayletan::write_as_bytes(&words)?;
+/// assert_eq!((bytes.len(), &bytes[40..]), (50, &[0, 0, 2, 0, 0, 0, 3, 0, 0, 0][..]));
+/// assert_eq!(houayletan::read_as_bytes(&bytes)?, words);
+/// let refusal = houayletan::write_as_bytes(&[0, 0, 0, 65536, 0, 0]).unwrap_err();
+/// assert_eq!(refusal.to_string(), "refused 55 at 1: node 1 has a variable over 65,535");
+/// # Ok::<(), houayletan::Refusal>(())
+/// ```
+pub fn write_as_bytes(words: &[u32]) -> Result<Vec<u8>, Refusal> {
+    let mut bytes = vec![0; lent::bytes_for(nodes_of(words))];
+    stored(lent::write_as_bytes(words, &mut bytes)).map(|_| bytes)
+}
+
 #[cfg(test)]
 mod tests {
     use super::*;
@@ -412,8 +451,11 @@ mod tests {
 
     #[test]
     fn every_number_has_a_sentence() {
-        assert_eq!(Refusal { number: 3, place: 0 }.sentence().replace(',', ""), format!("there are more than {MOST_NODES} nodes"));
-        for number in (1..=19).filter(|n| *n != 15) {
+        for number in [3, 53] {
+            let sentence = Refusal { number, place: 0 }.sentence();
+            assert_eq!(sentence.replace(',', ""), format!("there are more than {MOST_NODES} nodes"));
+        }
+        for number in (1..=19).filter(|n| *n != 15).chain(51..=55) {
             let refusal = Refusal { number, place: 7 };
             assert!(!refusal.sentence().contains("no table"), "{number}");
             assert!(refusal.to_string().starts_with(&format!("refused {number} at 7: ")));
@@ -439,6 +481,58 @@ mod tests {
             assert_eq!(all(3, 1, 3, as_is), [reduced.clone(), reduced, (vec![2, 0, 0], 1), (vec![2, 0, 0, 2, 1, 1], 1)]);
             assert_eq!(underapproximate_to_cardinality(&words, Count::ZERO, as_is), Ok(Cut { words: vec![2, 0, 0], trials: 0 }));
         }
+    }
+
+    #[test]
+    fn node_files_of_all_lengths() {
+        for nodes in [1, 2, 3, 120, 121, MOST_NODES - 1, MOST_NODES] {
+            let words: Vec<u32> = (0..3 * nodes as u32).map(|i| i.wrapping_mul(2654435761) >> if i % 3 == 0 { 16 } else { 0 }).collect();
+            let bytes = write_as_bytes(&words).unwrap();
+            assert_eq!(bytes.len(), BYTES_PER_NODE * nodes);
+            assert_eq!(read_as_bytes(&bytes), Ok(words.clone()));
+            let last = words[words.len() - 3..].to_vec();
+            let own = [&last[0].to_le_bytes()[..2], &last[1].to_le_bytes(), &last[2].to_le_bytes()].concat();
+            assert_eq!(bytes[bytes.len() - BYTES_PER_NODE..], own);
+        }
+    }
+
+    #[test]
+    fn node_files_that_are_refused() {
+        let read = |len: usize| read_as_bytes(&vec![7; len]).map_err(|r| (r.number, r.place));
+        let most = BYTES_PER_NODE * MOST_NODES;
+        assert_eq!(read(0), Err((51, 0)));
+        for len in [1, 9, 11, most - 1, most + 1, most + 9] {
+            assert_eq!(read(len), Err((52, 0)), "{len}");
+        }
+        assert_eq!(read(most).map(|words| words.len()), Ok(3 * MOST_NODES));
+        for len in [most + 10, most + 11, 2 * most] {
+            assert_eq!(read(len), Err((53, 0)), "{len}");
+        }
+        let write = |words: &[u32]| write_as_bytes(words).map_err(|r| (r.number, r.place));
+        assert_eq!(write(&[]), Err((1, 0)));
+        assert_eq!(write(&[0, 0]), Err((2, 0)));
+        assert_eq!(write(&vec![u32::MAX; 3 * MOST_NODES + 4]), Err((2, 0)));
+        assert_eq!(write(&vec![u32::MAX; 3 * MOST_NODES + 3]), Err((53, 0)));
+        assert_eq!(write(&[65535, u32::MAX, 65536, 65536, 0, 0, 65536, 0, 0]), Err((55, 1)));
+        assert_eq!(write(&[65535, u32::MAX, 65536]), Ok(vec![255, 255, 255, 255, 255, 255, 0, 0, 1, 0]));
+    }
+
+    #[test]
+    fn node_files_over_what_is_lent() {
+        let words = [65535, 1, 2, 3, 4, 5];
+        let mut bytes = [0xA5; 22];
+        let refused = lent::Stored { number: 54, place: 0, nodes: 0 };
+        assert_eq!(lent::write_as_bytes(&words, &mut bytes[..19]), refused);
+        assert_eq!(bytes, [0xA5; 22]);
+        let done = lent::Stored { number: 0, place: 0, nodes: 2 };
+        assert_eq!(lent::write_as_bytes(&words, &mut bytes), done);
+        assert_eq!(bytes[..20], [255, 255, 1, 0, 0, 0, 2, 0, 0, 0, 3, 0, 4, 0, 0, 0, 5, 0, 0, 0]);
+        assert_eq!(bytes[20..], [0xA5; 2]);
+        let mut output = [7; 8];
+        assert_eq!(lent::read_as_bytes(&bytes[..20], &mut output[..5]), refused);
+        assert_eq!(output, [7; 8]);
+        assert_eq!(lent::read_as_bytes(&bytes[..20], &mut output), done);
+        assert_eq!(output, [65535, 1, 2, 3, 4, 5, 7, 7]);
     }
 
     /// The valuations below a number, x0 its highest bit: as many as the number says.

@@ -1,5 +1,5 @@
-//! The numbers of Houayletan, each once. The library's own are crates/diagram/src/limits.rt and naturals::WORDS; tests/papers.py
-//! holds these to them.
+//! The numbers of Houayletan, each once. The library's own are crates/diagram/src/limits.rt, naturals::WORDS and
+//! crates/blocks/src/layout.rt; tests/papers.py holds these to them.
 
 /// The most nodes of a diagram that is accepted.
 pub const MOST_NODES: usize = 4096;
@@ -12,6 +12,9 @@ pub const ROOM_PER_NODE: usize = 128;
 
 /// The words of a count.
 pub const COUNT_WORDS: usize = 16;
+
+/// The bytes of a node in a node file.
+pub const BYTES_PER_NODE: usize = 10;
 
 /// The name for the linker of a function that the header calls `houayletan_..`, as its `HOUAYLETAN_LINKED` makes it.
 macro_rules! linked {

@@ -18,7 +18,7 @@ fn in_threes(n: usize) -> String {
 /// ```
 #[derive(Clone, Copy, Debug, Eq, Hash, PartialEq)]
 pub struct Refusal {
-    /// 1 to 19, but 15.
+    /// 1 to 19, but 15; 51 to 55 of node files.
     pub number: u32,
     /// A node, a place in the list of a cut, or 0.
     pub place: usize,
@@ -47,6 +47,11 @@ impl Refusal {
             17 => format!("node {place} has a high child that is not at a larger variable"),
             18 => "no answer has so few nodes; 2 are always enough".into(),
             19 => "a constant can't be cut to a count between 0 and the number of all valuations".into(),
+            51 => "the file is empty".into(),
+            52 => "the length of the file is not a multiple of ten bytes".into(),
+            53 => format!("there are more than {} nodes", in_threes(MOST_NODES)),
+            54 => "the output is too short".into(),
+            55 => format!("node {place} has a variable over {}", in_threes(u16::MAX.into())),
             number => format!("number {number} is in no table"),
         }
     }

@@ -184,12 +184,12 @@ blocks-end w number h = blocks-none w number (blockCount (size w) - number) (ome
 
 -- ---- the answers
 
-passed : (k : ℕ) (t : Bool) (p : ℕ) (o : Outcome) {n : ℕ} → row k t p o ≡ nodes n → (t ≡ false) × (o ≡ nodes n)
+pub passed : (k : ℕ) (t : Bool) (p : ℕ) (o : Outcome) {n : ℕ} → row k t p o ≡ nodes n → (t ≡ false) × (o ≡ nodes n)
 unfolding row
 passed k true p o e = let z : _≡_ {A = ℕ} 0 1 = cc in absurd (omega arith)
 passed k false p o e = (refl, e)
 
-all-narrow : (w : List ℕ) → length w ≡ 3 * size w → size w ≤ firstWide w → (p : ℕ) → varOf w p < pairSpan
+pub all-narrow : (w : List ℕ) → length w ≡ 3 * size w → size w ≤ firstWide w → (p : ℕ) → varOf w p < pairSpan
 unfolding firstWide
 all-narrow w whole h p =
     by-le (size w) p

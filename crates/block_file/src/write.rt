@@ -25,7 +25,7 @@ ghost use Rattle.block_file.specs.File.{blockCount, part, fileOf, firstW
 const WIDEST: u32 = PAIR_SPAN - 1;
 
 // The first node whose variable does not fit two bytes, or the number of nodes.
-fn first_wide(words: &[u32]) -> usize
+pub fn first_wide(words: &[u32]) -> usize
     ensures { λ r. ⌜ r ≡ firstWide (now (words .entry)) ⌝ }
 {
     let nodes = words.len() / 3;

@@ -117,6 +117,6 @@ pub fn read_block(block: &[u8], number: usize, stated: usize, output: &mut [u32]
         return tested;
     };
     let held = get_two(block, 2) as usize;
-    get_nodes(block, held, output, WORDS * number);
+    get_nodes(block, PLACES, held, output, WORDS * number);
     Stored::Nodes(nodes)
 }

@@ -66,7 +66,7 @@ module _ (s : List ℕ) (small : Bytes s) where
       (split-four (at + 2) (omega arith)
       ∙ ap (λ (l : List ℕ). fourBytes (four s (at + 2)) ++ l) (rw e (split-four (at + 6) (omega arith) ∙ rw f)))
 
-  split-nodes : (at c : ℕ) → at + 10 * c ≤ length s → drop at s ≡ nodesBytes (nodesAt s at c) ++ drop (at + 10 * c) s
+  pub split-nodes : (at c : ℕ) → at + 10 * c ≤ length s → drop at s ≡ nodesBytes (nodesAt s at c) ++ drop (at + 10 * c) s
   unfolding nodesAt nodesBytes
   split-nodes at zero h = let e : at + 10 * 0 ≡ at = omega arith in ap (λ (k : ℕ). drop k s) (sym e)
   split-nodes at (suc c) h =

@@ -51,7 +51,7 @@ fits-next {a} {b} {d} {w} f =
       narrow = λ p. (let e : 3 * suc p ≡ suc (suc (suc (3 * p))) = omega arith in rw e at (f .narrow (suc p)));
     }
 
-nodes-back : (s w r : List ℕ) (at c : ℕ) → Fits w → length w ≡ 3 * c → drop at s ≡ nodesBytes w ++ r → nodesAt s at c ≡ w
+pub nodes-back : (s w r : List ℕ) (at c : ℕ) → Fits w → length w ≡ 3 * c → drop at s ≡ nodesBytes w ++ r → nodesAt s at c ≡ w
 unfolding nodesAt nodesBytes
 nodes-back s [] r at zero f l e = refl
 nodes-back s [] r at (suc c) f l e = absurd (omega arith)

@@ -1,37 +1,36 @@
-// Ten bytes for a node: variable 2, low link 4, high link 4.
+// Ten bytes for a node: variable 2, low link 4, high link 4. Block files and node files have the same.
 use crate::fields::get_four;
 use crate::fields::get_two;
 use crate::fields::put_four;
 use crate::fields::put_two;
 use crate::layout::PLACE;
-use crate::layout::PLACES;
 use diagram::node::word;
 use writing::put_word;
-ghost use Prim.Native.Nat.{_*_, _≤_};
+ghost use Prim.Native.Nat.{_+_, _*_, _≤_};
 ghost use lib.ListN.{length};
 ghost use Rattle.writing.specs.Writing.{Wrote};
-ghost use Rattle.blocks.specs.Block.{blockBytes, blockNodes, nodeBytes, nodesBytes, nodeAt, nodesAt, places};
+ghost use Rattle.blocks.specs.Block.{pairSpan, placeBytes, nodeBytes, nodesBytes, nodeAt, nodesAt};
 
 // The node in the ten bytes from a place on.
-fn get_node(block: &[u8], from: usize, output: &mut [u32], at: usize) -> usize
-    requires { ⌜ from ≤ blockBytes ⌝ }
-    ensures { λ r. ⌜ Wrote (nodeAt (now (block .entry)) from) (now (output .entry)) at (now (output .exit)) r ⌝ }
+fn get_node(bytes: &[u8], from: usize, output: &mut [u32], at: usize) -> usize
+    requires { ⌜ from + placeBytes ≤ pairSpan ⌝ }
+    ensures { λ r. ⌜ Wrote (nodeAt (now (bytes .entry)) from) (now (output .entry)) at (now (output .exit)) r ⌝ }
 {
-    let low = put_word(output, at, get_two(block, from));
-    let high = put_word(output, low, get_four(block, from + 2));
-    put_word(output, high, get_four(block, from + 6))
+    let low = put_word(output, at, get_two(bytes, from));
+    let high = put_word(output, low, get_four(bytes, from + 2));
+    put_word(output, high, get_four(bytes, from + 6))
 }
 
-// The nodes in a block's first places.
-pub fn get_nodes(block: &[u8], count: usize, output: &mut [u32], at: usize) -> usize
-    requires { ⌜ count ≤ blockNodes ⌝ }
-    ensures { λ r. ⌜ Wrote (nodesAt (now (block .entry)) places count) (now (output .entry)) at (now (output .exit)) r ⌝ }
+// So many nodes, one after another from a place on.
+pub fn get_nodes(bytes: &[u8], first: usize, count: usize, output: &mut [u32], at: usize) -> usize
+    requires { ⌜ first + placeBytes * count ≤ pairSpan ⌝ }
+    ensures { λ r. ⌜ Wrote (nodesAt (now (bytes .entry)) first count) (now (output .entry)) at (now (output .exit)) r ⌝ }
 {
     let mut place = at;
-    let mut from = PLACES;
+    let mut from = first;
     let mut left = count;
     while 0 < left {
-        place = get_node(block, from, output, place);
+        place = get_node(bytes, from, output, place);
         from += PLACE;
         left -= 1;
     }
@@ -47,7 +46,7 @@ fn put_node(out: &mut [u8], at: usize, var: u32, low: u32, high: u32) -> usize
 }
 
 // The places of some nodes, three words each.
-pub(crate) fn put_nodes(out: &mut [u8], at: usize, words: &[u32]) -> usize
+pub fn put_nodes(out: &mut [u8], at: usize, words: &[u32]) -> usize
     ensures { λ r. ⌜ Wrote (nodesBytes (now (words .entry))) (now (out .entry)) at (now (out .exit)) r ⌝ }
 {
     let mut place = at;

@@ -2,7 +2,7 @@
 // decimal numbers: what to do, a length, a filling, and bytes or words.
 //     0  read a file from the bytes to that many words of the filling; prints the answer and these words
 //     1  write the file of the words to that many bytes of the filling; prints the answer and these bytes
-//     2  the report of the bytes
+//     2  the report of the bytes, as a block file or, where the length is not 0, as a node file
 //     3  take the bytes for a decimal number of 32 bits and print it back, 4 for a hexadecimal one of all words, 5 for a
 //        decimal one of all words, and after it its two lowest words as one number
 //     6  read one block, as 0: the first two bytes are its number and the nodes that block 0 stated
@@ -20,6 +20,7 @@ use cases::least;
 use cases::number;
 use cases::words_of;
 use diagram::node::word;
+use forms::Form;
 use libc::STDOUT_FILENO;
 use messages::refusal::write_refusal;
 use naturals::Natural;
@@ -156,9 +157,16 @@ fn show(text: &[u8], end: usize) {
     }
 }
 
-fn report_case(bytes: &[u8]) {
+fn form_for(lent: usize) -> Form {
+    if lent == 0 {
+        return Form::Blocks;
+    }
+    Form::Nodes
+}
+
+fn report_case(bytes: &[u8], lent: usize) {
     let mut lines = blank_lines();
-    let end = report(&mut lines, bytes);
+    let end = report(&mut lines, form_for(lent), bytes);
     show(&lines, end);
 }
 
@@ -218,7 +226,7 @@ fn run_bytes(kind: u32, bytes: &[u8], lent: usize, filling: u32) {
         read_case(bytes, lent, filling);
     }
     if kind == 2 {
-        report_case(bytes);
+        report_case(bytes, lent);
     }
     if kind == 3 {
         decimal_case(bytes);

@@ -1,14 +1,18 @@
 // Asks exported functions, one for each struct that they answer with, of the diagram D of document 01: number, place, nodes and vars
 // of the verdict, then the value. Then a cut to a size that is met, x1 under a root with low = high: reduced, and as it is. Then a
-// refusal: two nodes of which the second is no terminal.
+// refusal: two nodes of which the second is no terminal. Then node files: a variable is too wide, and the bytes read as they were; D,
+// there and back; and a byte is missing.
 use diagram::limits::ROOM_PER_NODE;
 use diagram::node::word;
+use houayletan::HouayletanStored;
 use houayletan::HouayletanVerdict;
 use houayletan::asking::houayletan_is_false_3;
 use houayletan::cutting::houayletan_overapproximate_3;
 use houayletan::cutting::houayletan_underapproximate_to_size_3;
 use houayletan::houayletan_exact_cardinality_3;
 use houayletan::houayletan_validate_3;
+use houayletan::storing::houayletan_read_as_bytes_3;
+use houayletan::storing::houayletan_write_as_bytes_3;
 use libc::STDOUT_FILENO;
 
 fn say(text: &[u8], value: u64) {
@@ -69,6 +73,34 @@ fn cut_to_size(words: &[u32], as_is: u32, room: &mut [u32], output: &mut [u32]) 
     end_line();
 }
 
+fn say_stored(stored: HouayletanStored) {
+    say(b"number ", stored.number as u64);
+    say(b" place ", stored.place as u64);
+    say(b" nodes ", stored.nodes as u64);
+}
+
+fn fetch(bytes: &[u8], output: &mut [u32]) {
+    say_stored(houayletan_read_as_bytes_3(bytes, output));
+    say(b", last link ", word(output, 14) as u64);
+    end_line();
+}
+
+fn store(words: &[u32], bytes: &mut [u8], output: &mut [u32]) {
+    say_stored(houayletan_write_as_bytes_3(words, bytes));
+    end_line();
+    fetch(bytes, output);
+}
+
+fn files(words: &[u32]) {
+    let mut bytes = [9u8; 50];
+    let mut output = [8u32; 15];
+    let wide = [0u32, 0, 0, 65536, 0, 0];
+    store(&wide, &mut bytes, &mut output);
+    store(words, &mut bytes, &mut output);
+    let short = [9u8; 49];
+    fetch(&short, &mut output);
+}
+
 fn main() {
     let words = [3u32, 0, 0, 3, 1, 1, 2, 0, 1, 1, 2, 1, 0, 2, 3];
     let mut room = [7u32; 5 * ROOM_PER_NODE];
@@ -83,4 +115,5 @@ fn main() {
     cut_to_size(&met, 7, &mut room, &mut output);
     let other = [0u32; 6];
     check(&other, &mut room);
+    files(&words);
 }

@@ -8,18 +8,24 @@ use lib.Ieee.{Float}
 use Rattle.diagram.specs.Verdict.{Outcome, accepted, refused, said, verdictOf, ifAccepted}
 use Rattle.diagram.specs.declared.verdict.Verdict.{Verdict}
 use Rattle.diagram.specs.declared.verdict.Output.the-variants.{Nothing}
+use Rattle.blocks.specs.Block.{said as saidOf}
+use Rattle.blocks.specs.declared.stored.Stored.{Stored}
 use Rattle.queries.specs.Queries.{Tells}
-use Rattle.houayletan.specs.Flat.{flatOf, bit, Flat, FlatCount, FlatFloat, FlatAmount, FlatDiagram, FlatTarget}
+use Rattle.houayletan.specs.Flat.{flatOf, flatStored, bit, Flat, FlatCount, FlatFloat, FlatAmount, FlatDiagram, FlatTarget, FlatStored}
 use Rattle.houayletan.specs.declared.HouayletanVerdict.{HouayletanVerdict}
 use Rattle.houayletan.specs.declared.HouayletanCount.{HouayletanCount}
 use Rattle.houayletan.specs.declared.HouayletanFloat.{HouayletanFloat}
 use Rattle.houayletan.specs.declared.HouayletanAmount.{HouayletanAmount}
 use Rattle.houayletan.specs.declared.HouayletanDiagram.{HouayletanDiagram}
 use Rattle.houayletan.specs.declared.HouayletanApproximation.{HouayletanApproximation}
+use Rattle.houayletan.specs.declared.HouayletanStored.{HouayletanStored}
 
 bit-told : (o : Outcome) (b : Bool) → bit (ifAccepted o b false) ≡ ifAccepted o (bit b) 0
 bit-told (accepted n v) b = refl
 bit-told (refused k p) b = refl
+
+pub flat-stored : {s : Stored} (promise : Stored → Type 0) → promise s → (r : HouayletanStored) → r ≡ flatStored (saidOf s) → FlatStored promise r
+flat-stored {s} promise a r e = record { stored = s; kept = a; flat = e }
 
 module _ {v : Verdict} where
   pub flat-verdict : (promise : Verdict → Type 0) → promise v → (r : HouayletanVerdict) → r ≡ flatOf (said v) → Flat promise r

@@ -7,11 +7,14 @@ use lib.Dec.{eqb}
 use lib.Ieee.{Float}
 use Rattle.diagram.specs.Verdict.{Outcome, accepted, refused, said}
 use Rattle.diagram.specs.declared.verdict.Verdict.{Verdict}
+use Rattle.blocks.specs.Block.{Outcome as Filed, nodes as filed, refused as unfiled, said as saidOf}
+use Rattle.blocks.specs.declared.stored.Stored.{Stored}
 use Rattle.houayletan.specs.declared.HouayletanCount.{HouayletanCount}
 use Rattle.houayletan.specs.declared.HouayletanFloat.{HouayletanFloat}
 use Rattle.houayletan.specs.declared.HouayletanDiagram.{HouayletanDiagram}
 use Rattle.houayletan.specs.declared.HouayletanApproximation.{HouayletanApproximation}
 use Rattle.houayletan.specs.declared.HouayletanAmount.{HouayletanAmount}
+use Rattle.houayletan.specs.declared.HouayletanStored.{HouayletanStored}
 use Rattle.houayletan.specs.declared.HouayletanVerdict.{HouayletanVerdict}
 
 -- Number 0 says accepted, with the counts n and v; a refusal has its number and place, and all else is 0.
@@ -41,6 +44,17 @@ FlatDiagram promise r = Flat (λ v. promise v (r .nodes)) (r .verdict)
 
 abbrev pub FlatTarget : (Verdict → ℕ → ℕ → Type 0) → HouayletanApproximation → Type 0
 FlatTarget promise r = Flat (λ v. promise v (r .nodes) (r .trials)) (r .verdict)
+
+-- A file's answer likewise: number 0 says that it was read or written, with its nodes; a refusal has its number and place, and no nodes.
+abbrev pub flatStored : Filed → HouayletanStored
+flatStored (filed n) = record { number = 0; place = 0; nodes = n }
+flatStored (unfiled number place) = record { number = number; place = place; nodes = 0 }
+
+-- What reading or writing promises of its answer, which is then laid flat.
+pub record FlatStored (promise : Stored → Type 0) (r : HouayletanStored) : Type 0 where
+  pub stored : Stored
+  pub kept : promise stored
+  pub flat : r ≡ flatStored (saidOf stored)
 
 -- A flag as C has it: 0 is a no, anything else a yes.
 abbrev pub flagged : ℕ → Bool

@@ -3,6 +3,7 @@
 // compiled against an older header does not link.
 pub mod asking;
 pub mod cutting;
+pub mod storing;
 
 use cardinality::CountedFloat;
 use cardinality::cardinality;
@@ -73,6 +74,14 @@ pub struct HouayletanApproximation {
     pub verdict: HouayletanVerdict,
     pub nodes: usize,
     pub trials: usize,
+}
+
+// What reading or writing a file says, without an enum: number 0 with the nodes, or a refusal, whose nodes are 0.
+#[repr(C)]
+pub struct HouayletanStored {
+    pub number: u32,
+    pub place: usize,
+    pub nodes: usize,
 }
 
 // A number of naturals::WORDS words, least first.

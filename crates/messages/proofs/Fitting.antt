@@ -5,7 +5,7 @@ use mathlib.Core.List.{List, [], _++_}
 use native.Mathlib.Omega.{arith}
 use lib.ListN.{length, length-append}
 use lib.Dec.{eqb}
-use Rattle.diagram.specs.Limits.{maxVariables}
+use Rattle.diagram.specs.Limits.{maxNodes, maxVariables}
 use Rattle.writing.specs.Writing.{bytes}
 use Rattle.blocks.specs.Block.{maxStored}
 use Rattle.text.specs.Digits.{decimalDigits, hexadecimalDigits, decimal}
@@ -46,7 +46,10 @@ phrase-length number =
     (of-both (longestSentence + decimalDigits) (eqb number 23) _ _ (omega arith)
     (of-both (longestSentence + decimalDigits) (eqb number 24) _ _ (omega arith)
     (of-both (longestSentence + decimalDigits) (eqb number 25) _ _ (omega (arith, more-length maxStored (bytes " nodes")))
-    (omega arith)))))))))))))))))
+    (of-both (longestSentence + decimalDigits) (eqb number 51) _ _ (omega arith)
+    (of-both (longestSentence + decimalDigits) (eqb number 52) _ _ (omega arith)
+    (of-both (longestSentence + decimalDigits) (eqb number 53) _ _ (omega (arith, more-length maxNodes (bytes " nodes")))
+    (omega arith))))))))))))))))))))
 
 subject-length : (number place : ℕ) → length (subject number place) ≤ 6 + decimalDigits
 unfolding subject

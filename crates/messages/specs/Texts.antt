@@ -4,7 +4,7 @@ use mathlib.Core.Bool.{Bool, true, false, cond, _&&_, _||_}
 use mathlib.Core.List.{List, [], _++_}
 use lib.ListN.{length}
 use lib.Dec.{leb, eqb}
-use Rattle.diagram.specs.Limits.{maxVariables}
+use Rattle.diagram.specs.Limits.{maxNodes, maxVariables}
 use Rattle.writing.specs.Writing.{bytes}
 use Rattle.blocks.specs.Block.{maxStored}
 use Rattle.text.specs.Digits.{decimalDigits, hexadecimalDigits, decimal, hexadecimal}
@@ -14,10 +14,10 @@ use Rattle.request.specs.Request.{Aim, nodes, cases}
 -- ---- words that ask for no cut
 
 abbrev pub helpText : List ℕ
-helpText = bytes "shrink keep size N       at most N nodes: cases are added until it fits\nshrink keep cases N      at least N cases\nshrink keep hex N        at least N cases, N in hexadecimal as weigh prints it\nshrink suppress size N   at most N nodes: cases are lost until it fits\nshrink suppress cases N  at most N cases\nshrink suppress hex N    at most N cases, N in hexadecimal as weigh prints it\nA condition that fits already loses no case and gains none, and comes out in the fewest nodes; as-is after N leaves its nodes as they are.\nReads a block file on standard input and writes it cut to fit to standard output, the summary to standard error.\nkeep only adds cases, suppress only loses them. Numbers are decimal but for hex, with no zeros in front.\n"
+helpText = bytes "shrink keep size N       at most N nodes: cases are added until it fits\nshrink keep cases N      at least N cases\nshrink keep hex N        at least N cases, N in hexadecimal as weigh prints it\nshrink suppress size N   at most N nodes: cases are lost until it fits\nshrink suppress cases N  at most N cases\nshrink suppress hex N    at most N cases, N in hexadecimal as weigh prints it\nA condition that fits already loses no case and gains none, and comes out in the fewest nodes; as-is after N leaves its nodes as they are.\nReads a block file on standard input and writes it cut to fit to standard output, the summary to standard error; shrink nodes .. does the same with a node file, of up to 4096 nodes.\nkeep only adds cases, suppress only loses them. Numbers are decimal but for hex, with no zeros in front.\n"
 
 abbrev pub unknownText : List ℕ
-unknownText = bytes "shrink: the words are keep or suppress, size or cases or hex, a number, and as-is where it is wanted; shrink alone prints its help\n"
+unknownText = bytes "shrink: the words are nodes where it is a node file, keep or suppress, size or cases or hex, a number, and as-is where it is wanted; shrink alone prints its help\n"
 
 abbrev pub whichText : List ℕ
 whichText = bytes "shrink: count does not say which base its number is in: write cases for decimal, hex for hexadecimal\n"
@@ -54,7 +54,10 @@ phrase number =
     (cond (eqb number 23) (bytes "a block number, a node count or the order of blocks is wrong")
     (cond (eqb number 24) (bytes "unused bytes are not zero")
     (cond (eqb number 25) (moreThan maxStored (bytes " nodes"))
-    (bytes "the input is refused")))))))))))))))))
+    (cond (eqb number 51) (bytes "the file is empty")
+    (cond (eqb number 52) (bytes "the length of the file is not a multiple of ten bytes")
+    (cond (eqb number 53) (moreThan maxNodes (bytes " nodes"))
+    (bytes "the input is refused"))))))))))))))))))))
 
 unfoldable pub refusalText : ℕ → ℕ → List ℕ
 refusalText number place = refusedAt number place ++ bytes ": " ++ subject number place ++ phrase number ++ feed

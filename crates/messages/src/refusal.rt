@@ -1,5 +1,6 @@
 // The line of a refusal: `refused 22 at 0: a check sum is wrong`.
 use blocks::layout::MOST;
+use diagram::limits::MAX_NODES;
 use diagram::limits::MAX_VARIABLES;
 use diagram::refusal::BAD_VARIABLE;
 use diagram::refusal::BROKEN_HIGH_ORDER;
@@ -96,6 +97,13 @@ fn write_phrase(out: &mut [u8], at: usize, number: u32) -> usize
         ),
         24 => write(out, at, b"unused bytes are not zero"),
         25 => write_limit(out, at, MOST, b" nodes"),
+        51 => write(out, at, b"the file is empty"),
+        52 => write(
+            out,
+            at,
+            b"the length of the file is not a multiple of ten bytes",
+        ),
+        53 => write_limit(out, at, MAX_NODES, b" nodes"),
         _ => write(out, at, b"the input is refused"),
     }
 }

@@ -15,13 +15,16 @@ use Rattle.diagram.specs.declared.verdict.Verdict.{Verdict}
 use Rattle.diagram.specs.declared.verdict.Verdict.the-variants.{Accepted, Refused}
 use Rattle.weights.specs.Weighed.{CountsAndWeighs}
 use Rattle.node_weights.proofs.Answers.{weighed-long, weighed-at}
-use Rattle.blocks.specs.Block.{maxStored, maxStoredWords, nodes, refused as unread, said as told}
+use Rattle.diagram.specs.Limits.{maxNodes}
+use Rattle.blocks.specs.Block.{nodes, refused as unread, said as told}
 use Rattle.blocks.specs.declared.stored.Stored.{Stored}
 use Rattle.blocks.specs.declared.stored.Stored.the-variants.{Nodes, Refused as Unread}
-use Rattle.block_file.specs.File.{Reading, reading, readFile, ReadsFile}
-use Rattle.block_file.proofs.Steps.{read-few}
+use Rattle.block_file.specs.File.{Reading, reading}
+use Rattle.forms.specs.Form.{readAs, FormReads}
+use Rattle.forms.specs.declared.Form.{Form}
+use Rattle.forms.proofs.Laws.{form-few}
 use Rattle.writing.specs.Writing.{Wrote}
-use Rattle.report.specs.Report.{refusal, head, lines, weightIn, weighedReport, weightsLent, roomLent, diagramReport, storedReport, reportOf}
+use Rattle.report.specs.Report.{refusal, head, lines, weightIn, weighedReport, weightsLent, roomLent, diagramReport, storedReport, blank, reportOf}
 use Rattle.report.proofs.Composing.{lines-same}
 
 module _ (w room room-left table left : List ℕ) {r : Verdict} {count : List ℕ} (a : CountsAndWeighs w room room-left table left r count)
@@ -61,15 +64,14 @@ module _ (w room room-left table left : List ℕ) {r : Verdict} {count : List �
 
 -- ---- of a file
 
-module _ (s blank left : List ℕ) {r : Stored} (a : ReadsFile s blank left r) (is-blank : blank ≡ replicate maxStoredWords 0) where
-  pub file-refused : {k p : ℕ} {before after : List ℕ} {end : ℕ} → r ≡ Unread k p → Wrote (refusal k p) before 0 after end → Wrote (reportOf s) before 0 after end
+module _ (form : Form) (s before-words left : List ℕ) {r : Stored} (a : FormReads form s before-words left r) (is-blank : before-words ≡ blank) where
+  pub file-refused : {k p : ℕ} {before after : List ℕ} {end : ℕ} → r ≡ Unread k p → Wrote (refusal k p) before 0 after end → Wrote (reportOf form s) before 0 after end
   unfolding reportOf
   file-refused e t = rw (sym is-blank, sym (a .is), e) t
 
-  pub file-read : {n : ℕ} {before after : List ℕ} {end : ℕ} → r ≡ Nodes n → Wrote (diagramReport (take (3 * n) left)) before 0 after end → Wrote (reportOf s) before 0 after end
+  pub file-read : {n : ℕ} {before after : List ℕ} {end : ℕ} → r ≡ Nodes n → Wrote (diagramReport (take (3 * n) left)) before 0 after end → Wrote (reportOf form s) before 0 after end
   unfolding reportOf
   file-read e t = rw (sym is-blank, sym (a .is), e) t
 
-  pub file-few : {n : ℕ} → r ≡ Nodes n → n ≤ maxStored
-  unfolding readFile
-  file-few e = read-few 3 0 0 s blank (sym (rw e at (a .is)))
+  pub file-few : {n : ℕ} → r ≡ Nodes n → n ≤ maxNodes
+  file-few e = form-few form s before-words (sym (rw e at (a .is)))

@@ -11,16 +11,18 @@ use Rattle.diagram.specs.Verdict.{Outcome, accepted, refused, verdictFor}
 use Rattle.diagram.specs.declared.verdict.Output.the-variants.{Weights}
 use Rattle.diagram.proofs.Meaning.{verdict-accepted}
 use Rattle.diagram.proofs.Reading.{layered, accepted-ordered, var-most}
-use Rattle.blocks.specs.Block.{maxStored, maxStoredWords, nodes, refused as unread}
-use Rattle.block_file.specs.File.{Reading, reading, readFile}
-use Rattle.block_file.proofs.Steps.{read-few}
-use Rattle.block_file.proofs.Enough.{front-enough}
+use Rattle.diagram.specs.Limits.{maxNodes}
+use Rattle.blocks.specs.Block.{nodes, refused as unread}
+use Rattle.block_file.specs.File.{Reading, reading}
+use Rattle.forms.specs.Form.{readAs}
+use Rattle.forms.specs.declared.Form.{Form}
+use Rattle.forms.proofs.Promised.{front-enough}
 use Rattle.text.specs.Digits.{decimalDigits, hexadecimalDigits, decimal}
 use Rattle.text.proofs.Numerals.{decimal-length, decimal-short, hexadecimal-length}
 use Rattle.writing.specs.Writing.{Wrote}
 use Rattle.writing.proofs.Laws.{wrote-length, wrote-fits, wrote-place}
 use Rattle.report.specs.Reported.{smallDigits, longestHead, longestLine, reportBuffer, Reported}
-use Rattle.report.specs.Report.{refusedAt, refusal, line, lines, head, weighedReport, diagramReport, weightsLent, roomLent, storedReport, reportOf}
+use Rattle.report.specs.Report.{refusedAt, refusal, line, lines, head, weighedReport, diagramReport, weightsLent, roomLent, storedReport, blank, reportOf}
 
 -- What is weighed was accepted, so its numbers are small: variables and nodes have few digits.
 weighed-accepted : (w : List ℕ) {n v : ℕ} → verdictFor Weights w roomLent weightsLent ≡ accepted n v → Accepted w
@@ -54,41 +56,37 @@ module _ (w : List ℕ) (a : Accepted w) where
   lines-length weight p (suc c) h =
       simp length-append (omega (arith, line-length (weight p) p (omega arith), lines-length weight (suc p) c (omega arith)))
 
-weighed-length : (w : List ℕ) (o : Outcome) → size w ≤ maxStored → verdictFor Weights w roomLent weightsLent ≡ o → length (weighedReport w o) ≤ reportBuffer
-weighed-length w (accepted n v) few e =
+weighed-length : (w : List ℕ) (o : Outcome) → verdictFor Weights w roomLent weightsLent ≡ o → length (weighedReport w o) ≤ reportBuffer
+weighed-length w (accepted n v) e =
     let a = weighed-accepted w e in
-    simp length-append (omega (arith, head-length w a (countOf w), lines-length w a (weightOf w) 0 (size w) (omega arith)))
-weighed-length w (refused number place) few e = omega (arith, refusal-length number place)
+    simp length-append (omega (arith, a .formed .few, head-length w a (countOf w), lines-length w a (weightOf w) 0 (size w) (omega arith)))
+weighed-length w (refused number place) e = omega (arith, refusal-length number place)
 
-diagram-length : (w : List ℕ) → size w ≤ maxStored → length (diagramReport w) ≤ reportBuffer
+diagram-length : (w : List ℕ) → length (diagramReport w) ≤ reportBuffer
 unfolding diagramReport
-diagram-length w few = weighed-length w (verdictFor Weights w roomLent weightsLent) few refl
+diagram-length w = weighed-length w (verdictFor Weights w roomLent weightsLent) refl
 
-stored-length : (s out : List ℕ) (r : Reading) → readFile s out ≡ r → length (storedReport r) ≤ reportBuffer
-unfolding readFile
-stored-length s out (reading (nodes n) left) e =
-    let few : n ≤ maxStored = read-few 3 0 0 s out e in
-    let l : length (take (3 * n) left) ≤ maxStoredWords = simp length-take (omega arith) in
-    diagram-length (take (3 * n) left) (omega arith)
-stored-length s out (reading (unread number place) left) e = omega (arith, refusal-length number place)
+stored-length : (r : Reading) → length (storedReport r) ≤ reportBuffer
+stored-length (reading (nodes n) left) = diagram-length (take (3 * n) left)
+stored-length (reading (unread number place) left) = omega (arith, refusal-length number place)
 
-pub report-length : (s : List ℕ) → length (reportOf s) ≤ reportBuffer
+pub report-length : (form : Form) (s : List ℕ) → length (reportOf form s) ≤ reportBuffer
 unfolding reportOf
-report-length s = stored-length s (replicate maxStoredWords 0) (readFile s (replicate maxStoredWords 0)) refl
+report-length form s = stored-length (readAs form s blank)
 
 -- What was written up to the place that the writer returns is the whole report.
-pub report-whole : (s : List ℕ) {before after : List ℕ} {end : ℕ} → reportBuffer ≤ length before → Wrote (reportOf s) before 0 after end
-    → (end ≤ length after) × (take end after ≡ reportOf s)
-report-whole s {before} {after} {end} h w =
-    let l : 0 + length (reportOf s) ≤ length before = omega (arith, report-length s) in
-    let e : length (reportOf s) ≡ end = omega (arith, wrote-place w l) in
-    let f : after ≡ reportOf s ++ drop (0 + length (reportOf s)) before = wrote-fits w l in
-    (omega (arith, wrote-length w), ap (take end) f ∙ take-at (reportOf s) (drop (0 + length (reportOf s)) before) end e)
+pub report-whole : (form : Form) (s : List ℕ) {before after : List ℕ} {end : ℕ} → reportBuffer ≤ length before → Wrote (reportOf form s) before 0 after end
+    → (end ≤ length after) × (take end after ≡ reportOf form s)
+report-whole form s {before} {after} {end} h w =
+    let l : 0 + length (reportOf form s) ≤ length before = omega (arith, report-length form s) in
+    let e : length (reportOf form s) ≡ end = omega (arith, wrote-place w l) in
+    let f : after ≡ reportOf form s ++ drop (0 + length (reportOf form s)) before = wrote-fits w l in
+    (omega (arith, wrote-length w), ap (take end) f ∙ take-at (reportOf form s) (drop (0 + length (reportOf form s)) before) end e)
 
 pub reported : Reported
 unfolding reportOf
 reported =
     record {
       fits = report-length;
-      front-enough = λ s k h. ap storedReport (front-enough s (replicate maxStoredWords 0) k h);
+      front-enough = λ form s k h. ap storedReport (front-enough form s blank k h);
     }

@@ -1,18 +1,20 @@
--- The report of a block file (document 01, "The program reads a block file on standard input"). Texts are lists of bytes.
+-- The report of a file, block file or node file (document 01, "The program reads a block file on standard input"). Texts are lists of bytes.
 use Prim.Native.Nat.{ℕ, zero, suc, _+_, _*_}
 use mathlib.Core.Bool.{cond}
 use mathlib.Core.List.{List, [], _∷_, _++_}
 use lib.ListN.{length, take, drop, replicate}
 use lib.Dec.{leb}
 use Rattle.naturals.specs.Natural.{value, wordCount}
-use Rattle.diagram.specs.Limits.{roomPerNode}
+use Rattle.diagram.specs.Limits.{maxNodes, maxWords, roomPerNode}
 use Rattle.diagram.specs.Diagram.{varOf, size, vars}
 use Rattle.diagram.specs.Valuations.{countOf, weightOf}
 use Rattle.diagram.specs.Verdict.{Outcome, accepted, refused, verdictFor}
 use Rattle.diagram.specs.declared.verdict.Output.the-variants.{Weights}
 use Rattle.writing.specs.Writing.{bytes}
-use Rattle.blocks.specs.Block.{maxStored, maxStoredWords, nodes, refused as unread}
-use Rattle.block_file.specs.File.{Reading, reading, readFile}
+use Rattle.blocks.specs.Block.{nodes, refused as unread}
+use Rattle.block_file.specs.File.{Reading, reading}
+use Rattle.forms.specs.Form.{readAs}
+use Rattle.forms.specs.declared.Form.{Form}
 use Rattle.text.specs.Digits.{decimal, hexadecimal}
 
 -- a line feed
@@ -51,12 +53,12 @@ abbrev pub weighedReport : List ℕ → Outcome → List ℕ
 weighedReport w (accepted n v) = head w (countOf w) ++ lines w (weightOf w) 0 (size w)
 weighedReport w (refused number place) = refusal number place
 
--- The words of its weights and of the room are those that the most nodes of a file need.
+-- The words of its weights and of the room are those that the most nodes need.
 abbrev pub weightsLent : ℕ
-weightsLent = wordCount * maxStored
+weightsLent = wordCount * maxNodes
 
 abbrev pub roomLent : ℕ
-roomLent = roomPerNode * maxStored
+roomLent = roomPerNode * maxNodes
 
 unfoldable pub diagramReport : List ℕ → List ℕ
 diagramReport w = weighedReport w (verdictFor Weights w roomLent weightsLent)
@@ -66,5 +68,9 @@ abbrev pub storedReport : Reading → List ℕ
 storedReport (reading (nodes n) left) = diagramReport (take (3 * n) left)
 storedReport (reading (unread number place) left) = refusal number place
 
-unfoldable pub reportOf : List ℕ → List ℕ
-reportOf s = storedReport (readFile s (replicate maxStoredWords 0))
+-- What a file is read into.
+abbrev pub blank : List ℕ
+blank = replicate maxWords 0
+
+unfoldable pub reportOf : Form → List ℕ → List ℕ
+reportOf form s = storedReport (readAs form s blank)

@@ -4,8 +4,9 @@ use mathlib.Core.Path.{_≡_}
 use mathlib.Core.List.{List}
 use lib.ListN.{length, take}
 use Rattle.writing.specs.Writing.{bytes}
-use Rattle.blocks.specs.Block.{blockBytes, maxStored}
-use Rattle.block_file.specs.File.{blockCount}
+use Rattle.diagram.specs.Limits.{maxNodes}
+use Rattle.node_file.specs.NodeFile.{nodeInputBytes}
+use Rattle.forms.specs.declared.Form.{Form}
 use Rattle.text.specs.Digits.{hexadecimalDigits}
 use Rattle.report.specs.Report.{reportOf}
 
@@ -22,9 +23,9 @@ longestLine = length (bytes "node  var  weight \n") + 2 * smallDigits + hexadeci
 
 -- The text buffer of the program `weigh`: the longest report of a file. The code has the same number in src/lines.rt.
 abbrev pub reportBuffer : ℕ
-reportBuffer = longestHead + maxStored * longestLine
+reportBuffer = longestHead + maxNodes * longestLine
 
 pub record Reported : Type 0 where
-  -- every report fits the buffer; one byte more than a file may have is enough of the input
-  pub fits : (s : List ℕ) → length (reportOf s) ≤ reportBuffer
-  pub front-enough : (s : List ℕ) (k : ℕ) → blockBytes * blockCount maxStored < k → reportOf (take k s) ≡ reportOf s
+  -- every report fits the buffer; the bytes of one node more than there may be are enough of the input
+  pub fits : (form : Form) (s : List ℕ) → length (reportOf form s) ≤ reportBuffer
+  pub front-enough : (form : Form) (s : List ℕ) (k : ℕ) → nodeInputBytes ≤ k → reportOf form (take k s) ≡ reportOf form s

@@ -1,3 +1,3 @@
-// The report of a block file: count and weights of the diagram in it as lines of text, or the one line of its refusal.
+// The report of a file: count and weights of the diagram in it as lines of text, or the one line of its refusal.
 pub mod lines;
 pub mod weigh;

@@ -1,5 +1,5 @@
 // The lines of the report. Counts and weights are hexadecimal, the rest is decimal.
-use blocks::layout::MOST;
+use diagram::limits::MAX_NODES;
 use diagram::node::word;
 use naturals::Natural;
 use naturals::load;
@@ -29,7 +29,7 @@ const SMALL: usize = 5;
 pub const REPORT: usize = HEAD_WORDS
     + 2 * SMALL
     + HEXADECIMAL
-    + MOST * (LINE_WORDS + 2 * SMALL + HEXADECIMAL);
+    + MAX_NODES * (LINE_WORDS + 2 * SMALL + HEXADECIMAL);
 
 // A label and a number after it.
 pub fn write_number(out: &mut [u8], at: usize, label: &[u8], x: u64) -> usize

@@ -1,22 +1,23 @@
-// From the bytes of a block file to the text of the report.
+// From the bytes of a file to the text of the report.
 use crate::lines::write_lines;
 use crate::lines::write_refusal;
-use block_file::read::read_file;
-use blocks::layout::FILE_WORDS;
-use blocks::layout::MOST;
 use blocks::stored::Stored;
+use diagram::limits::MAX_NODES;
+use diagram::limits::MAX_WORDS;
 use diagram::limits::ROOM_PER_NODE;
 use diagram::verdict::Verdict;
+use forms::Form;
+use forms::read_form;
 use node_weights::count_and_weights;
 ghost use Prim.Native.Nat.{_*_, _≤_};
 ghost use lib.ListN.{length};
 ghost use Rattle.writing.specs.Writing.{Wrote};
 ghost use Rattle.report.specs.Report.{reportOf, diagramReport};
 
-// Words of the weights of the most nodes that a file may have, and of the room to weigh them.
-const WEIGHTS: usize = naturals::WORDS * MOST;
+// Words of the weights of the most nodes, and of the room to weigh them.
+const WEIGHTS: usize = naturals::WORDS * MAX_NODES;
 
-const ROOM: usize = ROOM_PER_NODE * MOST;
+const ROOM: usize = ROOM_PER_NODE * MAX_NODES;
 
 // The report of a diagram, or its refusal.
 pub fn report_diagram(out: &mut [u8], words: &[u32]) -> usize
@@ -33,12 +34,12 @@ pub fn report_diagram(out: &mut [u8], words: &[u32]) -> usize
     }
 }
 
-// The report of a block file: the file's refusal, or what its diagram reports.
-pub fn report(out: &mut [u8], bytes: &[u8]) -> usize
-    ensures { λ r. ⌜ Wrote (reportOf (now (bytes .entry))) (now (out .entry)) 0 (now (out .exit)) r ⌝ }
+// The report of a file: the file's refusal, or what its diagram reports.
+pub fn report(out: &mut [u8], form: Form, bytes: &[u8]) -> usize
+    ensures { λ r. ⌜ Wrote (reportOf form (now (bytes .entry))) (now (out .entry)) 0 (now (out .exit)) r ⌝ }
 {
-    let mut words = [0u32; FILE_WORDS];
-    let stored = read_file(bytes, &mut words);
+    let mut words = [0u32; MAX_WORDS];
+    let stored = read_form(form, bytes, &mut words);
     match stored {
         Stored::Nodes(nodes) => report_diagram(out, &words[..3 * nodes]),
         Stored::Refused { number, place } => write_refusal(out, number, place),

@@ -1,5 +1,5 @@
 -- A request from its words.
-use Prim.Native.Nat.{ℕ, _^_}
+use Prim.Native.Nat.{ℕ, _-_, _^_}
 use mathlib.Core.Path.{_≡_, refl, sym, ap, _∙_}
 use mathlib.Core.Bool.{Bool, true, false, cond}
 use mathlib.Core.List.{List}
@@ -9,7 +9,9 @@ use Rattle.naturals.specs.Natural.{value, limit, Answers, Holds}
 use Rattle.naturals.specs.declared.Fit.{Fit}
 use Rattle.writing.specs.Writing.{bytes}
 use Rattle.text.specs.Digits.{Reading, number, none, parsed, isNumber, numberOf, Parses}
-use Rattle.request.specs.Request.{alike, Aim, nodes, cases, Meaning, help, unknown, which, cut, ifNumber, aimed, directed, requestOf, aimOf, meant}
+use Rattle.request.specs.Request.{alike, Aim, nodes, cases, Meaning, help, unknown, which, cut, ifNumber, aimed, directed, requestOf, isNodes, formOf, wordsOf, aimOf, meant}
+use Rattle.forms.specs.declared.Form.{Form}
+use Rattle.forms.specs.declared.Form.the-variants.{Blocks, Nodes}
 use Rattle.request.specs.declared.Asked.the-variants.{Help, Unknown, Which, Cut}
 use Rattle.request.specs.declared.Request.{Request}
 
@@ -112,3 +114,23 @@ module _ (count : ℕ) (d k n f : List ℕ) {m : Meaning} where
         pub asks-none : a ≡ false → m ≡ unknown → m ≡ requestOf count d k n f
         unfolding requestOf
         asks-none g e = rw (ne-eqb count 0 some, ne-eqb count 3 more, eq-eqb count 4 four, sym ea, g) e
+
+-- ---- the form
+
+module _ (first : List ℕ) {a : Bool} (ea : a ≡ isNodes first) where
+  pub is-nodes : a ≡ true → Nodes ≡ formOf first
+  unfolding formOf
+  is-nodes f = rw (sym ea, f) refl
+
+  pub is-blocks : a ≡ false → Blocks ≡ formOf first
+  unfolding formOf
+  is-blocks f = rw (sym ea, f) refl
+
+  module _ (count : ℕ) (b c d e : List ℕ) {m : Meaning} where
+    pub asks-behind : {k : ℕ} → a ≡ true → k ≡ count - 1 → m ≡ requestOf k b c d e → m ≡ wordsOf count first b c d e
+    unfolding wordsOf
+    asks-behind f g h = rw (sym ea, f) (rw g at h)
+
+    pub asks-plain : a ≡ false → m ≡ requestOf count first b c d → m ≡ wordsOf count first b c d e
+    unfolding wordsOf
+    asks-plain f h = rw (sym ea, f) h

@@ -1,5 +1,5 @@
 -- A word that is longer than the program's buffer for it means what an empty one means.
-use Prim.Native.Nat.{ℕ, _≤_, _<_, _^_}
+use Prim.Native.Nat.{ℕ, _-_, _≤_, _<_, _^_}
 use mathlib.Core.Path.{_≡_, refl, sym}
 use mathlib.Core.Bool.{Bool, true, false}
 use mathlib.Core.List.{List, [], _∷_}
@@ -10,7 +10,7 @@ use Rattle.naturals.specs.Natural.{limit}
 use Rattle.writing.specs.Writing.{bytes}
 use Rattle.text.specs.Digits.{decimalDigits, hexadecimalDigits, decimal, hexadecimal, Reading, number, none, padded, parsed, Exactly}
 use Rattle.text.proofs.Numerals.{decimal-length, hexadecimal-length, decimal-exactly, natural-exactly, hexadecimal-exactly}
-use Rattle.request.specs.Request.{alike, unknown, aimed, directed, requestOf, wordBuffer, Buffered}
+use Rattle.request.specs.Request.{alike, unknown, aimed, directed, requestOf, formOf, wordsOf, weighable, wordBuffer, Buffered}
 use Rattle.request.proofs.Alike.{unlike-lengths}
 
 -- ---- a number
@@ -89,5 +89,46 @@ module _ (count : ℕ) (direction kind text flag : List ℕ) where
   unfolding requestOf alike
   flag-long h = rw (unlike flag h (bytes "as-is") (omega arith)) refl
 
+-- ---- with `nodes` in front, and without
+
+module _ (count : ℕ) (a b c d e : List ℕ) where
+  first-long : wordBuffer < length a → wordsOf count a b c d e ≡ wordsOf count [] b c d e
+  unfolding wordsOf alike
+  first-long h = rw (unlike a h (bytes "nodes") (omega arith)) (direction-long count a b c d h)
+
+  second-long : wordBuffer < length b → wordsOf count a b c d e ≡ wordsOf count a [] c d e
+  unfolding wordsOf
+  second-long h = rw (direction-long (count - 1) b c d e h, kind-long count a b c d h) refl
+
+  third-long : wordBuffer < length c → wordsOf count a b c d e ≡ wordsOf count a b [] d e
+  unfolding wordsOf
+  third-long h = rw (kind-long (count - 1) b c d e h, number-long count a b c d h) refl
+
+  fourth-long : wordBuffer < length d → wordsOf count a b c d e ≡ wordsOf count a b c [] e
+  unfolding wordsOf
+  fourth-long h = rw (number-long (count - 1) b c d e h, flag-long count a b c d h) refl
+
+  fifth-long : wordBuffer < length e → wordsOf count a b c d e ≡ wordsOf count a b c d []
+  unfolding wordsOf
+  fifth-long h = rw (flag-long (count - 1) b c d e h) refl
+
+module _ (first : List ℕ) (h : wordBuffer < length first) where
+  form-long : formOf first ≡ formOf []
+  unfolding formOf alike
+  form-long = rw (unlike first h (bytes "nodes") (omega arith)) refl
+
+  weigh-long : (count : ℕ) → weighable count first ≡ weighable count []
+  unfolding weighable alike
+  weigh-long count = rw (unlike first h (bytes "nodes") (omega arith)) refl
+
 pub buffered : Buffered
-buffered = record { direction-long = direction-long; kind-long = kind-long; number-long = number-long; flag-long = flag-long }
+buffered =
+    record {
+      first-long = first-long;
+      second-long = second-long;
+      third-long = third-long;
+      fourth-long = fourth-long;
+      fifth-long = fifth-long;
+      form-long = form-long;
+      weigh-long = λ count first h. weigh-long first h count;
+    }

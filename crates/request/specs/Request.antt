@@ -1,13 +1,15 @@
 -- The words of a request: which are taken, and what they mean. Words are lists of bytes.
-use Prim.Native.Nat.{ℕ, _<_, _^_}
+use Prim.Native.Nat.{ℕ, _-_, _<_, _^_}
 use mathlib.Core.Path.{_≡_}
-use mathlib.Core.Bool.{Bool, true, false, cond, not, _&&_}
+use mathlib.Core.Bool.{Bool, true, false, cond, not, _&&_, _||_}
 use mathlib.Core.List.{List, [], _∷_}
 use lib.ListN.{length}
 use lib.Dec.{eqb}
 use Rattle.naturals.specs.Natural.{value, limit}
 use Rattle.writing.specs.Writing.{bytes}
 use Rattle.text.specs.Digits.{decimalDigits, Reading, number, none, parsed}
+use Rattle.forms.specs.declared.Form.{Form}
+use Rattle.forms.specs.declared.Form.the-variants.{Blocks, Nodes}
 use Rattle.request.specs.declared.Asked.{Asked}
 use Rattle.request.specs.declared.Asked.the-variants.{Help, Unknown, Which, Cut}
 use Rattle.request.specs.declared.Target.{Target}
@@ -62,6 +64,22 @@ requestOf count direction kind text flag =
     (cond (alike flag (bytes "as-is")) (directed true direction kind text)
     unknown)))
 
+-- ---- the form of the file
+
+-- `nodes` in front says a node file. The words behind it mean what they mean without it.
+abbrev pub isNodes : List ℕ → Bool
+isNodes first = alike first (bytes "nodes")
+
+unfoldable pub formOf : List ℕ → Form
+formOf first = cond (isNodes first) Nodes Blocks
+
+unfoldable pub wordsOf : ℕ → List ℕ → List ℕ → List ℕ → List ℕ → List ℕ → Meaning
+wordsOf count first second third fourth fifth = cond (isNodes first) (requestOf (count - 1) second third fourth fifth) (requestOf count first second third fourth)
+
+-- the words of `weigh`: none, or `nodes`
+unfoldable pub weighable : ℕ → List ℕ → Bool
+weighable count first = eqb count 0 || (eqb count 1 && isNodes first)
+
 -- ---- how long a word may be
 
 -- The bytes that the program lends for a word: the digits that the largest number of cases has in decimal.
@@ -70,10 +88,13 @@ wordBuffer = decimalDigits
 
 -- A longer word means what an empty one means, which is what the program reads in its place (proofs/Long.antt).
 pub record Buffered : Type 0 where
-  pub direction-long : (count : ℕ) (direction kind text flag : List ℕ) → wordBuffer < length direction → requestOf count direction kind text flag ≡ requestOf count [] kind text flag
-  pub kind-long : (count : ℕ) (direction kind text flag : List ℕ) → wordBuffer < length kind → requestOf count direction kind text flag ≡ requestOf count direction [] text flag
-  pub number-long : (count : ℕ) (direction kind text flag : List ℕ) → wordBuffer < length text → requestOf count direction kind text flag ≡ requestOf count direction kind [] flag
-  pub flag-long : (count : ℕ) (direction kind text flag : List ℕ) → wordBuffer < length flag → requestOf count direction kind text flag ≡ requestOf count direction kind text []
+  pub first-long : (count : ℕ) (a b c d e : List ℕ) → wordBuffer < length a → wordsOf count a b c d e ≡ wordsOf count [] b c d e
+  pub second-long : (count : ℕ) (a b c d e : List ℕ) → wordBuffer < length b → wordsOf count a b c d e ≡ wordsOf count a [] c d e
+  pub third-long : (count : ℕ) (a b c d e : List ℕ) → wordBuffer < length c → wordsOf count a b c d e ≡ wordsOf count a b [] d e
+  pub fourth-long : (count : ℕ) (a b c d e : List ℕ) → wordBuffer < length d → wordsOf count a b c d e ≡ wordsOf count a b c [] e
+  pub fifth-long : (count : ℕ) (a b c d e : List ℕ) → wordBuffer < length e → wordsOf count a b c d e ≡ wordsOf count a b c d []
+  pub form-long : (first : List ℕ) → wordBuffer < length first → formOf first ≡ formOf []
+  pub weigh-long : (count : ℕ) (first : List ℕ) → wordBuffer < length first → weighable count first ≡ weighable count []
 
 -- ---- the same as the code has it
 

@@ -1,4 +1,6 @@
-// The words of a request to shrink: `keep` or `suppress`; `size`, `cases` or `hex`; a number; and where it is wanted `as-is`.
+// The words of a request to shrink: `nodes` where it is a node file; `keep` or `suppress`; `size`, `cases` or `hex`; a number; and where
+// it is wanted `as-is`.
+pub mod form;
 pub mod words;
 
 use naturals::Fit;
@@ -125,8 +127,14 @@ fn direct(as_is: bool, direction: &[u8], kind: &[u8], number: &[u8]) -> Request
     no_cut(Asked::Unknown)
 }
 
-// `count` is how many words there are.
-pub fn ask(count: usize, direction: &[u8], kind: &[u8], number: &[u8], flag: &[u8]) -> Request
+// The words but for `nodes`; `count` is how many there are.
+pub(crate) fn ask(
+    count: usize,
+    direction: &[u8],
+    kind: &[u8],
+    number: &[u8],
+    flag: &[u8],
+) -> Request
     ensures { λ r. ⌜ meant r ≡ requestOf count (now (direction .entry)) (now (kind .entry)) (now (number .entry)) (now (flag .entry)) ⌝ }
 {
     if count == 0 {

@@ -1,11 +1,11 @@
-// `shrink keep size 40`, `shrink suppress cases 7936 as-is`: a block file on standard input, cut to fit, on standard output. The
-// summary, the one line of a refusal and the help go to standard error. What is written is decided by `answer` of
+// `shrink keep size 40`, `shrink suppress cases 7936 as-is`: a block file on standard input, cut to fit, on standard output; with `nodes`
+// before the other words a node file. The summary, the one line of a refusal and the help go to standard error. What is written is decided by `answer` of
 // crates/shrinking alone: here the words are fetched, the input is read, and both channels are written.
-use blocks::layout::BLOCK;
-use blocks::layout::FILE;
 use libc::STDERR_FILENO;
 use libc::STDOUT_FILENO;
 use messages::summary::SUMMARY;
+use node_file::layout::NODE_FILE;
+use node_file::layout::NODE_INPUT;
 use request::WORD;
 use shrinking::Ends;
 use shrinking::answer::answer;
@@ -14,11 +14,9 @@ ghost use Prim.Native.Nat.{_≤_};
 ghost use lib.ListN.{length};
 ghost use Rattle.shrink_program.specs.Program.{Answered, Ran};
 
-// The blocks that a file may have, and one more to see whether bytes stand after them.
-const INPUT: usize = FILE + BLOCK;
-
-fn blank_input() -> [u8; INPUT] {
-    [0u8; INPUT]
+// So much of the input tells what all of it would.
+fn blank_input() -> [u8; NODE_INPUT] {
+    [0u8; NODE_INPUT]
 }
 
 fn blank_word() -> [u8; WORD] {
@@ -47,22 +45,24 @@ fn deliver(file: &[u8], text: &[u8], ends: Ends) {
 
 fn run(
     count: usize,
-    direction: &[u8],
-    kind: &[u8],
-    number: &[u8],
-    flag: &[u8],
+    first: &[u8],
+    second: &[u8],
+    third: &[u8],
+    fourth: &[u8],
+    fifth: &[u8],
     bytes: &[u8],
 ) -> Ends
-    ensures { λ r. ⌜ Answered count (now (direction .entry)) (now (kind .entry)) (now (number .entry)) (now (flag .entry)) (now (bytes .entry)) (r .file) (r .text) ⌝ }
+    ensures { λ r. ⌜ Answered count (now (first .entry)) (now (second .entry)) (now (third .entry)) (now (fourth .entry)) (now (fifth .entry)) (now (bytes .entry)) (r .file) (r .text) ⌝ }
 {
-    let mut file = [0u8; FILE];
+    let mut file = [0u8; NODE_FILE];
     let mut text = [0u8; SUMMARY];
     let ends = answer(
         count,
-        direction,
-        kind,
-        number,
-        flag,
+        first,
+        second,
+        third,
+        fourth,
+        fifth,
         bytes,
         &mut file,
         &mut text,
@@ -90,32 +90,35 @@ fn word_count() -> usize {
     words - 1
 }
 
-fn read_and_run(direction: &[u8], kind: &[u8], number: &[u8], flag: &[u8]) -> Ends
+fn read_and_run(first: &[u8], second: &[u8], third: &[u8], fourth: &[u8], fifth: &[u8]) -> Ends
     ensures { λ r. ⌜ Ran (r .file) (r .text) ⌝ }
 {
     let mut bytes = blank_input();
     let count = word_count();
-    let wanted = wants_input(count, direction, kind, number, flag);
+    let wanted = wants_input(count, first, second, third, fourth, fifth);
     let length = read_input(wanted, &mut bytes);
-    run(count, direction, kind, number, flag, &bytes[..length])
+    run(count, first, second, third, fourth, fifth, &bytes[..length])
 }
 
 // The whole program, for its crate and for the test programs. It answers how many bytes it had for each channel.
 pub fn run_program() -> Ends
     ensures { λ r. ⌜ Ran (r .file) (r .text) ⌝ }
 {
-    let mut direction = blank_word();
-    let mut kind = blank_word();
-    let mut number = blank_word();
-    let mut flag = blank_word();
-    let first = os::arg(1, &mut direction);
-    let second = os::arg(2, &mut kind);
-    let third = os::arg(3, &mut number);
-    let fourth = os::arg(4, &mut flag);
+    let mut a = blank_word();
+    let mut b = blank_word();
+    let mut c = blank_word();
+    let mut d = blank_word();
+    let mut e = blank_word();
+    let first = os::arg(1, &mut a);
+    let second = os::arg(2, &mut b);
+    let third = os::arg(3, &mut c);
+    let fourth = os::arg(4, &mut d);
+    let fifth = os::arg(5, &mut e);
     read_and_run(
-        &direction[..first],
-        &kind[..second],
-        &number[..third],
-        &flag[..fourth],
+        &a[..first],
+        &b[..second],
+        &c[..third],
+        &d[..fourth],
+        &e[..fifth],
     )
 }

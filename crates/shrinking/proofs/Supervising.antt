@@ -1,108 +1,73 @@
 -- What a supervisor is promised, from bytes to bytes.
-use Prim.Native.Nat.{ℕ, zero, suc, _+_, _*_, _/_, _%_, _≤_, _<_, _^_}
+use Prim.Native.Nat.{ℕ, zero, suc, _+_, _-_, _*_, _/_, _%_, _≤_, _<_, _^_}
 use mathlib.Core.Path.{_≡_, refl, sym, ap, _∙_}
 use mathlib.Core.Bool.{Bool, true, false, cond, not, true≢false}
 use mathlib.Core.List.{List, [], _++_}
 use mathlib.Core.Logic.{_⊎_, inl, inr}
 use native.Mathlib.Omega.{arith}
-use lib.ListN.{length, getD, take, drop, List·getD-eq-default}
+use lib.ListN.{length, getD, take, drop, length-replicate}
 use lib.Seq.{take-at}
 use lib.Dec.{eqb}
-use Rattle.diagram.specs.Diagram.{varOf, lowOf, highOf, size, vars, Formed, Accepted}
+use Rattle.diagram.specs.Diagram.{size, Accepted}
 use Rattle.diagram.specs.Verdict.{Outcome, accepted, refused as rejected}
 use Rattle.reduction.specs.Reduce.{reduce}
 use Rattle.approximation.specs.Cut.{Under, Over}
 use Rattle.writing.specs.Writing.{bytes}
-use Rattle.writing.proofs.Laws.{by-le}
 use Rattle.naturals.specs.Natural.{limit}
 use Rattle.text.specs.Digits.{Reading as Parsed, number, none, parsed}
-use Rattle.blocks.specs.Block.{Outcome as Stored, nodes as stored, refused as unread, maxStoredWords}
-use Rattle.block_file.specs.File.{Reading, reading, readFile, writeOutcome, fileOf}
-use Rattle.block_file.proofs.Storing.{is-written}
-use Rattle.block_file.proofs.Returning.{written-reads}
-use Rattle.request.specs.Request.{alike, Aim, nodes, cases, Meaning, help, unknown, which, cut, ifNumber, aimed, directed, requestOf}
-use Rattle.shrinking.specs.Shrinking.{ifStored, storing, wanted, wantedVerdict, ifCut, diagramDone, ifRead, blank, done, fileBytes, fileBuffer}
-use Rattle.shrinking.specs.Supervised.{output, ReadsAs, Supervised}
+use Rattle.diagram.specs.Limits.{maxWords}
+use Rattle.blocks.specs.Block.{Outcome as Stored, nodes as stored, refused as unread}
+use Rattle.block_file.specs.File.{Reading, reading}
+use Rattle.forms.specs.Form.{readAs, writeAs, fileAs}
+use Rattle.forms.specs.declared.Form.{Form}
+use Rattle.forms.specs.declared.Form.the-variants.{Blocks, Nodes}
+use Rattle.forms.proofs.Small.{words-small}
+use Rattle.forms.proofs.Laws.{is-stored}
+use Rattle.forms.proofs.Promised.{written-reads, never-short}
+use Rattle.request.specs.Request.{alike, Aim, nodes, cases, Meaning, help, unknown, which, cut, ifNumber, aimed, directed, requestOf, isNodes, formOf, wordsOf}
+use Rattle.shrinking.specs.Shrinking.{ifStored, storing, wanted, wantedVerdict, ifCut, diagramDone, ifRead, done, fileBytes, fileBuffer}
+use Rattle.shrinking.specs.Supervised.{output, outputIn, ReadsAs, Supervised}
 use Rattle.shrinking.proofs.Wanting.{keep-nodes, keep-cases, keep-over, suppress-nodes, suppress-cases, suppress-under, answer-accepted, answer-least}
-use Rattle.shrinking.proofs.Fitting.{file-fits, text-fits, never-short, front-is-enough, no-file, no-input}
-use Rattle.report.specs.Report.{roomLent}
-
--- ---- the words of an accepted diagram are words of 32 bits
-
-module _ (w : List ℕ) (f : Formed w) where
-  beyond : (p r : ℕ) → size w ≤ p → getD w (3 * p + r) 0 ≡ 0
-  beyond p r h = List·getD-eq-default w 0 (omega (arith, f .whole))
-
-  var-small : (p : ℕ) → varOf w p < 2 ^ 32
-  var-small p =
-      by-le (size w) p
-      (λ h. (let z : getD w (3 * p + 0) 0 ≡ 0 = beyond p 0 h in (let e : 3 * p + 0 ≡ 3 * p = omega arith in (let y : varOf w p ≡ 0 = rw e at z in omega arith))))
-      (λ h. by-le 2 p
-      (λ l. omega (arith, f .ranges p l h .var, f .variables))
-      (λ l. by-le 1 p
-      (λ o. (let e : p ≡ 1 = omega arith in rw e (omega (arith, f .one-terminal (omega arith) .var, f .variables))))
-      (λ o. (let e : p ≡ 0 = omega arith in rw e (omega (arith, f .variables))))))
-
-  low-small : (p : ℕ) → lowOf w p < 2 ^ 32
-  low-small p =
-      by-le (size w) p
-      (λ h. (let y : lowOf w p ≡ 0 = beyond p 1 h in omega arith))
-      (λ h. by-le 2 p
-      (λ l. omega (arith, f .ranges p l h .low, f .few))
-      (λ l. by-le 1 p
-      (λ o. (let e : p ≡ 1 = omega arith in rw e (omega (arith, f .one-terminal (omega arith) .low))))
-      (λ o. (let e : p ≡ 0 = omega arith in rw e (omega (arith, f .zero-terminal .low))))))
-
-  high-small : (p : ℕ) → highOf w p < 2 ^ 32
-  high-small p =
-      by-le (size w) p
-      (λ h. (let y : highOf w p ≡ 0 = beyond p 2 h in omega arith))
-      (λ h. by-le 2 p
-      (λ l. omega (arith, f .ranges p l h .high, f .few))
-      (λ l. by-le 1 p
-      (λ o. (let e : p ≡ 1 = omega arith in rw e (omega (arith, f .one-terminal (omega arith) .high))))
-      (λ o. (let e : p ≡ 0 = omega arith in rw e (omega (arith, f .zero-terminal .high))))))
-
-  words-small : (k : ℕ) → getD w k 0 < 2 ^ 32
-  words-small k =
-      by-le (k % 3) 0
-      (λ h. (let e : k ≡ 3 * (k / 3) = omega arith in rw e (var-small (k / 3))))
-      (λ h. by-le (k % 3) 1
-      (λ l. (let e : k ≡ 3 * (k / 3) + 1 = omega arith in rw e (low-small (k / 3))))
-      (λ l. (let e : k ≡ 3 * (k / 3) + 2 = omega arith in rw e (high-small (k / 3)))))
+use Rattle.shrinking.proofs.Fitting.{file-fits, text-fits, front-is-enough, no-file, no-input}
+use Rattle.report.specs.Report.{roomLent, blank}
 
 -- ---- a cut of the file of w
 
-module _ (w : List ℕ) (lent n : ℕ) (small : (k : ℕ) → getD w k 0 < 2 ^ 32) (e : writeOutcome w lent ≡ stored n) (P : List ℕ → Type 0) (keep as-is : Bool) (aim : Aim)
-    (right : (m v : ℕ) → wantedVerdict keep aim w roomLent maxStoredWords ≡ accepted m v → P (wanted keep as-is aim w .words) × Accepted (wanted keep as-is aim w .words)) where
+-- What a file is read into has a place for each word.
+room : (w : List ℕ) → length w ≤ maxWords → length w ≤ length blank
+room w h = simp length-replicate h
+
+module _ (form : Form) (w : List ℕ) (lent n : ℕ) (small : (k : ℕ) → getD w k 0 < 2 ^ 32) (e : writeAs form w lent ≡ stored n) (P : List ℕ → Type 0) (keep as-is : Bool) (aim : Aim)
+    (right : (m v : ℕ) → wantedVerdict keep aim w roomLent maxWords ≡ accepted m v → P (wanted keep as-is aim w .words) × Accepted (wanted keep as-is aim w .words)) where
   abbrev answer : List ℕ
   answer = wanted keep as-is aim w .words
 
-  stored-reads : (o : Stored) → Accepted answer → P answer → writeOutcome answer fileBuffer ≡ o
-      → (fileBytes (ifStored keep aim w answer (wanted keep as-is aim w .trials) o) ≡ []) ⊎ ReadsAs P (fileBytes (ifStored keep aim w answer (wanted keep as-is aim w .trials) o))
+  stored-reads : (o : Stored) → Accepted answer → P answer → writeAs form answer fileBuffer ≡ o
+      → (fileBytes (ifStored form keep aim w answer (wanted keep as-is aim w .trials) o) ≡ []) ⊎ ReadsAs form P (fileBytes (ifStored form keep aim w answer (wanted keep as-is aim w .trials) o))
   stored-reads (unread k p) a h g = inl refl
   stored-reads (stored m) a h g =
-      let i = is-written answer fileBuffer m g in
+      let i = is-stored form answer fileBuffer m g in
+      let c : size answer ≡ m = omega (arith, i .whole) in
       inr (record {
         words = answer;
-        reads = written-reads answer blank fileBuffer (words-small answer (a .formed)) (g ∙ ap stored (sym (i .count))) (omega (arith, i .lengths .whole, i .lengths .few));
+        reads = written-reads form answer blank fileBuffer m (words-small answer (a .formed)) g (room answer (omega (arith, i .whole, i .few))) ∙ ap (λ (k : ℕ). reading (stored k) (answer ++ drop (length answer) blank)) (sym c);
         true-of = h;
       })
 
-  cut-reads : (o : Outcome) → wantedVerdict keep aim w roomLent maxStoredWords ≡ o → (fileBytes (ifCut keep as-is aim w fileBuffer o) ≡ []) ⊎ ReadsAs P (fileBytes (ifCut keep as-is aim w fileBuffer o))
+  cut-reads : (o : Outcome) → wantedVerdict keep aim w roomLent maxWords ≡ o → (fileBytes (ifCut form keep as-is aim w fileBuffer o) ≡ []) ⊎ ReadsAs form P (fileBytes (ifCut form keep as-is aim w fileBuffer o))
   unfolding storing
   cut-reads (rejected k p) g = inl refl
-  cut-reads (accepted m v) g = let r = right m v g in stored-reads (writeOutcome answer fileBuffer) (r .1) (r .0) refl
+  cut-reads (accepted m v) g = let r = right m v g in stored-reads (writeAs form answer fileBuffer) (r .1) (r .0) refl
 
   words-back : take (3 * n) (w ++ drop (length w) blank) ≡ w
-  words-back = let i = is-written w lent n e in take-at w (drop (length w) blank) (3 * n) (omega (arith, i .lengths .whole, i .count))
+  words-back = take-at w (drop (length w) blank) (3 * n) (is-stored form w lent n e .whole)
 
-  pub file-reads : (fileBytes (done (cut keep as-is aim) (fileOf w) fileBuffer) ≡ []) ⊎ ReadsAs P (fileBytes (done (cut keep as-is aim) (fileOf w) fileBuffer))
+  pub file-reads : (fileBytes (done form (cut keep as-is aim) (fileAs form w) fileBuffer) ≡ []) ⊎ ReadsAs form P (fileBytes (done form (cut keep as-is aim) (fileAs form w) fileBuffer))
   unfolding done diagramDone
   file-reads =
-      let i = is-written w lent n e in
-      let r : readFile (fileOf w) blank ≡ reading (stored n) (w ++ drop (length w) blank) = written-reads w blank lent small e (omega (arith, i .lengths .whole, i .lengths .few)) in
-      rw (r, words-back) (cut-reads (wantedVerdict keep aim w roomLent maxStoredWords) refl)
+      let i = is-stored form w lent n e in
+      let r : readAs form (fileAs form w) blank ≡ reading (stored n) (w ++ drop (length w) blank) = written-reads form w blank lent n small e (room w (omega (arith, i .whole, i .few))) in
+      rw (r, words-back) (cut-reads (wantedVerdict keep aim w roomLent maxWords) refl)
 
 -- ---- what the words come to: no cut, or one of which something is true
 
@@ -168,36 +133,53 @@ turns-three first kind text flag =
     to-unknown)
 
 -- So the file has what the answers have.
-module _ (w : List ℕ) (lent n : ℕ) (small : (k : ℕ) → getD w k 0 < 2 ^ 32) (e : writeOutcome w lent ≡ stored n) (P : Bool → Bool → Type 0) (Q : List ℕ → Type 0)
-    (right : (keep as-is : Bool) (aim : Aim) → P keep as-is → (m v : ℕ) → wantedVerdict keep aim w roomLent maxStoredWords ≡ accepted m v
+module _ (form : Form) (w : List ℕ) (lent n : ℕ) (small : (k : ℕ) → getD w k 0 < 2 ^ 32) (e : writeAs form w lent ≡ stored n) (P : Bool → Bool → Type 0) (Q : List ℕ → Type 0)
+    (right : (keep as-is : Bool) (aim : Aim) → P keep as-is → (m v : ℕ) → wantedVerdict keep aim w roomLent maxWords ≡ accepted m v
     → Q (wanted keep as-is aim w .words)) where
-  writes : {m : Meaning} → Turns P m → (fileBytes (done m (fileOf w) fileBuffer) ≡ []) ⊎ ReadsAs Q (fileBytes (done m (fileOf w) fileBuffer))
+  writes : {m : Meaning} → Turns P m → (fileBytes (done form m (fileAs form w) fileBuffer) ≡ []) ⊎ ReadsAs form Q (fileBytes (done form m (fileAs form w) fileBuffer))
   unfolding done
   writes to-help = inl refl
   writes to-unknown = inl refl
   writes to-which = inl refl
   writes (to-cut {keep = keep} {as-is = as-is} aim h) =
-      file-reads w lent n small e Q keep as-is aim (λ m v g. (right keep as-is aim h m v g, answer-accepted as-is w roomLent maxStoredWords keep aim g))
+      file-reads form w lent n small e Q keep as-is aim (λ m v g. (right keep as-is aim h m v g, answer-accepted as-is w roomLent maxWords keep aim g))
 
 module _ (w : List ℕ) where
-  keeps-right : (keep as-is : Bool) (aim : Aim) → keep ≡ true → (m v : ℕ) → wantedVerdict keep aim w roomLent maxStoredWords ≡ accepted m v → Over w (wanted keep as-is aim w .words)
-  keeps-right true as-is aim h m v g = keep-over as-is w roomLent maxStoredWords aim g
+  keeps-right : (keep as-is : Bool) (aim : Aim) → keep ≡ true → (m v : ℕ) → wantedVerdict keep aim w roomLent maxWords ≡ accepted m v → Over w (wanted keep as-is aim w .words)
+  keeps-right true as-is aim h m v g = keep-over as-is w roomLent maxWords aim g
   keeps-right false as-is aim h m v g = absurd (true≢false (sym h))
 
-  suppresses-right : (keep as-is : Bool) (aim : Aim) → keep ≡ false → (m v : ℕ) → wantedVerdict keep aim w roomLent maxStoredWords ≡ accepted m v → Under w (wanted keep as-is aim w .words)
+  suppresses-right : (keep as-is : Bool) (aim : Aim) → keep ≡ false → (m v : ℕ) → wantedVerdict keep aim w roomLent maxWords ≡ accepted m v → Under w (wanted keep as-is aim w .words)
   suppresses-right true as-is aim h m v g = absurd (true≢false h)
-  suppresses-right false as-is aim h m v g = suppress-under as-is w roomLent maxStoredWords aim g
+  suppresses-right false as-is aim h m v g = suppress-under as-is w roomLent maxWords aim g
 
-  tidies-right : (keep as-is : Bool) (aim : Aim) → as-is ≡ false → (m v : ℕ) → wantedVerdict keep aim w roomLent maxStoredWords ≡ accepted m v
+  tidies-right : (keep as-is : Bool) (aim : Aim) → as-is ≡ false → (m v : ℕ) → wantedVerdict keep aim w roomLent maxWords ≡ accepted m v
       → reduce (wanted keep as-is aim w .words) ≡ wanted keep as-is aim w .words
-  tidies-right keep as-is aim h m v g = rw h (answer-least w roomLent maxStoredWords keep aim g)
+  tidies-right keep as-is aim h m v g = rw h (answer-least w roomLent maxWords keep aim g)
+
+-- ---- the first word
+
+behind-nodes : (count : ℕ) (b c d e s : List ℕ) → output (suc count) (bytes "nodes") b c d e s ≡ outputIn Nodes count b c d e s
+unfolding formOf wordsOf alike
+behind-nodes count b c d e s = let k : suc count - 1 ≡ count = omega arith in rw k refl
+
+plain-keep : (count : ℕ) (b c d e s : List ℕ) → output count (bytes "keep") b c d e s ≡ outputIn Blocks count (bytes "keep") b c d s
+unfolding formOf wordsOf alike
+plain-keep count b c d e s = refl
+
+plain-suppress : (count : ℕ) (b c d e s : List ℕ) → output count (bytes "suppress") b c d e s ≡ outputIn Blocks count (bytes "suppress") b c d s
+unfolding formOf wordsOf alike
+plain-suppress count b c d e s = refl
 
 pub supervised : Supervised
 supervised =
     record {
-      keeps = λ w kind text flag count lent n small e. writes w lent n small e (Towards true) (Over w) (keeps-right w) (turns-keep count kind text flag);
-      suppresses = λ w kind text flag count lent n small e. writes w lent n small e (Towards false) (Under w) (suppresses-right w) (turns-suppress count kind text flag);
-      tidies = λ w first kind text flag lent n small e. writes w lent n small e Reducing (λ a. reduce a ≡ a) (tidies-right w) (turns-three first kind text flag);
+      node-file = behind-nodes;
+      block-keep = plain-keep;
+      block-suppress = plain-suppress;
+      keeps = λ form w kind text flag count lent n small e. writes form w lent n small e (Towards true) (Over w) (keeps-right w) (turns-keep count kind text flag);
+      suppresses = λ form w kind text flag count lent n small e. writes form w lent n small e (Towards false) (Under w) (suppresses-right w) (turns-suppress count kind text flag);
+      tidies = λ form w first kind text flag lent n small e. writes form w lent n small e Reducing (λ a. reduce a ≡ a) (tidies-right w) (turns-three first kind text flag);
       no-file = no-file;
       no-input = no-input;
       nodes-kept = λ as-is w t room lent n v e. keep-nodes as-is w room lent t e .1;

@@ -1,10 +1,10 @@
--- What shrinking a block file answers: `w` is the words of a diagram, `s` the bytes of a file; `keep`, `as-is` and `aim` are what
+-- What shrinking a file answers: `w` is the words of a diagram, `s` the bytes of a file; `form`, `keep`, `as-is` and `aim` are what
 -- the words of a request mean.
 use Prim.Native.Nat.{ℕ, _*_}
 use mathlib.Core.Path.{_≡_}
 use mathlib.Core.Bool.{Bool, true, false}
 use mathlib.Core.List.{List, [], _++_}
-use lib.ListN.{length, take, drop, replicate}
+use lib.ListN.{length, take, drop}
 use Rattle.diagram.specs.Diagram.{size}
 use Rattle.diagram.specs.Valuations.{countOf}
 use Rattle.diagram.specs.Verdict.{Outcome, accepted, refused as rejected}
@@ -12,10 +12,14 @@ use Rattle.diagram.specs.declared.verdict.Verdict.{Verdict}
 use Rattle.approximation.specs.Search.{Answer}
 use Rattle.approximation.specs.Met.{underSizeAnswer, overSizeAnswer, underCountAnswer, overCountAnswer}
 use Rattle.targets.specs.Targets.{underSizeVerdict, overSizeVerdict, underCountVerdict, overCountVerdict, Meets}
-use Rattle.blocks.specs.Block.{blockBytes, maxStored, maxStoredWords, Outcome as Stored, nodes as stored, refused as unread}
-use Rattle.block_file.specs.File.{blockCount, Reading, reading, readFile, writeOutcome, fileOf}
+use Rattle.diagram.specs.Limits.{maxWords}
+use Rattle.blocks.specs.Block.{Outcome as Stored, nodes as stored, refused as unread}
+use Rattle.block_file.specs.File.{Reading, reading}
+use Rattle.node_file.specs.NodeFile.{nodeFileBytes}
+use Rattle.forms.specs.Form.{readAs, writeAs, fileAs}
+use Rattle.forms.specs.declared.Form.{Form}
 use Rattle.writing.specs.Writing.{Wrote}
-use Rattle.report.specs.Report.{roomLent}
+use Rattle.report.specs.Report.{roomLent, blank}
 use Rattle.request.specs.Request.{Aim, nodes, cases, Meaning, help, unknown, which, cut}
 use Rattle.messages.specs.Texts.{helpText, unknownText, whichText, refusalText, targetText, sizesText, countsText, changeText, trialsText, longestSummary}
 
@@ -39,42 +43,38 @@ Wants w keep as-is aim = Meets (wantedVerdict keep aim w) (wanted keep as-is aim
 
 -- ---- what is done
 
--- Only a text; a refusal; or a cut, with its words before and after and its trials.
+-- Only a text; a refusal; or a cut, with the form of its file, its words before and after and its trials.
 pub data Done : Type 0 where
   told : List ℕ → Done
   refused : ℕ → ℕ → Done
-  shrunk : Bool → Aim → List ℕ → List ℕ → ℕ → Done
+  shrunk : Form → Bool → Aim → List ℕ → List ℕ → ℕ → Done
 
 -- An answer has to fit the file that is lent.
-abbrev pub ifStored : Bool → Aim → List ℕ → List ℕ → ℕ → Stored → Done
-ifStored keep aim w a trials (stored n) = shrunk keep aim w a trials
-ifStored keep aim w a trials (unread number place) = refused number place
+abbrev pub ifStored : Form → Bool → Aim → List ℕ → List ℕ → ℕ → Stored → Done
+ifStored form keep aim w a trials (stored n) = shrunk form keep aim w a trials
+ifStored form keep aim w a trials (unread number place) = refused number place
 
-unfoldable pub storing : Bool → Aim → List ℕ → List ℕ → ℕ → ℕ → Done
-storing keep aim w a trials lent = ifStored keep aim w a trials (writeOutcome a lent)
+unfoldable pub storing : Form → Bool → Aim → List ℕ → List ℕ → ℕ → ℕ → Done
+storing form keep aim w a trials lent = ifStored form keep aim w a trials (writeAs form a lent)
 
--- The words of the output and of the room are those that the most nodes of a file need.
-abbrev pub ifCut : Bool → Bool → Aim → List ℕ → ℕ → Outcome → Done
-ifCut keep as-is aim w lent (accepted n v) = storing keep aim w (wanted keep as-is aim w .words) (wanted keep as-is aim w .trials) lent
-ifCut keep as-is aim w lent (rejected number place) = refused number place
+-- The words of the output and of the room are those that the most nodes need.
+abbrev pub ifCut : Form → Bool → Bool → Aim → List ℕ → ℕ → Outcome → Done
+ifCut form keep as-is aim w lent (accepted n v) = storing form keep aim w (wanted keep as-is aim w .words) (wanted keep as-is aim w .trials) lent
+ifCut form keep as-is aim w lent (rejected number place) = refused number place
 
-unfoldable pub diagramDone : Bool → Bool → Aim → List ℕ → ℕ → Done
-diagramDone keep as-is aim w lent = ifCut keep as-is aim w lent (wantedVerdict keep aim w roomLent maxStoredWords)
+unfoldable pub diagramDone : Form → Bool → Bool → Aim → List ℕ → ℕ → Done
+diagramDone form keep as-is aim w lent = ifCut form keep as-is aim w lent (wantedVerdict keep aim w roomLent maxWords)
 
--- What the input is read into.
-abbrev pub blank : List ℕ
-blank = replicate maxStoredWords 0
-
-abbrev pub ifRead : Bool → Bool → Aim → ℕ → Reading → Done
-ifRead keep as-is aim lent (reading (stored n) left) = diagramDone keep as-is aim (take (3 * n) left) lent
-ifRead keep as-is aim lent (reading (unread number place) left) = refused number place
+abbrev pub ifRead : Form → Bool → Bool → Aim → ℕ → Reading → Done
+ifRead form keep as-is aim lent (reading (stored n) left) = diagramDone form keep as-is aim (take (3 * n) left) lent
+ifRead form keep as-is aim lent (reading (unread number place) left) = refused number place
 
 -- By what the words mean; `lent` is the length of the file buffer.
-unfoldable pub done : Meaning → List ℕ → ℕ → Done
-done help s lent = told helpText
-done unknown s lent = told unknownText
-done which s lent = told whichText
-done (cut keep as-is aim) s lent = ifRead keep as-is aim lent (readFile s blank)
+unfoldable pub done : Form → Meaning → List ℕ → ℕ → Done
+done form help s lent = told helpText
+done form unknown s lent = told unknownText
+done form which s lent = told whichText
+done form (cut keep as-is aim) s lent = ifRead form keep as-is aim lent (readAs form s blank)
 
 -- Whether the input is looked at: only for a cut.
 abbrev pub looks : Meaning → Bool
@@ -96,16 +96,16 @@ summary keep aim w a trials =
 abbrev pub fileBytes : Done → List ℕ
 fileBytes (told t) = []
 fileBytes (refused number place) = []
-fileBytes (shrunk keep aim w a trials) = fileOf a
+fileBytes (shrunk form keep aim w a trials) = fileAs form a
 
 abbrev pub textBytes : Done → List ℕ
 textBytes (told t) = t
 textBytes (refused number place) = refusalText number place
-textBytes (shrunk keep aim w a trials) = summary keep aim w a trials
+textBytes (shrunk form keep aim w a trials) = summary keep aim w a trials
 
--- The buffers of the program: the blocks of the most nodes, and the longest summary. Each holds every answer (proofs/Fitting.antt).
+-- The buffers of the program: the bytes of the most nodes, and the longest summary. Each holds every answer (proofs/Fitting.antt).
 abbrev pub fileBuffer : ℕ
-fileBuffer = blockBytes * blockCount maxStored
+fileBuffer = nodeFileBytes
 
 abbrev pub textBuffer : ℕ
 textBuffer = longestSummary

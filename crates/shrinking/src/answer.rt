@@ -1,20 +1,22 @@
 // From the words and the input of the program to the bytes of both its channels.
 use crate::Ends;
 use crate::job::shrink;
+use forms::Form;
 use messages::words::write_help;
 use messages::words::write_unknown;
 use messages::words::write_which;
 use request::Asked;
 use request::Request;
-use request::ask;
+use request::form::ask_words;
+use request::form::form_of;
 ghost use mathlib.Core.Path.{_≡_};
 ghost use lib.ListN.{length};
-ghost use Rattle.request.specs.Request.{meant, requestOf};
+ghost use Rattle.request.specs.Request.{meant, formOf, wordsOf};
 ghost use Rattle.shrinking.specs.Shrinking.{looks, done, Shrinks};
 
 // Only a cut writes bytes of a file.
-fn obey(request: Request, bytes: &[u8], file: &mut [u8], text: &mut [u8]) -> Ends
-    ensures { λ r. ⌜ Shrinks (done (meant request) (now (bytes .entry)) (length (now (file .entry)))) (now (file .entry)) (now (file .exit)) (now (text .entry)) (now (text .exit)) (r .file) (r .text) ⌝ }
+fn obey(form: Form, request: Request, bytes: &[u8], file: &mut [u8], text: &mut [u8]) -> Ends
+    ensures { λ r. ⌜ Shrinks (done form (meant request) (now (bytes .entry)) (length (now (file .entry)))) (now (file .entry)) (now (file .exit)) (now (text .entry)) (now (text .exit)) (r .file) (r .text) ⌝ }
 {
     let asked = request.asked;
     let target = request.target;
@@ -31,15 +33,22 @@ fn obey(request: Request, bytes: &[u8], file: &mut [u8], text: &mut [u8]) -> End
             let end = write_which(text);
             Ends { file: 0, text: end }
         }
-        Asked::Cut => shrink(bytes, target, file, text),
+        Asked::Cut => shrink(form, bytes, target, file, text),
     }
 }
 
 // Whether the words ask for a cut: else the input is not looked at.
-pub fn wants_input(count: usize, direction: &[u8], kind: &[u8], number: &[u8], flag: &[u8]) -> bool
-    ensures { λ r. ⌜ r ≡ looks (requestOf count (now (direction .entry)) (now (kind .entry)) (now (number .entry)) (now (flag .entry))) ⌝ }
+pub fn wants_input(
+    count: usize,
+    first: &[u8],
+    second: &[u8],
+    third: &[u8],
+    fourth: &[u8],
+    fifth: &[u8],
+) -> bool
+    ensures { λ r. ⌜ r ≡ looks (wordsOf count (now (first .entry)) (now (second .entry)) (now (third .entry)) (now (fourth .entry)) (now (fifth .entry))) ⌝ }
 {
-    let request = ask(count, direction, kind, number, flag);
+    let request = ask_words(count, first, second, third, fourth, fifth);
     let asked = request.asked;
     match asked {
         Asked::Cut => true,
@@ -52,16 +61,18 @@ pub fn wants_input(count: usize, direction: &[u8], kind: &[u8], number: &[u8], f
 // `count` is how many words there are, `bytes` the input. The file is for standard output, the text for standard error.
 pub fn answer(
     count: usize,
-    direction: &[u8],
-    kind: &[u8],
-    number: &[u8],
-    flag: &[u8],
+    first: &[u8],
+    second: &[u8],
+    third: &[u8],
+    fourth: &[u8],
+    fifth: &[u8],
     bytes: &[u8],
     file: &mut [u8],
     text: &mut [u8],
 ) -> Ends
-    ensures { λ r. ⌜ Shrinks (done (requestOf count (now (direction .entry)) (now (kind .entry)) (now (number .entry)) (now (flag .entry))) (now (bytes .entry)) (length (now (file .entry)))) (now (file .entry)) (now (file .exit)) (now (text .entry)) (now (text .exit)) (r .file) (r .text) ⌝ }
+    ensures { λ r. ⌜ Shrinks (done (formOf (now (first .entry))) (wordsOf count (now (first .entry)) (now (second .entry)) (now (third .entry)) (now (fourth .entry)) (now (fifth .entry))) (now (bytes .entry)) (length (now (file .entry)))) (now (file .entry)) (now (file .exit)) (now (text .entry)) (now (text .exit)) (r .file) (r .text) ⌝ }
 {
-    let request = ask(count, direction, kind, number, flag);
-    obey(request, bytes, file, text)
+    let form = form_of(first);
+    let request = ask_words(count, first, second, third, fourth, fifth);
+    obey(form, request, bytes, file, text)
 }

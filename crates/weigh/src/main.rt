@@ -1,19 +1,24 @@
-// Reads a block file on standard input and prints the count of its diagram and the weight of each node, or the one line
-// of its refusal. At most a whole file is read, and a little more to see whether bytes stand after it.
-use blocks::layout::BLOCK;
-use blocks::layout::FILE;
+// `weigh` reads a block file on standard input, `weigh nodes` a node file, and prints the count of its diagram and the weight of each node,
+// or the one line of its refusal. So much of the input is read as tells what all of it would.
+use forms::Form;
 use libc::STDERR_FILENO;
 use libc::STDOUT_FILENO;
+use node_file::layout::NODE_INPUT;
 use report::lines::REPORT;
 use report::weigh::report;
+use request::WORD;
+use request::form::form_of;
+use request::form::may_weigh;
 ghost use mathlib.Core.Path.{_≡_};
 ghost use lib.ListN.{length};
 ghost use Rattle.report.specs.Report.{reportOf};
 
-const INPUT: usize = FILE + BLOCK;
+fn blank_input() -> [u8; NODE_INPUT] {
+    [0u8; NODE_INPUT]
+}
 
-fn blank_input() -> [u8; INPUT] {
-    [0u8; INPUT]
+fn blank_word() -> [u8; WORD] {
+    [0u8; WORD]
 }
 
 // Whether all of it was written.
@@ -34,17 +39,44 @@ fn deliver(text: &[u8], end: usize) {
 }
 
 // How many bytes there are to print: the whole report, for the buffer holds every one.
-fn weigh(bytes: &[u8]) -> usize
-    ensures { λ r. ⌜ r ≡ length (reportOf (now (bytes .entry))) ⌝ }
+fn weigh(form: Form, bytes: &[u8]) -> usize
+    ensures { λ r. ⌜ r ≡ length (reportOf form (now (bytes .entry))) ⌝ }
 {
     let mut text = [0u8; REPORT];
-    let end = report(&mut text, bytes);
+    let end = report(&mut text, form, bytes);
     deliver(&text, end);
     end
 }
 
-fn main() {
+fn read_and_weigh(form: Form) {
     let mut bytes = blank_input();
     let length = io::read_full(0, &mut bytes);
-    weigh(&bytes[..length]);
+    weigh(form, &bytes[..length]);
+}
+
+// The words after the program's own name.
+fn word_count() -> usize {
+    let words = os::arg_count();
+    if words == 0 {
+        return 0;
+    }
+    words - 1
+}
+
+// Nothing is read where the words are not known.
+fn obey(count: usize, word: &[u8]) {
+    if may_weigh(count, word) {
+        read_and_weigh(form_of(word));
+        return;
+    }
+    io::write_all(
+        STDERR_FILENO,
+        b"weigh: the word is nodes for a node file; without a word it is a block file\n",
+    );
+}
+
+fn main() {
+    let mut word = blank_word();
+    let length = os::arg(1, &mut word);
+    obey(word_count(), &word[..length]);
 }

@@ -1,10 +1,13 @@
-//! STAND-IN, as ../lib.rs says: words as diagrams, and `and` and `not` from document 01.
+//! STAND-IN, as ../lib.rs says: words and bytes as diagrams, and `and` and `not` from document 01.
 use crate::*;
 use std::hash::{BuildHasherDefault, Hasher};
 use std::sync::atomic::{AtomicUsize, Ordering::Relaxed};
 
 mod _impl_approximation;
 mod _impl_util;
+
+/// Two for the variable and four for each link.
+const BYTES_A_NODE: usize = 2 + 4 + 4;
 
 static ANDS: AtomicUsize = AtomicUsize::new(0);
 
@@ -23,6 +26,24 @@ impl Bdd {
     pub fn to_words(&self) -> Vec<u32> {
         let words = |n: &BddNode| [n.var.0 as u32, n.low_link.0, n.high_link.0];
         self.0.iter().flat_map(words).collect()
+    }
+
+    /// The form that the crate documents for its file of bytes; its own code is not at hand. Node after node, variable, low link and
+    /// high link, each least byte first.
+    pub fn write_as_bytes(&self, output: &mut Vec<u8>) {
+        for node in &self.0 {
+            output.extend(node.var.0.to_le_bytes());
+            output.extend(node.low_link.0.to_le_bytes());
+            output.extend(node.high_link.0.to_le_bytes());
+        }
+    }
+
+    /// The nodes of such bytes; what is left over is no node.
+    pub fn read_as_bytes(input: &[u8]) -> Bdd {
+        let two = |b: &[u8]| u16::from_le_bytes(b.try_into().unwrap());
+        let four = |b: &[u8]| u32::from_le_bytes(b.try_into().unwrap());
+        let node = |b: &[u8]| BddNode::mk_node(BddVariable(two(&b[..2])), BddPointer(four(&b[2..6])), BddPointer(four(&b[6..])));
+        Bdd(input.chunks_exact(BYTES_A_NODE).map(node).collect())
     }
 
     /// Constants exchange; else links 0 and 1 exchange and every node keeps its place.

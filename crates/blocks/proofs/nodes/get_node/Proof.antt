@@ -31,7 +31,7 @@ same-length : tie.Need-same-length
 same-length c = search needs
 
 returns : tie.Need-returns
-returns c = wrote-node (c .before .before .before .before .before .before .before .before .before .before .before .before .before .before .before .before .before .args .block .now) (c .before .before .before .before .before .before .before .before .before .before .before .before .before .before .before .before .before .args .from) (c .before .before .before .before .before .before .before .before .before .before .before .before .before .get-two .ensures .0) (c .before .before .before .before .before .before .before .before .get-four .ensures) (c .before .before .before .get-four2 .ensures) (c .before .before .before .before .before .before .before .before .before .before .before .before .put-word .ensures) (c .before .before .before .before .before .before .before .put-word2 .ensures) (c .before .before .put-word3 .ensures)
+returns c = wrote-node (c .before .before .before .before .before .before .before .before .before .before .before .before .before .before .before .before .before .args .bytes .now) (c .before .before .before .before .before .before .before .before .before .before .before .before .before .before .before .before .before .args .from) (c .before .before .before .before .before .before .before .before .before .before .before .before .before .get-two .ensures .0) (c .before .before .before .before .before .before .before .before .get-four .ensures) (c .before .before .before .get-four2 .ensures) (c .before .before .before .before .before .before .before .before .before .before .before .before .put-word .ensures) (c .before .before .before .before .before .before .before .put-word2 .ensures) (c .before .before .put-word3 .ensures)
 
 pub get-node-spec : {M : Type 1} → statement M
 get-node-spec =
