@@ -17,9 +17,9 @@ use Rattle.forms.specs.Form.{readAs, writeAs, fileAs, bytesAs, leftAs, FormRead
 use Rattle.forms.specs.declared.Form.{Form}
 use Rattle.forms.proofs.Laws.{is-stored, form-few}
 use Rattle.writing.specs.Writing.{Wrote}
-use Rattle.report.specs.Report.{roomLent}
+use Rattle.report.specs.Report.{roomLent, blank}
 use Rattle.messages.specs.Texts.{refusalText}
-use Rattle.converting.specs.Converting.{other, blank, ifDiagram, checked, storing, fileDone, helpText, unknownText, nodesText, done, Finds, Converts}
+use Rattle.converting.specs.Converting.{other, ifDiagram, checked, storing, fileDone, helpText, unknownText, nodesText, done, Finds, Converts}
 use Rattle.converting.specs.declared.words.Conversion.{Conversion}
 use Rattle.converting.specs.declared.words.Conversion.the-variants.{Help, Unknown, Convert}
 

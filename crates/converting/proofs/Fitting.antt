@@ -21,7 +21,8 @@ use Rattle.writing.proofs.Laws.{wrote-fits, wrote-place}
 use Rattle.request.specs.Request.{alike}
 use Rattle.request.proofs.Alike.{unlike-lengths}
 use Rattle.messages.proofs.Fitting.{refusal-length}
-use Rattle.converting.specs.Converting.{other, conversionOf, wordBuffer, looks, Done, refused, written, blank, checked, ifStored, storing, ifFound, fileDone, nodesText, done, fileBytes, textBytes, fileBuffer, textBuffer, Converts}
+use Rattle.report.specs.Report.{blank}
+use Rattle.converting.specs.Converting.{other, conversionOf, wordBuffer, looks, Done, refused, written, checked, ifStored, storing, ifFound, fileDone, nodesText, done, fileBytes, textBytes, fileBuffer, textBuffer, Converts}
 use Rattle.converting.specs.declared.words.Conversion.{Conversion}
 use Rattle.converting.specs.declared.words.Conversion.the-variants.{Help, Unknown, Convert}
 

@@ -19,8 +19,8 @@ use Rattle.forms.specs.declared.Form.{Form}
 use Rattle.forms.specs.declared.Form.the-variants.{Blocks, Nodes}
 use Rattle.forms.proofs.Laws.{Stands, is-stored}
 use Rattle.forms.proofs.Promised.{forms}
-use Rattle.report.specs.Report.{roomLent}
-use Rattle.converting.specs.Converting.{other, blank, checked, ifStored, storing, ifFound, fileDone, done, fileBytes, fileBuffer}
+use Rattle.report.specs.Report.{roomLent, blank}
+use Rattle.converting.specs.Converting.{other, checked, ifStored, storing, ifFound, fileDone, done, fileBytes, fileBuffer}
 use Rattle.converting.specs.Converted.{output, Converted}
 use Rattle.forms.proofs.Small.{words-small}
 use Rattle.converting.proofs.Answering.{Found, found-of}

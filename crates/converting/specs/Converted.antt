@@ -11,7 +11,8 @@ use Rattle.block_file.specs.File.{reading}
 use Rattle.node_file.specs.NodeFile.{nodeInputBytes}
 use Rattle.forms.specs.Form.{readAs}
 use Rattle.forms.specs.declared.Form.{Form}
-use Rattle.converting.specs.Converting.{other, conversionOf, wordBuffer, looks, blank, done, fileBytes, textBytes, fileBuffer, textBuffer}
+use Rattle.report.specs.Report.{blank}
+use Rattle.converting.specs.Converting.{other, conversionOf, wordBuffer, looks, done, fileBytes, textBytes, fileBuffer, textBuffer}
 use Rattle.converting.specs.declared.words.Conversion.{Conversion}
 use Rattle.converting.specs.declared.words.Conversion.the-variants.{Convert}
 

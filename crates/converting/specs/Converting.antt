@@ -4,9 +4,8 @@ use Prim.Native.Nat.{ℕ, _+_, _*_}
 use mathlib.Core.Path.{_≡_}
 use mathlib.Core.Bool.{Bool, true, false, cond, not, _&&_}
 use mathlib.Core.List.{List, [], _++_}
-use lib.ListN.{length, take, drop, replicate}
+use lib.ListN.{length, take, drop}
 use lib.Dec.{eqb}
-use Rattle.diagram.specs.Limits.{maxWords}
 use Rattle.diagram.specs.Diagram.{size}
 use Rattle.diagram.specs.Verdict.{Outcome, accepted, refused as rejected, verdictOf}
 use Rattle.diagram.specs.declared.verdict.Output.the-variants.{Nothing}
@@ -19,7 +18,7 @@ use Rattle.forms.specs.declared.Form.{Form}
 use Rattle.forms.specs.declared.Form.the-variants.{Blocks, Nodes}
 use Rattle.writing.specs.Writing.{bytes, Wrote}
 use Rattle.text.specs.Digits.{decimalDigits, decimal}
-use Rattle.report.specs.Report.{roomLent, feed}
+use Rattle.report.specs.Report.{roomLent, feed, blank}
 use Rattle.request.specs.Request.{alike}
 use Rattle.messages.specs.Texts.{refusalText}
 use Rattle.converting.specs.declared.words.Conversion.{Conversion}
@@ -61,10 +60,6 @@ pub data Done : Type 0 where
   told : List ℕ → Done
   refused : ℕ → ℕ → Done
   written : Form → List ℕ → Done
-
--- What a file is read into.
-abbrev pub blank : List ℕ
-blank = replicate maxWords 0
 
 -- The words that were read are checked as a diagram, with the room that the most nodes need.
 abbrev pub ifDiagram : ℕ → Outcome → Stores
