@@ -37,7 +37,7 @@
 //! # Ok::<(), Refusal>(())
 //! ```
 //!
-//! Around it, where the crate is there, with a writer and a reader as it documents them:
+//! Around it, where the crate is there, with a writer and a reader (which ones it takes is the crate's to say; nothing here compiles these lines):
 //!
 //! ```text
 //! let mut condition = vec![];

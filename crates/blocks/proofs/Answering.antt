@@ -6,7 +6,7 @@ use native.Mathlib.Omega.{arith}
 use lib.ListN.{length, take, drop, length-append}
 use Rattle.writing.specs.Writing.{Wrote}
 use Rattle.writing.proofs.Laws.{wrote-fits}
-use Rattle.blocks.specs.Block.{two, four, nodesAt, nodesIn, Outcome, nodes, refused, said, blockOutcome, blockOutput, Reads, blockNodes, blockWords}
+use Rattle.blocks.specs.Block.{two, four, nodesAt, nodesIn, Outcome, nodes, refused, said, blockOutcome, blockOutput, Reads, blockWords, places, placeBytes}
 use Rattle.blocks.specs.declared.stored.Stored.{Stored}
 use Rattle.blocks.specs.declared.stored.Stored.the-variants.{Nodes, Refused}
 use Rattle.blocks.proofs.Testing.{Taken, is-taken, held-few, due-small}
@@ -33,8 +33,8 @@ module _ (s out : List ℕ) (number stated : ℕ) {r : Stored} (e : said r ≡ b
     pub number-small : number ≤ 2
     number-small = due-small s number stated (taken-is .counts) (taken-is .few)
 
-    pub count-small : two s 2 ≤ blockNodes
-    count-small = held-few s number stated (taken-is .counts)
+    pub nodes-inside : {h : ℕ} → h ≡ two s 2 → places + placeBytes * h ≤ length s
+    nodes-inside e = omega (arith, held-few s number stated (taken-is .counts), taken-is .long)
 
     pub reads-taken : {h p : ℕ} {after : List ℕ} → h ≡ two s 2 → Wrote (nodesAt s 4 h) out (blockWords * number) after p → Reads number stated s out after (Nodes n)
     unfolding blockOutput

@@ -3,10 +3,17 @@ use Prim.Native.Nat.{ℕ, zero, suc, _+_, _-_, _*_, _≤_, _<_}
 use mathlib.Core.Path.{_≡_, refl, sym, ap, _∙_}
 use mathlib.Core.List.{List, [], _∷_, _++_}
 use native.Mathlib.Omega.{arith}
-use lib.ListN.{length, drop, getD, length-drop}
+use lib.ListN.{length, drop, getD, set, length-drop, length-set}
 use Rattle.writing.specs.Writing.{Wrote}
-use Rattle.writing.proofs.Laws.{wrote-then, drop-next}
+use Rattle.writing.proofs.Laws.{wrote-then, wrote-one, drop-next}
 use Rattle.blocks.specs.Block.{two, four, nodeAt, nodesAt, nodeBytes, nodesBytes}
+
+-- Two bytes where there is a place for both.
+pub wrote-two : (out : List ℕ) (at a b : ℕ) → at + 1 < length out → Wrote (a ∷ b ∷ []) out at (set (set out at a) (at + 1) b) (at + 2)
+wrote-two out at a b h =
+    let e : at + 1 + 1 ≡ at + 2 = omega arith in
+    let l : at + 1 < length (set out at a) = simp length-set h in
+    rw e at (wrote-then (wrote-one out at a (omega arith)) (wrote-one (set out at a) (at + 1) b l))
 
 -- Three words, each read before it is written.
 pub wrote-node : (s : List ℕ) (from : ℕ) {a b d : ℕ} {out₀ out₁ out₂ out₃ : List ℕ} {p₀ p₁ p₂ p₃ : ℕ}

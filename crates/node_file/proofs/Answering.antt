@@ -56,8 +56,8 @@ module _ (s out : List ℕ) {r : Stored} (e : said r ≡ readOutcome (length s) 
     readable : Readable (length s) (length out) n
     readable = is-readable (length s) (length out) n outcome-is
 
-    pub reads-within : 0 + placeBytes * n ≤ pairSpan
-    reads-within = omega (arith, readable .few)
+    pub reads-within : 0 + placeBytes * n ≤ length s
+    reads-within = omega (arith, readable .whole)
 
     pub reads-taken : {left : List ℕ} {p : ℕ} → Wrote (nodesAt s 0 n) out 0 left p → ReadsNodes s out left (Nodes n)
     unfolding readNodes readOutput

@@ -1,4 +1,4 @@
-use Rattle.blocks.proofs.Answering.{reads-refused, number-small, count-small, reads-taken}
+use Rattle.blocks.proofs.Answering.{reads-refused, number-small, nodes-inside, reads-taken}
 use native.Mathlib.Omega.{arith}
 use borrow.Author.Needs.{needs}
 use Rattle.block_reading.proofs.read_block.Statement.{statement}
@@ -26,7 +26,7 @@ mul-get-nodes : tie.Need-mul-get-nodes
 mul-get-nodes c = omega (arith, number-small (c .before .before .before .before .before .before .before .before .args .block .now) (c .before .before .before .before .before .before .before .before .args .output .now) (c .before .before .before .before .before .before .before .before .args .number) (c .before .before .before .before .before .before .before .before .args .stated) (c .before .before .before .before .before .test-block .ensures) (c .before .before .before .tested .given .1))
 
 get-nodes-requires : tie.Need-get-nodes-requires
-get-nodes-requires c κs = omega (arith, c .before .get-two .ensures .0, count-small (c .before .before .before .before .before .before .before .before .args .block .now) (c .before .before .before .before .before .before .before .before .args .output .now) (c .before .before .before .before .before .before .before .before .args .number) (c .before .before .before .before .before .before .before .before .args .stated) (c .before .before .before .before .before .test-block .ensures) (c .before .before .before .tested .given .1))
+get-nodes-requires c κs = nodes-inside (c .before .before .before .before .before .before .before .before .args .block .now) (c .before .before .before .before .before .before .before .before .args .output .now) (c .before .before .before .before .before .before .before .before .args .number) (c .before .before .before .before .before .before .before .before .args .stated) (c .before .before .before .before .before .test-block .ensures) (c .before .before .before .tested .given .1) (c .before .get-two .ensures .0)
 
 same-length : tie.Need-same-length
 same-length c = search needs

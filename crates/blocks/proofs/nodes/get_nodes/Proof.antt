@@ -1,5 +1,6 @@
 use Prim.Native.Nat.{_+_, _*_, _≤_}
-use Rattle.blocks.specs.Block.{nodesAt, placeBytes, pairSpan}
+use lib.ListN.{length}
+use Rattle.blocks.specs.Block.{nodesAt, placeBytes}
 use Rattle.writing.proofs.Laws.{Still, still-begins, still-part, still-none}
 use Rattle.blocks.proofs.Places.{nodes-next, nodes-none}
 use borrow.Author.Needs.{needs}
@@ -8,7 +9,7 @@ use Rattle.blocks.proofs.nodes.get_nodes.Statement.{statement}
 use Rattle.blocks.proofs.nodes.get_nodes.Tie as tie
 
 abbrev Inv-loop : tie.InvT-loop
-Inv-loop bytes first count output₀ at place₀ from₀ left₀ output place from left = (from + placeBytes * left ≤ pairSpan) × Still (nodesAt bytes first count) output₀ at (nodesAt bytes from left) output place
+Inv-loop bytes first count output₀ at place₀ from₀ left₀ output place from left = (from + placeBytes * left ≤ length bytes) × Still (nodesAt bytes first count) output₀ at (nodesAt bytes from left) output place
 
 abbrev μ-loop : tie.MeasureT-loop
 μ-loop bytes first count output₀ at place₀ from₀ left₀ output place from left = left

@@ -1,7 +1,7 @@
 use Rattle.writing.proofs.Laws.{wrote-then}
 use borrow.Author.Needs.{needs}
-use Rattle.blocks.proofs.nodes.put_node.Statement.{statement}
-use Rattle.blocks.proofs.nodes.put_node.Tie as tie
+use Rattle.blocks.proofs.nodes.put_part.Statement.{statement}
+use Rattle.blocks.proofs.nodes.put_part.Tie as tie
 
 put-two-requires : tie.Need-put-two-requires
 put-two-requires c κs = search needs
@@ -18,6 +18,6 @@ same-length c = search needs
 returns : tie.Need-returns
 returns c = wrote-then (c .before .before .before .before .before .before .before .before .before .before .put-two .ensures) (wrote-then (c .before .before .before .before .before .before .put-four .ensures) (c .before .before .put-four2 .ensures))
 
-pub put-node-spec : {M : Type 1} → statement M
-put-node-spec =
+pub put-part-spec : {M : Type 1} → statement M
+put-part-spec =
     tie.close (tie.spec put-two-requires put-four-requires put-four-requires-2 same-length returns)
