@@ -16,7 +16,7 @@ report-requires : tie.Need-report-requires
 report-requires c κs = search needs
 
 slice-aggregate-deliver : tie.Need-slice-aggregate-deliver
-slice-aggregate-deliver c = search needs
+slice-aggregate-deliver c = sym (c .before .before .report .kept .0)
 
 deliver-requires : tie.Need-deliver-requires
 deliver-requires c κs = search needs

@@ -21,7 +21,7 @@ enum-told : tie.Need-enum-told
 enum-told c = search needs
 
 slice-aggregate-write-lines : tie.Need-slice-aggregate-write-lines
-slice-aggregate-write-lines c = search needs
+slice-aggregate-write-lines c = sym (c .before .before .before .before .before .before .before .count-and-weights .kept .1 .1 .0)
 
 write-lines-requires : tie.Need-write-lines-requires
 write-lines-requires c κs = omega (arith, weights-fit (c .before .before .before .before .before .before .before .before .before .before .before .before .args .words .now) _ _ _ _ (c .before .before .before .before .before .before .before .count-and-weights .ensures) (length-replicate {A = ℕ} weightsLent 0) (length-replicate {A = ℕ} roomLent 0) (c .before .before .enum-told .given .1))

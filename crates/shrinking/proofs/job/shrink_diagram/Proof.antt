@@ -33,7 +33,7 @@ slice-aggregate-hand-out : tie.Need-slice-aggregate-hand-out
 slice-aggregate-hand-out c = sym (length-take-le _ _ (omega (arith, answer-long (c .before .before .before .before .before .before .before .before .before .before .before .before .args .form) (c .before .before .before .before .before .before .before .before .before .before .before .before .args .target .keep) (c .before .before .before .before .before .before .before .before .before .before .before .before .args .target .as_is) (aimOf (c .before .before .before .before .before .before .before .before .before .before .before .before .args .target)) (c .before .before .before .before .before .before .before .before .before .before .before .before .args .words .now) _ _ _ _ (c .before .before .before .before .before .before .shrink-words .ensures) (length-replicate {A = ℕ} maxWords 0) (length-replicate {A = ℕ} roomLent 0) (c .before .before .enum-told .given .1) (c .before .before .before .before .before .before .shrink-words .kept .1 .1 .1 .0), c .before .before .before .before .before .before .shrink-words .kept .1 .1 .1 .0)))
 
 slice-aggregate-hand-out-2 : tie.Need-slice-aggregate-hand-out-2
-slice-aggregate-hand-out-2 c = search needs
+slice-aggregate-hand-out-2 c = sym (c .before .before .before .before .before .before .before .shrink-words .kept .1 .1 .0)
 
 hand-out-requires : tie.Need-hand-out-requires
 hand-out-requires c κs = answer-ready (c .before .before .before .before .before .before .before .before .before .before .before .before .before .before .before .args .form) (c .before .before .before .before .before .before .before .before .before .before .before .before .before .before .before .args .target .keep) (c .before .before .before .before .before .before .before .before .before .before .before .before .before .before .before .args .target .as_is) (aimOf (c .before .before .before .before .before .before .before .before .before .before .before .before .before .before .before .args .target)) (c .before .before .before .before .before .before .before .before .before .before .before .before .before .before .before .args .words .now) _ _ _ _ (c .before .before .before .before .before .before .before .before .before .shrink-words .ensures) (length-replicate {A = ℕ} maxWords 0) (length-replicate {A = ℕ} roomLent 0) (c .before .before .before .before .before .enum-told .given .1) (c .before .before .before .before .before .before .before .before .before .shrink-words .kept .1 .1 .1 .0) (c .before .before .before .before .before .before .before .before .before .shrink-words .last .1 .1 .0) (c .before .before .before .before .before .before .before .before .before .shrink-words .kept .1 .1 .0)
