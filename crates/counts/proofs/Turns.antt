@@ -20,31 +20,31 @@ use Rattle.counts.proofs.Nodes.{paths-ends, paths-node, paths-most, und
 -- ---- entries
 
 -- nothing is in the empty list
-not-in : {x : List Bool} → In x [] → ⊥
+pub not-in : {A : Type 0} {x : A} → In x [] → ⊥
 not-in i = omega (arith, length-in i)
   where
-    length-in : {x : List Bool} {l : List (List Bool)} → In x l → 0 < length l
+    length-in : {A : Type 0} {x : A} {l : List A} → In x l → 0 < length l
     length-in here = omega arith
     length-in (there i) = omega arith
 
-in-one : {x y : List Bool} → In x (y ∷ []) → x ≡ y
+pub in-one : {A : Type 0} {x y : A} → In x (y ∷ []) → x ≡ y
 in-one here = refl
 in-one (there i) = absurd (not-in i)
 
-in-append : {x : List Bool} (l m : List (List Bool)) → In x (l ++ m) → In x l ⊎ In x m
+pub in-append : {A : Type 0} {x : A} (l m : List A) → In x (l ++ m) → In x l ⊎ In x m
 in-append [] m i = inr i
 in-append (y ∷ l) m here = inl here
 in-append (y ∷ l) m (there i) = ⊎-elim (λ a. inl (there a)) (λ a. inr a) (in-append l m i)
 
-in-left : {x : List Bool} (l m : List (List Bool)) → In x l → In x (l ++ m)
+pub in-left : {A : Type 0} {x : A} (l m : List A) → In x l → In x (l ++ m)
 in-left (y ∷ l) m here = here
 in-left (y ∷ l) m (there i) = there (in-left l m i)
 
-in-right : {x : List Bool} (l m : List (List Bool)) → In x m → In x (l ++ m)
+pub in-right : {A : Type 0} {x : A} (l m : List A) → In x m → In x (l ++ m)
 in-right [] m i = i
 in-right (y ∷ l) m i = there (in-right l m i)
 
-once-append : (l m : List (List Bool)) → Once l → Once m → ((x : List Bool) → In x l → In x m → ⊥) → Once (l ++ m)
+pub once-append : {A : Type 0} (l m : List A) → Once l → Once m → ((x : A) → In x l → In x m → ⊥) → Once (l ++ m)
 once-append [] m a b apart = b
 once-append (y ∷ l) m (more n a) b apart =
     more (λ i. ⊎-elim n (apart y here) (in-append l m i)) (once-append l m a b (λ x i j. apart x (there i) j))

@@ -9,22 +9,22 @@ use Rattle.diagram.specs.Diagram.{vars, root, holds, Ordered}
 use Rattle.diagram.specs.Valuations.{tally, countOf, weightOf}
 use Rattle.counts.specs.Paths.{pathCountOf, Path}
 
--- A list of bits stands in a list of such lists; and no entry stands there twice.
-pub data In (x : List Bool) : List (List Bool) → Type 0 where
-  here : {l : List (List Bool)} → In x (x ∷ l)
-  there : {y : List Bool} {l : List (List Bool)} → In x l → In x (y ∷ l)
+-- An entry stands in a list; and no entry stands there twice.
+pub data In {A : Type 0} (x : A) : List A → Type 0 where
+  here : {l : List A} → In x (x ∷ l)
+  there : {y : A} {l : List A} → In x l → In x (y ∷ l)
 
-pub data Once : List (List Bool) → Type 0 where
+pub data Once {A : Type 0} : List A → Type 0 where
   none : Once []
-  more : {x : List Bool} {l : List (List Bool)} → (In x l → ⊥) → Once l → Once (x ∷ l)
+  more : {x : A} {l : List A} → (In x l → ⊥) → Once l → Once (x ∷ l)
 
--- How many lists of bits have a property: a list that has each of them once, and nothing else, is so long.
-pub record Number (P : List Bool → Type 0) (n : ℕ) : Type 0 where
-  pub list : List (List Bool)
+-- How many things have a property: a list that has each of them once, and nothing else, is so long.
+pub record Number {A : Type 0} (P : A → Type 0) (n : ℕ) : Type 0 where
+  pub list : List A
   pub count : length list ≡ n
   pub once : Once list
-  pub right : (bs : List Bool) → In bs list → P bs
-  pub all : (bs : List Bool) → P bs → In bs list
+  pub right : (x : A) → In x list → P x
+  pub all : (x : A) → P x → In x list
 
 -- n words hold the count, the path count and every weight.
 pub record Within (n : ℕ) (w : List ℕ) : Type 0 where

@@ -1,0 +1,144 @@
+-- What stands in the table while two diagrams are compared. Auxiliary: no promise to a caller names it.
+use Prim.Native.Nat.{ℕ, suc, _+_, _-_, _*_, _/_, _^_, _≤_, _<_}
+use mathlib.Core.Path.{_≡_}
+use mathlib.Core.Bool.{Bool, true, false, cond, not, _&&_}
+use mathlib.Core.List.{List}
+use lib.ListN.{length, getD}
+use lib.Dec.{ltb}
+use Rattle.naturals.specs.Natural.{Holds}
+use Rattle.diagram.specs.Diagram.{vars}
+use Rattle.diagram.specs.Reading.{eval}
+use Rattle.diagram.specs.Valuations.{tally}
+use Rattle.counts.specs.Table.{entry}
+use Rattle.diagram.specs.Verdict.{accepted, refused, said}
+use Rattle.pairs.specs.Pairs.{Pair, levelOf, ended, roots, allOf, pairsOf}
+use Rattle.pairs.specs.Table.{countsFrom, flagsFrom, at, Space, Standing, Alike}
+use Rattle.comparison.specs.Comparison.{inBoth, anyDiffer, shown, numeral, least}
+use Rattle.comparison.specs.declared.work.Work.{Work}
+use Rattle.comparison.specs.declared.compare.Compared.{Compared}
+
+-- One of two is true and the other isn't.
+unfoldable pub unlike : Bool → Bool → Bool
+unlike true y = not y
+unlike false y = y
+
+-- The two sides of a pair beside each other, read from variable i on; and how many valuations of the variables from the pair's own on
+-- pass then.
+abbrev pub beside : (Bool → Bool → Bool) → List ℕ → List ℕ → ℕ → Pair → List Bool → Bool
+beside op a b i x bs = op (eval a i (x .first) bs) (eval b i (x .second) bs)
+
+abbrev pub worthFrom : (Bool → Bool → Bool) → List ℕ → List ℕ → ℕ → Pair → ℕ
+worthFrom op a b i x = tally (vars a - i) (beside op a b i x)
+
+abbrev pub worth : (Bool → Bool → Bool) → List ℕ → List ℕ → Pair → ℕ
+worth op a b x = worthFrom op a b (levelOf a b x) x
+
+-- Whether a pair's two functions differ.
+abbrev pub unlikeAt : List ℕ → List ℕ → Pair → Bool
+unlikeAt a b x = ltb 0 (worth unlike a b x)
+
+abbrev pub flagIn : ℕ → List ℕ → ℕ → ℕ
+flagIn c t i = getD t (flagsFrom c + i) 0
+
+-- All pairs of two diagrams stand in the table.
+pub record Listed (a b : List ℕ) (c : ℕ) (t : List ℕ) : Type 0 where
+  pub alike : Alike a b
+  pub space : Space c t
+  pub standing : Standing a b c (allOf a b) t
+
+-- The pair at a place.
+abbrev pub pairAt : List ℕ → List ℕ → ℕ → Pair
+pairAt a b i = at (allOf a b) i
+
+pub record Placed (a b : List ℕ) (c : ℕ) (t : List ℕ) (place : ℕ) : Type 0 where
+  pub listed : Listed a b c t
+  pub inside : place < pairsOf a b
+
+-- The counts and flags of the first k places are noted.
+pub record Worths (a b : List ℕ) (c : ℕ) (t : List ℕ) (k : ℕ) : Type 0 where
+  pub listed : Listed a b c t
+  pub count : (i : ℕ) → i < k → Holds (worth _&&_ a b (pairAt a b i)) (entry (countsFrom c) t i)
+  pub flag : (i : ℕ) → i < k → flagIn c t i ≡ cond (unlikeAt a b (pairAt a b i)) 1 0
+
+-- And the next place is one.
+pub record Noting (a b : List ℕ) (c : ℕ) (t : List ℕ) (place v : ℕ) : Type 0 where
+  pub worths : Worths a b c t place
+  pub inside : place < pairsOf a b
+  pub variables : v ≡ vars a
+
+-- The pair there has ended, and is p and q; or it has not.
+pub record Ending (a b : List ℕ) (place p q : ℕ) : Type 0 where
+  pub done : ended (pairAt a b place) ≡ true
+  pub first : p ≡ pairAt a b place .first
+  pub second : q ≡ pairAt a b place .second
+
+pub record Stepping (a b : List ℕ) (place : ℕ) : Type 0 where
+  pub going : ended (pairAt a b place) ≡ false
+
+-- Its count is noted too, and not yet its flag.
+pub record Counted (a b : List ℕ) (c : ℕ) (t : List ℕ) (place : ℕ) : Type 0 where
+  pub worths : Worths a b c t place
+  pub inside : place < pairsOf a b
+  pub here : Holds (worth _&&_ a b (pairAt a b place)) (entry (countsFrom c) t place)
+
+-- All are noted, and a place is the two roots'.
+pub record Rooted (a b : List ℕ) (c : ℕ) (t : List ℕ) (place v : ℕ) : Type 0 where
+  pub worths : Worths a b c t (pairsOf a b)
+  pub inside : place < pairsOf a b
+  pub here : pairAt a b place ≡ roots a b
+  pub variables : v ≡ vars a
+
+-- The search for the smallest valuation stands at a place and a variable i: the pair there differs from i on, and the bits that were
+-- found are a number.
+pub record Searching (a b : List ℕ) (c : ℕ) (t : List ℕ) (place i : ℕ) : Type 0 where
+  pub worths : Worths a b c t (pairsOf a b)
+  pub inside : place < pairsOf a b
+  pub level : i ≤ levelOf a b (pairAt a b place)
+  pub unlike-from : 0 < worthFrom unlike a b i (pairAt a b place)
+
+-- One variable further: the bit that the smallest valuation has there, and the place that it leads to.
+pub record Turned (a b : List ℕ) (c : ℕ) (t : List ℕ) (place i place′ bit : ℕ) : Type 0 where
+  pub searching : Searching a b c t place′ (suc i)
+  pub small : bit ≤ 1
+  pub number : numeral (least (vars a - i) (beside unlike a b i (pairAt a b place)))
+      ≡ bit * 2 ^ (vars a - suc i) + numeral (least (vars a - suc i) (beside unlike a b (suc i) (pairAt a b place′)))
+
+-- The walk has come to its end: all pairs stand in the table, the two roots at a place.
+pub record Arriving (a b : List ℕ) (c : ℕ) (t : List ℕ) (count place v : ℕ) : Type 0 where
+  pub listed : Listed a b c t
+  pub is-count : count ≡ pairsOf a b
+  pub inside : place < pairsOf a b
+  pub here : pairAt a b place ≡ roots a b
+  pub variables : v ≡ vars a
+
+-- What is worked out in a table of so many words: the pairs are too many, or all is told.
+pub record Told (a b : List ℕ) (r : Work) : Type 0 where
+  pub pairs : r .pairs ≡ pairsOf a b
+  pub both : Holds (inBoth a b) (r .both .words)
+  pub differ : r .differ ≡ anyDiffer a b
+  pub smallest : Holds (shown a b) (r .smallest .words)
+
+pub record Worked (a b : List ℕ) (places : ℕ) (r : Work) : Type 0 where
+  pub full : r .full ≡ ltb places (pairsOf a b)
+  pub told : r .full ≡ false → Told a b r
+
+-- Nothing is told.
+pub record Nothing (r : Compared) : Type 0 where
+  pub first : Holds 0 (r .first .words)
+  pub second : Holds 0 (r .second .words)
+  pub both : Holds 0 (r .both .words)
+  pub differ : r .differ ≡ false
+  pub smallest : Holds 0 (r .smallest .words)
+
+-- An answer from what was worked out and the two diagrams' counts x and y.
+pub record Differences (x y : List ℕ) (told : Work) (r : Compared) : Type 0 where
+  pub first : (m n : ℕ) → Holds m x → Holds n (told .both .words) → n ≤ m → Holds (m - n) (r .first .words)
+  pub second : (m n : ℕ) → Holds m y → Holds n (told .both .words) → n ≤ m → Holds (m - n) (r .second .words)
+  pub both : r .both .words ≡ told .both .words
+  pub differ : r .differ ≡ told .differ
+  pub smallest : r .smallest .words ≡ told .smallest .words
+
+pub record Answered (x y : List ℕ) (v : ℕ) (told : Work) (r : Compared) : Type 0 where
+  pub which : r .which ≡ 0
+  pub full : told .full ≡ true → (said (r .verdict) ≡ refused 32 0) × Nothing r
+  pub answer : told .full ≡ false → (said (r .verdict) ≡ accepted (told .pairs) v) × Differences x y told r

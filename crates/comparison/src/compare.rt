@@ -1,0 +1,119 @@
+// Two diagrams beside each other: document 02, E1.
+use crate::work::Work;
+use crate::work::work;
+use counts::exact_cardinality;
+use diagram::room::clear;
+use diagram::verdict::Verdict;
+use naturals::Natural;
+use naturals::subtract;
+use naturals::zero;
+use pairs::table::PAIR_WORDS;
+ghost use mathlib.Core.Path.{_≡_};
+ghost use Prim.Native.Nat.{_/_};
+ghost use lib.ListN.{length, replicate};
+ghost use Rattle.diagram.specs.Diagram.{vars as varsOf};
+ghost use Rattle.pairs.specs.Table.{pairWords, Alike};
+ghost use Rattle.comparison.specs.Comparison.{Compare};
+ghost use Rattle.comparison.specs.Work.{Worked, Nothing, Answered};
+
+// The diagrams have different variable counts.
+pub const OTHER_VARIABLES: u32 = 31;
+
+// More pairs are reached than the table has places for.
+pub const TOO_MANY_PAIRS: u32 = 32;
+
+// A verdict, and which diagram a refusal is about: 0 the first, or none, and 1 the second. Accepted, `nodes` are the pairs reached. How
+// many valuations hold in the first only, in the second only and in both; whether there is one in which they differ, and the smallest
+// such as a number, in which variable 0 is the highest bit. All zero where it is refused.
+pub struct Compared {
+    pub verdict: Verdict,
+    pub which: u32,
+    pub first: Natural,
+    pub second: Natural,
+    pub both: Natural,
+    pub differ: bool,
+    pub smallest: Natural,
+}
+
+fn refused(verdict: Verdict, which: u32) -> Compared
+    ensures { λ r. ⌜ (r .verdict ≡ verdict) × (r .which ≡ which) × Nothing r ⌝ }
+{
+    Compared {
+        verdict,
+        which,
+        first: zero(),
+        second: zero(),
+        both: zero(),
+        differ: false,
+        smallest: zero(),
+    }
+}
+
+fn answered(first: Natural, second: Natural, vars: u32, told: Work) -> Compared
+    ensures { λ r. ⌜ Answered (first .words) (second .words) vars told r ⌝ }
+{
+    if told.full {
+        return refused(
+            Verdict::Refused {
+                number: TOO_MANY_PAIRS,
+                place: 0,
+            },
+            0,
+        );
+    }
+    let in_first = subtract(first, told.both);
+    let in_second = subtract(second, told.both);
+    Compared {
+        verdict: Verdict::Accepted {
+            nodes: told.pairs,
+            vars,
+        },
+        which: 0,
+        first: in_first.natural,
+        second: in_second.natural,
+        both: told.both,
+        differ: told.differ,
+        smallest: told.smallest,
+    }
+}
+
+// The table is zero afterwards.
+fn work_and_clear(first: &[u32], second: &[u32], table: &mut [u32], vars: u32) -> Work
+    requires { ⌜ Alike (now first) (now second) × (vars ≡ varsOf (now first)) ⌝ }
+    ensures { λ r. ⌜ Worked (now (first .entry)) (now (second .entry)) (length (now (table .entry)) / pairWords) r × (now (table .exit) ≡ replicate (length (now (table .entry))) 0) ⌝ }
+{
+    let told = work(first, second, table, vars);
+    let all = table.len();
+    clear(table, all);
+    told
+}
+
+// `room` serves both checks in turn; `table` has PAIR_WORDS words for each pair.
+pub fn compare(first: &[u32], second: &[u32], room: &mut [u32], table: &mut [u32]) -> Compared
+    ensures { λ r. ⌜ Compare (now (first .entry)) (now (second .entry)) (now (room .entry)) (now (room .exit)) (now (table .entry)) (now (table .exit)) r ⌝ }
+{
+    let of_first = exact_cardinality(first, room);
+    let Verdict::Accepted { nodes: _, vars } = of_first.verdict else {
+        return refused(of_first.verdict, 0);
+    };
+    let of_second = exact_cardinality(second, room);
+    let Verdict::Accepted {
+        nodes: _,
+        vars: others,
+    } = of_second.verdict
+    else {
+        return refused(of_second.verdict, 1);
+    };
+    if vars != others {
+        return refused(
+            Verdict::Refused {
+                number: OTHER_VARIABLES,
+                place: 0,
+            },
+            0,
+        );
+    }
+    let whole = PAIR_WORDS * (table.len() / PAIR_WORDS);
+    let told = work_and_clear(first, second, &mut table[..whole], vars);
+    answered(of_first.count, of_second.count, vars, told)
+}

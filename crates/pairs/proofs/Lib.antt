@@ -1,0 +1,1 @@
+-- Laws that belong to no one function.
