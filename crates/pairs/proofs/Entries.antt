@@ -103,6 +103,12 @@ module _ (c : ℕ) (t : List ℕ) (n key low high : ℕ) (space : Space c t) (fr
   fits : c + 4 * n + 4 ≤ length t
   fits = let long = space .long in omega arith
 
+  -- as the code writes it
+  pub entered-is : {g m : ℕ} → g ≡ h → m ≡ suc n
+      → set (set (set (set (set t (c + 4 * n) key) (c + 4 * n + 1) (getD t g 0)) (c + 4 * n + 2) low) (c + 4 * n + 3) high) g m ≡ after
+  unfolding entered
+  entered-is eg em = rw (eg, em) refl
+
   pub entered-length : length after ≡ length t
   unfolding entered
   entered-length = simp length-set refl

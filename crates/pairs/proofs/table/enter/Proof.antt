@@ -1,3 +1,4 @@
+use Rattle.pairs.proofs.Entries.{bucket-small, entered-is}
 use Rattle.pairs.specs.Table.{entered}
 use Rattle.pairs.proofs.Entries.{bucket-small}
 use mathlib.Core.Path.{refl, ap, sym}
@@ -17,7 +18,7 @@ add-at : tie.Need-add-at
 add-at c = search needs
 
 mul-before : tie.Need-mul-before
-mul-before c = search needs
+mul-before c = omega (arith, c .bucket .ensures, bucket-small (c .before .before .args .capacity) (c .before .before .args .key) (c .before .before .pre .0 .some), c .before .before .pre .0 .few)
 
 slice-read-before : tie.Need-slice-read-before
 slice-read-before c = omega (arith, c .before .bucket .ensures, bucket-small (c .before .before .before .args .capacity) (c .before .before .before .args .key) (c .before .before .before .pre .0 .some), c .before .before .before .pre .0 .long)
@@ -68,7 +69,7 @@ cast-table-3 : tie.Need-cast-table-3
 cast-table-3 c = search needs
 
 mul-table-5 : tie.Need-mul-table-5
-mul-table-5 c = search needs
+mul-table-5 c = omega (arith, c .before .bucket .ensures, bucket-small (c .before .before .before .args .capacity) (c .before .before .before .args .key) (c .before .before .before .pre .0 .some), c .before .before .before .pre .0 .few)
 
 slice-write-table-5 : tie.Need-slice-write-table-5
 slice-write-table-5 c = simp length-set (omega (arith, c .before .bucket .ensures, bucket-small (c .before .before .before .args .capacity) (c .before .before .before .args .key) (c .before .before .before .pre .0 .some), c .before .before .before .pre .0 .long))
@@ -77,7 +78,7 @@ same-length : tie.Need-same-length
 same-length c = search needs
 
 returns : tie.Need-returns
-returns c = ?
+returns c = entered-is _ _ (c .before .before .before .args .count) (c .before .before .before .args .key) (c .before .before .before .args .low) (c .before .before .before .args .high) (c .before .before .before .pre .0) (c .before .before .before .pre .1) (c .before .bucket .ensures) (omega arith)
 
 pub enter-spec : {M : Type 1} → statement M
 enter-spec =
