@@ -7,6 +7,7 @@
 --     Meeting    the walk over pairs
 --     Walking    what each call of it may rest on, and each of its returns
 --     Beginning  its beginning
+--     Numbering  the pairs met are those reached
 pub mod Steps
 pub mod Chains
 pub mod Entries
@@ -15,3 +16,4 @@ pub mod Levels
 pub mod Meeting
 pub mod Walking
 pub mod Beginning
+pub mod Numbering

@@ -70,7 +70,7 @@ module _ (a b : List ℕ) where
   meet-on k x s e f = cond-false (met x s) s _ e ∙ ap (λ (l : List Pair). l ++ (x ∷ [])) (cond-false (ended x) s _ f)
 
   -- by cases on the step
-  by-meet : (P : List Pair → Type 0) (k : ℕ) (x : Pair) (s : List Pair) → (met x s ≡ true → P s)
+  pub by-meet : (P : List Pair → Type 0) (k : ℕ) (x : Pair) (s : List Pair) → (met x s ≡ true → P s)
       → (met x s ≡ false → ended x ≡ true → P (s ++ (x ∷ [])))
       → (met x s ≡ false → ended x ≡ false → P (meet a b k (next a b x true) (meet a b k (next a b x false) s) ++ (x ∷ [])))
       → P (meet a b (suc k) x s)
