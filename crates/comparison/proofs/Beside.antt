@@ -1,7 +1,6 @@
 -- Two nodes beside each other: what a pair is worth from the pairs that it goes to, for any way to take the two sides together.
 use Prim.Native.Nat.{ℕ, zero, suc, _+_, _-_, _*_, _^_, _≤_, _<_}
 use mathlib.Core.Path.{_≡_, refl, sym, ap, _∙_}
-use mathlib.Core.Logic.{⊎-elim}
 use mathlib.Core.Bool.{Bool, true, false, cond, not, _&&_, _||_}
 use mathlib.Core.List.{List, _∷_}
 use native.Mathlib.Omega.{arith}
@@ -9,78 +8,21 @@ use native.Mathlib.Nat.{pow-suc, mul-one, mul-assoc, sub-zero, le-mul-of-pos-rig
 use lib.ListN.{length}
 use lib.Pow.{pow-pos}
 use lib.Dec.{ltb, eqb}
-use borrow.Author.Tests.{lt-ltb, le-ltb, ltb-true, ltb-false}
-use Rattle.diagram.specs.Diagram.{varOf, size, vars, root, holds}
+use borrow.Author.Tests.{lt-ltb}
+use Rattle.diagram.specs.Diagram.{vars, holds}
 use Rattle.diagram.specs.Reading.{pass}
 use Rattle.diagram.specs.Valuations.{tally}
-use Rattle.diagram.proofs.Reading.{Layered, layered, root-in, by-two, pass-tests, pass-skips, eval-nil, eval-cons, pass-in, at-level, var-most, child-above, holds-is-eval}
+use Rattle.diagram.proofs.Reading.{pass-skips, eval-nil, eval-cons, holds-is-eval}
 use Rattle.diagram.proofs.Tally.{tally-zero, tally-suc, tally-same, tally-most}
-use Rattle.diagram.proofs.Tests.{by-test, not-both}
 use Rattle.pairs.specs.Pairs.{Pair, pair, levelOf, next, ended, roots}
 use Rattle.pairs.specs.Table.{Alike}
+use Rattle.pairs.proofs.Levels.{Inside, ended-told, roots-in, level-most, level-below, level-end, next-in, next-above}
 use Rattle.comparison.specs.Comparison.{differ, inBoth, anyDiffer}
 use Rattle.comparison.specs.Work.{unlike, beside, worthFrom, worth, unlikeAt}
-
--- ---- levels
-
--- a node that stands at a variable or behind it is behind it when it has passed it
-pub pass-above : (w : List ℕ) (v n : ℕ) → Layered w v n → (i p : ℕ) (bit : Bool) → p < n → i ≤ varOf w p → i < v → i < varOf w (pass w i p bit)
-pass-above w v n g i p bit h below less = ⊎-elim
-    (λ t. let up = child-above w v n p (g .node p (t .0) h) bit in rw (pass-tests w i p bit (t .0) (t .1)) (omega (arith, t .1)))
-    (λ s. rw (pass-skips w i p bit s) s)
-    (at-level w v n g i p h below less)
-
--- a pair of two diagrams' nodes
-pub record Inside (a b : List ℕ) (x : Pair) : Type 0 where
-  pub first : x .first < size a
-  pub second : x .second < size b
 
 -- where a pair stands behind a variable
 abbrev pub passed : List ℕ → List ℕ → ℕ → Pair → Bool → Pair
 passed a b i x bit = pair (pass a i (x .first) bit) (pass b i (x .second) bit)
-
-module _ {a b : List ℕ} (k : Alike a b) where
-  abbrev v : ℕ
-  v = vars a
-
-  abbrev ga : Layered a v (size a)
-  ga = layered a (k .first)
-
-  gb : Layered b v (size b)
-  gb = rw (k .variables) (layered b (k .second))
-
-  pub passed-in : (i : ℕ) (x : Pair) (bit : Bool) → Inside a b x → Inside a b (passed a b i x bit)
-  passed-in i x bit h = record {
-    first = pass-in a v (size a) ga i (x .first) bit (h .first);
-    second = pass-in b v (size b) gb i (x .second) bit (h .second);
-  }
-
-  pub passed-above : (i : ℕ) (x : Pair) (bit : Bool) → Inside a b x → i ≤ levelOf a b x → i < v → i < levelOf a b (passed a b i x bit)
-  passed-above i x bit h below less =
-      let p = pass-above a v (size a) ga i (x .first) bit (h .first) (omega arith) less in
-      let q = pass-above b v (size b) gb i (x .second) bit (h .second) (omega arith) less in
-      omega arith
-
-  pub level-most : (x : Pair) → Inside a b x → levelOf a b x ≤ v
-  level-most x h = let p = var-most a v (size a) ga (x .first) (h .first) in omega arith
-
-  -- a pair steps at a variable, where one of its nodes is no terminal, and else stands behind all
-  pub level-ended : (x : Pair) → Inside a b x → ended x ≡ true → levelOf a b x ≡ v
-  level-ended x h e = by-test (ltb (x .first) 2)
-      (λ t. by-test (ltb (x .second) 2)
-      (λ u. omega (arith, ga .terminal (x .first) (ltb-true (x .first) 2 t) (h .first), gb .terminal (x .second) (ltb-true (x .second) 2 u) (h .second)))
-      (λ u. absurd (not-both (ended x) e (rw (t, u) refl))))
-      (λ t. absurd (not-both (ended x) e (rw t refl)))
-
-  pub level-steps : (x : Pair) → Inside a b x → ended x ≡ false → levelOf a b x < v
-  level-steps x h e = by-two (x .first)
-      (λ t. by-two (x .second)
-      (λ u. absurd (not-both (ended x) (rw (lt-ltb (x .first) 2 t, lt-ltb (x .second) 2 u) refl) e))
-      (λ two. let s = gb .node (x .second) two (h .second) .var in omega arith))
-      (λ two. let s = ga .node (x .first) two (h .first) .var in omega arith)
-
-  pub roots-in : Inside a b (roots a b)
-  roots-in = record { first = root-in a (k .first); second = root-in b (k .second) }
 
 -- ---- worths
 
@@ -108,7 +50,7 @@ module _ (op : Bool → Bool → Bool) {a b : List ℕ} (k : Alike a b) where
 
   pub worth-twice : (i : ℕ) (x : Pair) → Inside a b x → i < levelOf a b x → seen i x ≡ 2 * seen (suc i) x
   worth-twice i x h less =
-      let most = level-most k x h in
+      let most = level-most a b k x h in
       worth-step i x (omega arith) ∙ rw (passed-skips i x false less, passed-skips i x true less) (omega arith)
 
   pub worth-skip : (d i : ℕ) (x : Pair) → i + d ≡ levelOf a b x → Inside a b x → seen i x ≡ worth op a b x * 2 ^ d
@@ -126,18 +68,17 @@ module _ (op : Bool → Bool → Bool) {a b : List ℕ} (k : Alike a b) where
 
   pub part-is : (x : Pair) (bit : Bool) → Inside a b x → ended x ≡ false → seen (suc (levelOf a b x)) (next a b x bit) ≡ part x bit
   part-is x bit h e =
-      let less = level-steps k x h e in
-      let up = passed-above k (levelOf a b x) x bit h (omega arith) less in
-      worth-skip (levelOf a b (next a b x bit) - levelOf a b x - 1) (suc (levelOf a b x)) (next a b x bit) (omega arith) (passed-in k (levelOf a b x) x bit h)
+      let up = next-above a b k x h e bit in
+      worth-skip (levelOf a b (next a b x bit) - levelOf a b x - 1) (suc (levelOf a b x)) (next a b x bit) (omega arith) (next-in a b k x h bit)
 
   pub worth-node : (x : Pair) → Inside a b x → ended x ≡ false → worth op a b x ≡ part x false + part x true
   worth-node x h e =
-      worth-step (levelOf a b x) x (level-steps k x h e)
+      worth-step (levelOf a b x) x (level-below a b k x h e)
       ∙ rw (part-is x false h e, part-is x true h e) refl
 
   pub worth-end : (x : Pair) → Inside a b x → ended x ≡ true → worth op a b x ≡ cond (op (eqb (x .first) 1) (eqb (x .second) 1)) 1 0
   worth-end x h e =
-      let none : vars a - levelOf a b x ≡ zero = omega (arith, level-ended k x h e) in
+      let none : vars a - levelOf a b x ≡ zero = omega (arith, level-end a b k x h e) in
       ap (λ (n : ℕ). tally n (beside op a b (levelOf a b x) x)) none
       ∙ tally-zero (beside op a b (levelOf a b x) x)
       ∙ rw (eval-nil a (levelOf a b x) (x .first), eval-nil b (levelOf a b x) (x .second)) refl
@@ -146,16 +87,19 @@ module _ (op : Bool → Bool → Bool) {a b : List ℕ} (k : Alike a b) where
   worth-most x = tally-most (vars a - levelOf a b x) (beside op a b (levelOf a b x) x)
 
   -- all of it, by the two roots
+  pub beside-roots : (bs : List Bool) → length bs ≡ vars a → op (holds a bs) (holds b bs) ≡ beside op a b 0 (roots a b) bs
+  beside-roots bs l = rw (holds-is-eval a (k .first) bs l, holds-is-eval b (k .second) bs (l ∙ k .variables)) refl
+
   pub worth-all : (test : List Bool → Bool) → ((bs : List Bool) → test bs ≡ op (holds a bs) (holds b bs))
       → tally (vars a) test ≡ worthFrom op a b 0 (roots a b)
   worth-all test h =
       tally-same (vars a) test (beside op a b 0 (roots a b))
-      (λ bs l. h bs ∙ rw (holds-is-eval a (k .first) bs l, holds-is-eval b (k .second) bs (l ∙ k .variables)) refl)
+      (λ bs l. h bs ∙ beside-roots bs l)
       ∙ ap (λ (n : ℕ). tally n (beside op a b 0 (roots a b))) (sym (sub-zero (vars a)))
 
   pub worth-roots : (test : List Bool → Bool) → ((bs : List Bool) → test bs ≡ op (holds a bs) (holds b bs))
       → tally (vars a) test ≡ worth op a b (roots a b) * 2 ^ levelOf a b (roots a b)
-  worth-roots test h = worth-all test h ∙ worth-skip (levelOf a b (roots a b)) 0 (roots a b) (omega arith) (roots-in k)
+  worth-roots test h = worth-all test h ∙ worth-skip (levelOf a b (roots a b)) 0 (roots a b) (omega arith) (roots-in a b k)
 
 -- ---- the two that are used
 
@@ -199,23 +143,15 @@ unlike-end (suc zero) (suc zero) t u = refl
 unlike-end (suc zero) (suc (suc q)) t u = absurd (omega arith)
 unlike-end (suc (suc p)) q t u = absurd (omega arith)
 
-ended-first : (x : Pair) → ended x ≡ true → x .first < 2
-ended-first x e = by-test (ltb (x .first) 2) (ltb-true (x .first) 2) (λ f. absurd (not-both (ended x) e (rw f refl)))
-
-ended-second : (x : Pair) → ended x ≡ true → x .second < 2
-ended-second x e = by-test (ltb (x .first) 2)
-    (λ t. by-test (ltb (x .second) 2) (ltb-true (x .second) 2) (λ f. absurd (not-both (ended x) e (rw (t, f) refl))))
-    (λ f. absurd (not-both (ended x) e (rw f refl)))
-
 module _ {a b : List ℕ} (k : Alike a b) where
   pub both-roots : inBoth a b ≡ worth _&&_ a b (roots a b) * 2 ^ levelOf a b (roots a b)
   both-roots = worth-roots _&&_ k (λ bs. holds a bs && holds b bs) (λ bs. refl)
 
   pub both-ended : (x : Pair) → Inside a b x → ended x ≡ true → worth _&&_ a b x ≡ x .first * x .second
-  both-ended x h e = worth-end _&&_ k x h e ∙ both-end (x .first) (x .second) (ended-first x e) (ended-second x e)
+  both-ended x h e = worth-end _&&_ k x h e ∙ both-end (x .first) (x .second) (ended-told x e .0) (ended-told x e .1)
 
   pub unlike-ended : (x : Pair) → Inside a b x → ended x ≡ true → unlikeAt a b x ≡ not (eqb (x .first) (x .second))
-  unlike-ended x h e = ap (ltb 0) (worth-end unlike k x h e) ∙ unlike-end (x .first) (x .second) (ended-first x e) (ended-second x e)
+  unlike-ended x h e = ap (ltb 0) (worth-end unlike k x h e) ∙ unlike-end (x .first) (x .second) (ended-told x e .0) (ended-told x e .1)
 
   pub unlike-node : (x : Pair) → Inside a b x → ended x ≡ false → unlikeAt a b x ≡ (unlikeAt a b (next a b x false) || unlikeAt a b (next a b x true))
   unlike-node x h e =

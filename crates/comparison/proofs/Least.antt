@@ -63,7 +63,7 @@ bit-some : (b : Bool) → 0 < cond b 1 0 → b ≡ true
 bit-some true h = refl
 bit-some false h = absurd (omega arith)
 
-least-nil : (test : List Bool → Bool) → least zero test ≡ []
+pub least-nil : (test : List Bool → Bool) → least zero test ≡ []
 unfolding least
 least-nil test = refl
 

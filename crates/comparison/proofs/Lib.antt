@@ -1,5 +1,11 @@
 -- Laws that belong to no one function.
 --     Beside     what a pair is worth from the pairs that it goes to
 --     Least      the smallest list of bits that passes a test
+--     Places     what stands at a place of the table, and what noting a count or a flag leaves
+--     Adding     a pair's count from those of the pairs that it goes to
+--     Search     the search for the smallest valuation
 pub mod Beside
 pub mod Least
+pub mod Places
+pub mod Adding
+pub mod Search

@@ -14,7 +14,7 @@ use Rattle.diagram.specs.Verdict.{accepted, refused, said}
 use Rattle.pairs.specs.Pairs.{Pair, levelOf, ended, roots, allOf, pairsOf}
 use Rattle.pairs.specs.Table.{countsFrom, flagsFrom, at, Space, Standing, Alike}
 use Rattle.comparison.specs.Comparison.{inBoth, anyDiffer, shown, numeral, least}
-use Rattle.comparison.specs.declared.work.Work.{Work}
+use Rattle.comparison.specs.declared.work.Found.{Found}
 use Rattle.comparison.specs.declared.compare.Compared.{Compared}
 
 -- One of two is true and the other isn't.
@@ -112,13 +112,13 @@ pub record Arriving (a b : List ℕ) (c : ℕ) (t : List ℕ) (count place v : �
   pub variables : v ≡ vars a
 
 -- What is worked out in a table of so many words: the pairs are too many, or all is told.
-pub record Told (a b : List ℕ) (r : Work) : Type 0 where
+pub record Told (a b : List ℕ) (r : Found) : Type 0 where
   pub pairs : r .pairs ≡ pairsOf a b
   pub both : Holds (inBoth a b) (r .both .words)
   pub differ : r .differ ≡ anyDiffer a b
   pub smallest : Holds (shown a b) (r .smallest .words)
 
-pub record Worked (a b : List ℕ) (places : ℕ) (r : Work) : Type 0 where
+pub record Worked (a b : List ℕ) (places : ℕ) (r : Found) : Type 0 where
   pub full : r .full ≡ ltb places (pairsOf a b)
   pub told : r .full ≡ false → Told a b r
 
@@ -131,14 +131,14 @@ pub record Nothing (r : Compared) : Type 0 where
   pub smallest : Holds 0 (r .smallest .words)
 
 -- An answer from what was worked out and the two diagrams' counts x and y.
-pub record Differences (x y : List ℕ) (told : Work) (r : Compared) : Type 0 where
+pub record Differences (x y : List ℕ) (told : Found) (r : Compared) : Type 0 where
   pub first : (m n : ℕ) → Holds m x → Holds n (told .both .words) → n ≤ m → Holds (m - n) (r .first .words)
   pub second : (m n : ℕ) → Holds m y → Holds n (told .both .words) → n ≤ m → Holds (m - n) (r .second .words)
   pub both : r .both .words ≡ told .both .words
   pub differ : r .differ ≡ told .differ
   pub smallest : r .smallest .words ≡ told .smallest .words
 
-pub record Answered (x y : List ℕ) (v : ℕ) (told : Work) (r : Compared) : Type 0 where
+pub record Answered (x y : List ℕ) (v : ℕ) (told : Found) (r : Compared) : Type 0 where
   pub which : r .which ≡ 0
   pub full : told .full ≡ true → (said (r .verdict) ≡ refused 32 0) × Nothing r
   pub answer : told .full ≡ false → (said (r .verdict) ≡ accepted (told .pairs) v) × Differences x y told r

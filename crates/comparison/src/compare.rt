@@ -1,5 +1,5 @@
 // Two diagrams beside each other: document 02, E1.
-use crate::work::Work;
+use crate::work::Found;
 use crate::work::work;
 use counts::exact_cardinality;
 use diagram::room::clear;
@@ -49,7 +49,7 @@ fn refused(verdict: Verdict, which: u32) -> Compared
     }
 }
 
-fn answered(first: Natural, second: Natural, vars: u32, told: Work) -> Compared
+fn answered(first: Natural, second: Natural, vars: u32, told: Found) -> Compared
     ensures { λ r. ⌜ Answered (first .words) (second .words) vars told r ⌝ }
 {
     if told.full {
@@ -61,24 +61,28 @@ fn answered(first: Natural, second: Natural, vars: u32, told: Work) -> Compared
             0,
         );
     }
-    let in_first = subtract(first, told.both);
-    let in_second = subtract(second, told.both);
+    let both = told.both;
+    let smallest = told.smallest;
+    let in_first = subtract(first, both);
+    let in_second = subtract(second, both);
+    let only_first = in_first.natural;
+    let only_second = in_second.natural;
     Compared {
         verdict: Verdict::Accepted {
             nodes: told.pairs,
             vars,
         },
         which: 0,
-        first: in_first.natural,
-        second: in_second.natural,
-        both: told.both,
+        first: only_first,
+        second: only_second,
+        both,
         differ: told.differ,
-        smallest: told.smallest,
+        smallest,
     }
 }
 
 // The table is zero afterwards.
-fn work_and_clear(first: &[u32], second: &[u32], table: &mut [u32], vars: u32) -> Work
+fn work_and_clear(first: &[u32], second: &[u32], table: &mut [u32], vars: u32) -> Found
     requires { ⌜ Alike (now first) (now second) × (vars ≡ varsOf (now first)) ⌝ }
     ensures { λ r. ⌜ Worked (now (first .entry)) (now (second .entry)) (length (now (table .entry)) / pairWords) r × (now (table .exit) ≡ replicate (length (now (table .entry))) 0) ⌝ }
 {

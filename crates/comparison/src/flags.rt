@@ -18,10 +18,20 @@ pub(crate) fn differs_at(table: &[u32], capacity: usize, place: usize) -> bool
     word(table, FLAGS * capacity + place) != 0
 }
 
+// The word that says so.
+fn word_of(differs: bool) -> u32
+    ensures { λ r. ⌜ r ≡ cond differs 1 0 ⌝ }
+{
+    if differs {
+        return 1;
+    }
+    0
+}
+
 // Says whether the pair at a place differs.
 pub(crate) fn note_flag(table: &mut [u32], capacity: usize, place: usize, differs: bool)
     requires { ⌜ (capacity ≤ maxPairs) × (place < maxPairs) ⌝ }
     ensures { λ _. ⌜ now (table .exit) ≡ set (now (table .entry)) (flagsFrom capacity + place) (cond differs 1 0) ⌝ }
 {
-    put(table, FLAGS * capacity + place, if differs { 1 } else { 0 });
+    put(table, FLAGS * capacity + place, word_of(differs));
 }

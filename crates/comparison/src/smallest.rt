@@ -15,7 +15,7 @@ ghost use Rattle.comparison.specs.Comparison.{anyDiffer, shown};
 ghost use Rattle.comparison.specs.Work.{Rooted, Searching, Turned};
 
 // Where a pair goes at a variable, and by which bit.
-struct Turn {
+struct Step {
     pub place: usize,
     pub bit: u32,
 }
@@ -28,19 +28,19 @@ fn turn(
     capacity: usize,
     place: usize,
     variable: u32,
-) -> Turn
+) -> Step
     requires { ⌜ Searching (now first) (now second) capacity (now table) place variable × (variable < vars (now first)) ⌝ }
     ensures { λ r. ⌜ Turned (now (first .entry)) (now (second .entry)) capacity (now (table .entry)) place variable (r .place) (r .bit) ⌝ }
 {
     let here = level_at(first, second, table, capacity, place);
     if here.0 != variable {
-        return Turn { place, bit: 0 };
+        return Step { place, bit: 0 };
     }
     let low = low_at(table, capacity, place);
     if differs_at(table, capacity, low) {
-        return Turn { place: low, bit: 0 };
+        return Step { place: low, bit: 0 };
     }
-    Turn {
+    Step {
         place: high_at(table, capacity, place),
         bit: 1,
     }

@@ -16,6 +16,7 @@ use pairs::table::high_at;
 use pairs::table::low_at;
 use pairs::table::second_at;
 ghost use mathlib.Core.Path.{_≡_};
+ghost use mathlib.Core.Bool.{_||_};
 ghost use Prim.Native.Nat.{suc, _+_, _-_, _*_, _<_, _≤_};
 ghost use Rattle.naturals.specs.Natural.{wordCount};
 ghost use Rattle.diagram.specs.Diagram.{vars as varsOf};
@@ -123,6 +124,16 @@ fn note_sum(
     );
 }
 
+// Whether one of two does.
+fn either(x: bool, y: bool) -> bool
+    ensures { λ r. ⌜ r ≡ (x || y) ⌝ }
+{
+    if x {
+        return true;
+    }
+    y
+}
+
 // It differs where one of its children does.
 fn note_either(first: &[u32], second: &[u32], table: &mut [u32], capacity: usize, place: usize)
     requires { ⌜ Counted (now first) (now second) capacity (now table) place × Stepping (now first) (now second) place ⌝ }
@@ -130,7 +141,7 @@ fn note_either(first: &[u32], second: &[u32], table: &mut [u32], capacity: usize
 {
     let low = differs_at(table, capacity, low_at(table, capacity, place));
     let high = differs_at(table, capacity, high_at(table, capacity, place));
-    note_flag(table, capacity, place, low || high);
+    note_flag(table, capacity, place, either(low, high));
 }
 
 fn note_pair(

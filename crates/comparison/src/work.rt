@@ -22,7 +22,7 @@ ghost use Rattle.comparison.specs.Work.{Rooted, Arriving, Told, Worked};
 
 // How many pairs were met, one more than the table has places for where there are more; and of that many the valuations that both
 // diagrams hold for, whether they differ, and the smallest valuation in which they do. Where there are more pairs, or no difference, what would be told is zero.
-pub(crate) struct Work {
+pub(crate) struct Found {
     pub pairs: usize,
     pub full: bool,
     pub both: Natural,
@@ -30,10 +30,10 @@ pub(crate) struct Work {
     pub smallest: Natural,
 }
 
-fn full() -> Work
+fn full() -> Found
     ensures { λ r. ⌜ r .full ≡ true ⌝ }
 {
-    Work {
+    Found {
         pairs: 0,
         full: true,
         both: zero(),
@@ -86,12 +86,12 @@ fn tell(
     count: usize,
     place: usize,
     vars: u32,
-) -> Work
+) -> Found
     requires { ⌜ Arriving (now first) (now second) capacity (now table) count place vars ⌝ }
     ensures { λ r. ⌜ (r .full ≡ false) × Told (now (first .entry)) (now (second .entry)) r ⌝ }
 {
     note_all(first, second, table, capacity, count, vars);
-    Work {
+    Found {
         pairs: count,
         full: false,
         both: root_count(first, second, table, capacity, place, vars),
@@ -100,7 +100,7 @@ fn tell(
     }
 }
 
-pub(crate) fn work(first: &[u32], second: &[u32], table: &mut [u32], vars: u32) -> Work
+pub(crate) fn work(first: &[u32], second: &[u32], table: &mut [u32], vars: u32) -> Found
     requires { ⌜ Alike (now first) (now second) × (vars ≡ varsOf (now first)) ⌝ }
     ensures { λ r. ⌜ Worked (now (first .entry)) (now (second .entry)) (length (now (table .entry)) / pairWords) r ⌝ }
 {
