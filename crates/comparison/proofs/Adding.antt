@@ -66,6 +66,9 @@ module _ {a b : List ℕ} {c : ℕ} {t : List ℕ} {place v : ℕ} (n : Noting a
   pub child-above : (bit : Bool) {here child : ℕ} → here ≡ levelOf a b x → child ≡ childIn c t place bit → here < levelOf a b (pairAt a b child)
   child-above bit eh ec = rw (ec, child-is bit, eh) (next-above a b alike x x-in (k .going) bit)
 
+  pub here-fits : {here : ℕ} → here ≡ levelOf a b x → here ≤ v
+  here-fits e = omega (arith, level-most a b alike x x-in, n .variables)
+
   abbrev left : ℕ
   left = vars a - levelOf a b x
 

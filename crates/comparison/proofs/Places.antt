@@ -5,18 +5,20 @@ use mathlib.Core.Logic.{_≢_, inl, inr}
 use mathlib.Core.Bool.{Bool, true, false, cond, not, _&&_, _||_}
 use mathlib.Core.List.{List}
 use native.Mathlib.Omega.{arith}
+use native.Mathlib.Nat.{mul-le-mul}
 use lib.ListN.{length, getD, set, drop, length-set}
 use lib.Seq.{getD-drop, getD-set-same, getD-set-other}
 use lib.Dec.{eqb}
 use Rattle.naturals.specs.Natural.{wordCount, Holds, Stores}
 use Rattle.in_place.proofs.Placed.{words-same}
 use Rattle.diagram.specs.Limits.{maxNodes}
+use Rattle.diagram.specs.Diagram.{vars}
 use Rattle.diagram.proofs.Tests.{by-eq}
 use Rattle.counts.specs.Table.{entry, Noted}
 use Rattle.counts.proofs.Entries.{noted}
 use Rattle.pairs.specs.Pairs.{Pair, pair, levelOf, next, ended, allOf, pairsOf}
 use Rattle.pairs.specs.Table.{maxPairs, keyIn, lowIn, highIn, countsFrom, flagsFrom, Settled, Standing}
-use Rattle.pairs.proofs.Levels.{Inside}
+use Rattle.pairs.proofs.Levels.{Inside, ended-told}
 use Rattle.comparison.specs.Work.{worth, unlikeAt, flagIn, Listed, pairAt, Placed, Worths, Noting, Ending, Stepping, Counted}
 use Rattle.comparison.proofs.Beside.{both-ended, unlike-ended, unlike-node}
 
@@ -168,6 +170,39 @@ module _ {a b : List ℕ} {c : ℕ} {t : List ℕ} {place v p q : ℕ} (n : Noti
       let flag-right : d ≡ unlikeAt a b (pairAt a b place) =
       ed ∙ rw (k .first, k .second) (sym (unlike-ended alike (pairAt a b place) (place-inside placed) (k .done))) in
       flag-noted (count-noted (n .worths) (n .inside) wrote worth-is) es flag-right
+
+-- two terminals' numbers
+pub end-product : {a b : List ℕ} {place p q : ℕ} → Ending a b place p q → p * q < 2 ^ 32
+end-product {a} {b} {place} k =
+    let t = ended-told (pairAt a b place) (k .done) in
+    rw (k .first, k .second) (small (pairAt a b place .first) (pairAt a b place .second) (t .0) (t .1))
+  where
+    small : (p q : ℕ) → p < 2 → q < 2 → p * q < 2 ^ 32
+    small p q t u = let m = mul-le-mul {n₁ = p} {m₁ = q} {n₂ = 1} {m₂ = 1} (omega arith) (omega arith) in omega arith
+
+-- ---- which of the two a pair is
+
+module _ {a b : List ℕ} {c : ℕ} {t : List ℕ} {place v : ℕ} (n : Noting a b c t place v) {p q : ℕ} (ep : p ≡ keyIn c t place / maxNodes)
+    (eq : q ≡ keyIn c t place % maxNodes) {r : Bool} (er : r ≡ ended (pair p q)) where
+  at-place : Placed a b c t place
+  at-place = record { listed = n .worths .listed; inside = n .inside }
+
+  pub pair-ends : r ≡ true → Ending a b place p q
+  pair-ends e = record { done = sym (ended-is at-place ep eq er) ∙ e; first = first-is at-place ep; second = second-is at-place eq }
+
+  pub pair-goes : r ≡ false → Stepping a b place
+  pair-goes e = record { going = sym (ended-is at-place ep eq er) ∙ e }
+
+-- ---- all pairs
+
+pub worths-none : {a b : List ℕ} {c : ℕ} {t : List ℕ} → Listed a b c t → Worths a b c t 0
+worths-none l = record { listed = l; count = λ i less. absurd (omega arith); flag = λ i less. absurd (omega arith) }
+
+pub worths-next : {a b : List ℕ} {c : ℕ} {t : List ℕ} {place n v : ℕ} → Worths a b c t place → place < n → n ≡ pairsOf a b → v ≡ vars a → Noting a b c t place v
+worths-next w less e ev = record { worths = w; inside = omega arith; variables = ev }
+
+pub worths-to : {a b : List ℕ} {c : ℕ} {t : List ℕ} {place n : ℕ} → Worths a b c t place → place ≡ n → Worths a b c t n
+worths-to w e = rw e at w
 
 -- ---- a pair that goes on differs where one does that it goes to
 

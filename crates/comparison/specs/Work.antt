@@ -2,18 +2,18 @@
 use Prim.Native.Nat.{ℕ, suc, _+_, _-_, _*_, _/_, _^_, _≤_, _<_}
 use mathlib.Core.Path.{_≡_}
 use mathlib.Core.Bool.{Bool, true, false, cond, not, _&&_}
-use mathlib.Core.List.{List}
-use lib.ListN.{length, getD}
-use lib.Dec.{ltb}
+use mathlib.Core.List.{List, _++_}
+use lib.ListN.{length, getD, drop, replicate}
+use lib.Dec.{ltb, eqb}
 use Rattle.naturals.specs.Natural.{Holds}
-use Rattle.diagram.specs.Diagram.{vars}
+use Rattle.diagram.specs.Diagram.{vars, Ordered}
 use Rattle.diagram.specs.Reading.{eval}
-use Rattle.diagram.specs.Valuations.{tally}
+use Rattle.diagram.specs.Valuations.{tally, countOf}
 use Rattle.counts.specs.Table.{entry}
-use Rattle.diagram.specs.Verdict.{accepted, refused, said}
+use Rattle.diagram.specs.Verdict.{Outcome, accepted, refused, said, row}
 use Rattle.pairs.specs.Pairs.{Pair, levelOf, ended, roots, allOf, pairsOf}
-use Rattle.pairs.specs.Table.{countsFrom, flagsFrom, at, Space, Standing, Alike}
-use Rattle.comparison.specs.Comparison.{inBoth, anyDiffer, shown, numeral, least}
+use Rattle.pairs.specs.Table.{pairWords, countsFrom, flagsFrom, at, Space, Standing, Alike}
+use Rattle.comparison.specs.Comparison.{inBoth, anyDiffer, shown, numeral, least, wholePairs, Tells}
 use Rattle.comparison.specs.declared.work.Found.{Found}
 use Rattle.comparison.specs.declared.compare.Compared.{Compared}
 
@@ -142,3 +142,25 @@ pub record Answered (x y : List ℕ) (v : ℕ) (told : Found) (r : Compared) : T
   pub which : r .which ≡ 0
   pub full : told .full ≡ true → (said (r .verdict) ≡ refused 32 0) × Nothing r
   pub answer : told .full ≡ false → (said (r .verdict) ≡ accepted (told .pairs) v) × Differences x y told r
+
+-- What the checks of two accepted diagrams have told: their variable counts, and their counts.
+pub record Known (a b : List ℕ) (v u : ℕ) (x y : List ℕ) : Type 0 where
+  pub first : Ordered a
+  pub second : Ordered b
+  pub variables : v ≡ vars a
+  pub others : u ≡ vars b
+  pub first-count : Holds (countOf a) x
+  pub second-count : Holds (countOf b) y
+
+-- What is answered then: 31, 32, or all is told.
+unfoldable pub besideOf : List ℕ → List ℕ → ℕ → Outcome
+besideOf a b table =
+    row 31 (not (eqb (vars a) (vars b))) 0
+    (row 32 (ltb (table / pairWords) (pairsOf a b)) 0
+    (accepted (pairsOf a b) (vars a)))
+
+pub record Besides (a b table table′ : List ℕ) (r : Compared) : Type 0 where
+  pub verdict : said (r .verdict) ≡ besideOf a b (length table)
+  pub which : r .which ≡ 0
+  pub tells : Tells a b (besideOf a b (length table)) r
+  pub table-left : table′ ≡ cond (eqb (vars a) (vars b)) (replicate (wholePairs table) 0 ++ drop (wholePairs table) table) table

@@ -14,7 +14,7 @@ ghost use lib.ListN.{length, replicate};
 ghost use Rattle.diagram.specs.Diagram.{vars as varsOf};
 ghost use Rattle.pairs.specs.Table.{pairWords, Alike};
 ghost use Rattle.comparison.specs.Comparison.{Compare};
-ghost use Rattle.comparison.specs.Work.{Worked, Nothing, Answered};
+ghost use Rattle.comparison.specs.Work.{Worked, Nothing, Answered, Known, Besides};
 
 // The diagrams have different variable counts.
 pub const OTHER_VARIABLES: u32 = 31;
@@ -92,22 +92,19 @@ fn work_and_clear(first: &[u32], second: &[u32], table: &mut [u32], vars: u32) -
     told
 }
 
-// `room` serves both checks in turn; `table` has PAIR_WORDS words for each pair.
-pub fn compare(first: &[u32], second: &[u32], room: &mut [u32], table: &mut [u32]) -> Compared
-    ensures { λ r. ⌜ Compare (now (first .entry)) (now (second .entry)) (now (room .entry)) (now (room .exit)) (now (table .entry)) (now (table .exit)) r ⌝ }
+// Both diagrams are accepted: what their checks have told is given.
+fn beside(
+    first: &[u32],
+    second: &[u32],
+    table: &mut [u32],
+    vars: u32,
+    others: u32,
+    in_first: Natural,
+    in_second: Natural,
+) -> Compared
+    requires { ⌜ Known (now first) (now second) vars others (in_first .words) (in_second .words) ⌝ }
+    ensures { λ r. ⌜ Besides (now (first .entry)) (now (second .entry)) (now (table .entry)) (now (table .exit)) r ⌝ }
 {
-    let of_first = exact_cardinality(first, room);
-    let Verdict::Accepted { nodes: _, vars } = of_first.verdict else {
-        return refused(of_first.verdict, 0);
-    };
-    let of_second = exact_cardinality(second, room);
-    let Verdict::Accepted {
-        nodes: _,
-        vars: others,
-    } = of_second.verdict
-    else {
-        return refused(of_second.verdict, 1);
-    };
     if vars != others {
         return refused(
             Verdict::Refused {
@@ -119,5 +116,28 @@ pub fn compare(first: &[u32], second: &[u32], room: &mut [u32], table: &mut [u32
     }
     let whole = PAIR_WORDS * (table.len() / PAIR_WORDS);
     let told = work_and_clear(first, second, &mut table[..whole], vars);
-    answered(of_first.count, of_second.count, vars, told)
+    answered(in_first, in_second, vars, told)
+}
+
+// `room` serves both checks in turn; `table` has PAIR_WORDS words for each pair.
+pub fn compare(first: &[u32], second: &[u32], room: &mut [u32], table: &mut [u32]) -> Compared
+    ensures { λ r. ⌜ Compare (now (first .entry)) (now (second .entry)) (now (room .entry)) (now (room .exit)) (now (table .entry)) (now (table .exit)) r ⌝ }
+{
+    let of_first = exact_cardinality(first, room);
+    let verdict = of_first.verdict;
+    let Verdict::Accepted { nodes: _, vars } = verdict else {
+        return refused(verdict, 0);
+    };
+    let of_second = exact_cardinality(second, room);
+    let other = of_second.verdict;
+    let Verdict::Accepted {
+        nodes: _,
+        vars: others,
+    } = other
+    else {
+        return refused(other, 1);
+    };
+    let in_first = of_first.count;
+    let in_second = of_second.count;
+    beside(first, second, table, vars, others, in_first, in_second)
 }

@@ -1,44 +1,40 @@
+use Rattle.comparison.proofs.Places.{worths-none, worths-next, worths-to}
+use Rattle.comparison.specs.Work.{Worths}
+use native.Mathlib.Numerals.{add-one}
+use Prim.Native.Nat.{_-_, _≤_}
+use mathlib.Core.Path.{_≡_, refl, sym, _∙_}
+use lib.ListN.{length}
 use borrow.Author.Needs.{needs}
 use native.Mathlib.Omega.{arith}
 use Rattle.comparison.proofs.sums.note_all.Statement.{statement}
 use Rattle.comparison.proofs.sums.note_all.Tie as tie
-use Rattle.comparison.proofs.sums.note_all.Reads as reads
-use Rattle.comparison.proofs.sums.note_all.Lts as lts
-use Rattle.comparison.proofs.sums.note_pair.Reads as note-pair-reads
 
 abbrev Inv-loop : tie.InvT-loop
-Inv-loop first second table₀ capacity count vars place₀ table place = ?
+Inv-loop first second table₀ capacity count vars place₀ table place = Worths first second capacity table place × (place ≤ count) × (length table ≡ length table₀)
 
 abbrev μ-loop : tie.MeasureT-loop
-μ-loop first second table₀ capacity count vars place₀ table place = ?
+μ-loop first second table₀ capacity count vars place₀ table place = count - place
 
--- src/sums.rt:170:5
 loop-holds : tie.Need-loop-holds Inv-loop μ-loop
-loop-holds c = ?
+loop-holds c = (worths-none (c .before .before .before .pre .0), omega arith, refl)
 
--- src/sums.rt:171:9
 note-pair-requires : tie.Need-note-pair-requires Inv-loop μ-loop
-note-pair-requires c κs = search needs
+note-pair-requires c κs = worths-next (c .before .before .loop .inv .0) (c .before .loop-test .taken) (c .before .before .before .before .before .before .pre .1) (c .before .before .before .before .before .before .pre .2)
 
--- src/sums.rt:172:9
 add-place : tie.Need-add-place Inv-loop μ-loop
 add-place c = search needs
 
--- src/sums.rt:170:5
 loop-less : tie.Need-loop-less Inv-loop μ-loop
-loop-less c = search needs
+loop-less c = omega (arith, c .before .before .before .before .loop-test .taken)
 
--- src/sums.rt:170:5
 loop-again : tie.Need-loop-again Inv-loop μ-loop
-loop-again c = ?
+loop-again c = (worths-to (c .before .before .note-pair .ensures) (sym (add-one _)), omega (arith, c .before .before .before .before .loop-test .taken), c .before .before .note-pair .kept .1 .1 .0 ∙ c .before .before .before .before .before .loop .inv .2)
 
--- src/sums.rt:158:1
 same-length : tie.Need-same-length Inv-loop μ-loop
-same-length c = search needs
+same-length c = c .before .loop .inv .2
 
--- src/sums.rt:158:1
 returns : tie.Need-returns Inv-loop μ-loop
-returns c = ?
+returns c = worths-to (c .before .loop .inv .0) (omega (arith, c .loop-test .left, c .before .loop .inv .1))
 
 pub note-all-spec : {M : Type 1} → statement M
 note-all-spec =

@@ -1,55 +1,38 @@
+use Rattle.comparison.proofs.Places.{pair-ends, pair-goes}
 use native.Mathlib.Omega.{arith}
 use borrow.Author.Needs.{needs}
 use Rattle.comparison.proofs.sums.note_pair.Statement.{statement}
 use Rattle.comparison.proofs.sums.note_pair.Tie as tie
-use Rattle.comparison.proofs.sums.note_pair.Reads as reads
-use Rattle.comparison.proofs.sums.note_pair.Lts as lts
-use Rattle.comparison.proofs.sums.note_either.Reads as note-either-reads
-use Rattle.comparison.proofs.sums.note_end.Reads as note-end-reads
-use Rattle.comparison.proofs.sums.note_sum.Reads as note-sum-reads
-use Rattle.pairs.proofs.step.is_ended.Reads as is-ended-reads
-use Rattle.pairs.proofs.table.first_at.Reads as first-at-reads
-use Rattle.pairs.proofs.table.second_at.Reads as second-at-reads
 
--- src/sums.rt:147:9
 first-at-requires : tie.Need-first-at-requires
 first-at-requires c κs = search needs
 
--- src/sums.rt:148:9
 second-at-requires : tie.Need-second-at-requires
 second-at-requires c κs = search needs
 
--- src/sums.rt:149:8
 is-ended-requires : tie.Need-is-ended-requires
 is-ended-requires c κs = search needs
 
--- src/sums.rt:150:9
 note-end-requires : tie.Need-note-end-requires
-note-end-requires c κs = search needs
+note-end-requires c κs = (c .before .before .before .before .before .before .before .before .before .before .pre, pair-ends (c .before .before .before .before .before .before .before .before .before .before .pre) (c .before .before .before .before .before .first-at .ensures) (c .before .before .before .second-at .ensures) (c .before .before .is-ended .ensures) (c .before .if1 .taken))
 
--- src/sums.rt:151:9
 same-length : tie.Need-same-length
 same-length c = search needs
 
--- src/sums.rt:151:9
 returns : tie.Need-returns
-returns c = search needs
+returns c = c .before .before .note-end .ensures
 
--- src/sums.rt:153:5
 note-sum-requires : tie.Need-note-sum-requires
-note-sum-requires c κs = search needs
+note-sum-requires c κs = (c .before .before .before .before .before .before .before .before .before .before .pre, pair-goes (c .before .before .before .before .before .before .before .before .before .before .pre) (c .before .before .before .before .before .first-at .ensures) (c .before .before .before .second-at .ensures) (c .before .before .is-ended .ensures) (c .before .if1 .left))
 
--- src/sums.rt:154:5
 note-either-requires : tie.Need-note-either-requires
-note-either-requires c κs = search needs
+note-either-requires c κs = (c .before .before .before .note-sum .ensures, pair-goes (c .before .before .before .before .before .before .before .before .before .before .before .before .before .before .pre) (c .before .before .before .before .before .before .before .before .before .first-at .ensures) (c .before .before .before .before .before .before .before .second-at .ensures) (c .before .before .before .before .before .before .is-ended .ensures) (c .before .before .before .before .before .if1 .left))
 
--- src/sums.rt:136:1
 same-length-2 : tie.Need-same-length-2
 same-length-2 c = search needs
 
--- src/sums.rt:136:1
 returns-2 : tie.Need-returns-2
-returns-2 c = search needs
+returns-2 c = c .before .before .note-either .ensures
 
 pub note-pair-spec : {M : Type 1} → statement M
 note-pair-spec =
