@@ -4,8 +4,10 @@
 --     Places     what stands at a place of the table, and what noting a count or a flag leaves
 --     Adding     a pair's count from those of the pairs that it goes to
 --     Search     the search for the smallest valuation
+--     Answers    what is worked out in the table, and what is answered
 pub mod Beside
 pub mod Least
 pub mod Places
 pub mod Adding
 pub mod Search
+pub mod Answers

@@ -1,31 +1,25 @@
+use Rattle.comparison.proofs.Answers.{answered-full, less-by}
+use Rattle.diagram.proofs.Tests.{not-both}
+use mathlib.Core.Path.{refl}
 use native.Mathlib.Omega.{arith}
 use borrow.Author.Needs.{needs}
 use Rattle.comparison.proofs.compare.answered.Statement.{statement}
 use Rattle.comparison.proofs.compare.answered.Tie as tie
-use Rattle.comparison.proofs.compare.answered.Reads as reads
-use Rattle.comparison.proofs.compare.answered.Lts as lts
-use Rattle.comparison.proofs.compare.refused.Reads as refused-reads
-use Rattle.naturals.proofs.subtract.Reads as subtract-reads
 
--- src/compare.rt:52:9
 refused-requires : tie.Need-refused-requires
 refused-requires c κs = search needs
 
--- src/compare.rt:52:9
 returns : tie.Need-returns
-returns c = ?
+returns c = answered-full (c .before .if1 .taken) (c .refused .ensures)
 
--- src/compare.rt:62:9
 subtract-requires : tie.Need-subtract-requires
 subtract-requires c κs = search needs
 
--- src/compare.rt:63:9
 subtract-requires-2 : tie.Need-subtract-requires-2
 subtract-requires-2 c κs = search needs
 
--- src/compare.rt:48:1
 returns-2 : tie.Need-returns-2
-returns-2 c = ?
+returns-2 c = record { which = refl; full = λ f. absurd (not-both (c .before .before .before .before .before .before .before .args .told .full) f (c .before .before .before .before .before .before .if1 .left)); answer = λ f. (refl, record { first = less-by (c .before .before .before .subtract .ensures); second = less-by (c .before .before .subtract2 .ensures); both = refl; differ = refl; smallest = refl }) }
 
 pub answered-spec : {M : Type 1} → statement M
 answered-spec =

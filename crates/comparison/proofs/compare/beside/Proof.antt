@@ -1,48 +1,39 @@
+use Rattle.comparison.proofs.Answers.{whole-fits, beside-refused, beside-asks, beside-done}
+use Rattle.comparison.specs.Comparison.{wholePairs}
+use mathlib.Core.Path.{sym}
+use lib.Seq.{length-take-le}
+use denote.Ref.{now}
 use native.Mathlib.Omega.{arith}
 use borrow.Author.Needs.{needs}
 use Rattle.comparison.proofs.compare.beside.Statement.{statement}
 use Rattle.comparison.proofs.compare.beside.Tie as tie
-use Rattle.comparison.proofs.compare.beside.Reads as reads
-use Rattle.comparison.proofs.compare.beside.Lts as lts
-use Rattle.comparison.proofs.compare.answered.Reads as answered-reads
-use Rattle.comparison.proofs.compare.refused.Reads as refused-reads
-use Rattle.comparison.proofs.compare.work_and_clear.Reads as work-and-clear-reads
 
--- src/compare.rt:109:9
 refused-requires : tie.Need-refused-requires
 refused-requires c κs = search needs
 
--- src/compare.rt:109:9
 returns : tie.Need-returns
-returns c = ?
+returns c = beside-refused (c .before .before .before .before .before .pre) (now (c .before .before .before .before .before .args .table)) (c .before .if1 .taken) (c .refused .ensures)
 
--- src/compare.rt:117:17
 mul-whole : tie.Need-mul-whole
 mul-whole c = search needs
 
--- src/compare.rt:118:46
 slice-relend-prefix-work-and-clear : tie.Need-slice-relend-prefix-work-and-clear
 slice-relend-prefix-work-and-clear c = search needs
 
--- src/compare.rt:118:46
 slice-aggregate-work-and-clear : tie.Need-slice-aggregate-work-and-clear
-slice-aggregate-work-and-clear c = search needs
+slice-aggregate-work-and-clear c = sym (length-take-le (wholePairs (now (c .before .before .before .before .before .args .table))) (now (c .before .before .before .before .before .args .table)) (whole-fits (now (c .before .before .before .before .before .args .table))))
 
--- src/compare.rt:118:9
 work-and-clear-requires : tie.Need-work-and-clear-requires
-work-and-clear-requires c κs = search needs
+work-and-clear-requires c κs = beside-asks (c .before .before .before .before .before .pre) (now (c .before .before .before .before .before .args .table)) (c .before .if1 .left)
 
--- src/compare.rt:119:5
 answered-requires : tie.Need-answered-requires
 answered-requires c κs = search needs
 
--- src/compare.rt:96:1
 same-length : tie.Need-same-length
 same-length c = search needs
 
--- src/compare.rt:96:1
 returns-2 : tie.Need-returns-2
-returns-2 c = ?
+returns-2 c = beside-done (c .before .before .before .before .before .before .before .before .before .pre) (now (c .before .before .before .before .before .before .before .before .before .args .table)) (c .before .before .before .before .before .if1 .left) (c .before .before .before .work-and-clear .ensures) (c .answered .ensures)
 
 pub beside-spec : {M : Type 1} → statement M
 beside-spec =

@@ -1,37 +1,27 @@
+use Rattle.comparison.proofs.Answers.{rooted, differ-is}
+use mathlib.Core.Path.{refl}
 use native.Mathlib.Omega.{arith}
 use borrow.Author.Needs.{needs}
 use Rattle.comparison.proofs.work.tell.Statement.{statement}
 use Rattle.comparison.proofs.work.tell.Tie as tie
-use Rattle.comparison.proofs.work.tell.Reads as reads
-use Rattle.comparison.proofs.work.tell.Lts as lts
-use Rattle.comparison.proofs.flags.differs_at.Reads as differs-at-reads
-use Rattle.comparison.proofs.sums.note_all.Reads as note-all-reads
-use Rattle.comparison.proofs.work.root_count.Reads as root-count-reads
-use Rattle.comparison.proofs.work.shown.Reads as shown-reads
 
--- src/work.rt:93:5
 note-all-requires : tie.Need-note-all-requires
 note-all-requires c κs = search needs
 
--- src/work.rt:97:15
 root-count-requires : tie.Need-root-count-requires
-root-count-requires c κs = search needs
+root-count-requires c κs = rooted (c .before .before .before .before .before .before .before .before .pre) (c .before .before .before .note-all .ensures)
 
--- src/work.rt:98:17
 differs-at-requires : tie.Need-differs-at-requires
 differs-at-requires c κs = search needs
 
--- src/work.rt:99:19
 shown-requires : tie.Need-shown-requires
-shown-requires c κs = search needs
+shown-requires c κs = rooted (c .before .before .before .before .before .before .before .before .before .before .before .before .pre) (c .before .before .before .before .before .before .before .note-all .ensures)
 
--- src/work.rt:81:1
 same-length : tie.Need-same-length
 same-length c = search needs
 
--- src/work.rt:81:1
 returns : tie.Need-returns
-returns c = ?
+returns c = (refl, record { pairs = c .before .before .before .before .before .before .before .before .before .before .before .before .before .pre .is-count; both = c .before .before .before .before .root-count .ensures; differ = differ-is (rooted (c .before .before .before .before .before .before .before .before .before .before .before .before .before .pre) (c .before .before .before .before .before .before .before .before .note-all .ensures)) (c .before .before .differs-at .ensures); smallest = c .shown .ensures })
 
 pub tell-spec : {M : Type 1} → statement M
 tell-spec =
