@@ -283,9 +283,9 @@ module _ (a b room table : List ℕ) where
       unfolding alikeOf
       first-alike = rw first-says refl
 
-      pub first-refused : {r : Compared} → (r .verdict ≡ No n p) × (r .which ≡ 0) × Nothing r → Compare a b room room′ table table r
+      pub first-refused : {r : Compared} → (r .verdict ≡ v) × (r .which ≡ 0) × Nothing r → Compare a b room room′ table table r
       first-refused {r} k = record {
-        verdict = ap said (k .0) ∙ sym (compare-from (refused n p) first-alike);
+        verdict = ap said (k .0 ∙ e) ∙ sym (compare-from (refused n p) first-alike);
         which = k .1 ∙ rw first-says refl;
         tells = tells-none (compareOf a b (length room) (length table)) (compare-from (refused n p) first-alike) (k .2);
         room-left = c .checked .left ∙ rw first-says refl;
@@ -307,9 +307,9 @@ module _ (a b room table : List ℕ) where
         unfolding alikeOf
         second-alike = rw (first-accepts, second-says) refl
 
-        pub second-refused : {r : Compared} → (r .verdict ≡ No m p) × (r .which ≡ 1) × Nothing r → Compare a b room room″ table table r
+        pub second-refused : {r : Compared} → (r .verdict ≡ w) × (r .which ≡ 1) × Nothing r → Compare a b room room″ table table r
         second-refused {r} k = record {
-          verdict = ap said (k .0) ∙ sym (compare-from (refused m p) second-alike);
+          verdict = ap said (k .0 ∙ f) ∙ sym (compare-from (refused m p) second-alike);
           which = k .1 ∙ rw (first-accepts, second-says) refl;
           tells = tells-none (compareOf a b (length room) (length table)) (compare-from (refused m p) second-alike) (k .2);
           room-left = left-is;
