@@ -1,7 +1,7 @@
 -- A pair's count from the counts of the pairs that it goes to, in the table.
-use Prim.Native.Nat.{ℕ, suc, _+_, _-_, _*_, _/_, _^_, _≤_, _<_}
+use Prim.Native.Nat.{ℕ, _+_, _-_, _*_, _^_, _≤_, _<_}
 use mathlib.Core.Path.{_≡_, refl, sym, ap, _∙_}
-use mathlib.Core.Logic.{inl, inr, ⊎-elim}
+use mathlib.Core.Logic.{inl}
 use mathlib.Core.Bool.{Bool, true, false, cond, _&&_}
 use mathlib.Core.List.{List}
 use native.Mathlib.Omega.{arith}
@@ -13,15 +13,15 @@ use Rattle.in_place.specs.InPlace.{wordsFor, shiftedIn, Clear, Adding, Fitting}
 use Rattle.in_place.specs.declared.sum.Shifted.{Shifted}
 use Rattle.in_place.proofs.Placed.{words-enough}
 use Rattle.diagram.specs.Diagram.{vars}
-use Rattle.counts.specs.Table.{num, In, Noted}
-use Rattle.counts.proofs.Entries.{apart, entry-few}
+use Rattle.counts.specs.Table.{num, In}
+use Rattle.counts.proofs.Entries.{entry-few}
 use Rattle.counts.proofs.Shares.{noted-sum}
-use Rattle.pairs.specs.Pairs.{Pair, levelOf, next, allOf, pairsOf}
-use Rattle.pairs.specs.Table.{maxPairs, lowIn, highIn, countsFrom, Alike, Settled}
+use Rattle.pairs.specs.Pairs.{Pair, levelOf, next, allOf}
+use Rattle.pairs.specs.Table.{lowIn, highIn, countsFrom, Alike, Settled}
 use Rattle.pairs.proofs.Levels.{Inside, level-most, next-above}
-use Rattle.comparison.specs.Work.{worth, pairAt, Listed, Placed, Noting, Stepping, Counted}
+use Rattle.comparison.specs.Work.{worth, pairAt, Placed, Noting, Stepping, Counted}
 use Rattle.comparison.proofs.Beside.{part, worth-node, worth-most}
-use Rattle.comparison.proofs.Places.{place-small, place-inside, count-noted}
+use Rattle.comparison.proofs.Places.{place-inside, count-noted}
 
 -- where a pair's child stands, by the bit that leads to it
 abbrev pub childIn : ℕ → List ℕ → ℕ → Bool → ℕ

@@ -8,14 +8,14 @@ use native.Mathlib.Omega.{arith}
 use lib.ListN.{length, take, drop, replicate}
 use lib.Seq.{length-take-le}
 use lib.Dec.{leb, ltb, eqb}
-use borrow.Author.Tests.{lt-ltb, le-ltb, le-leb, ltb-true, ltb-false, eq-eqb, ne-eqb}
-use Rattle.naturals.specs.Natural.{value, wordCount, Holds, Fitted, limit, Answers as AnswersOf}
+use borrow.Author.Tests.{lt-ltb, le-ltb, le-leb, eq-eqb, ne-eqb}
+use Rattle.naturals.specs.Natural.{value, wordCount, Holds, Fitted, Answers as AnswersOf}
 use Rattle.naturals.specs.declared.Fit.{Fit}
 use Rattle.naturals.proofs.Answer.{holds-as, fitted-below, answers-yes}
 use Rattle.naturals.proofs.Place.{loads-inside}
-use Rattle.diagram.specs.Diagram.{vars, holds, Ordered}
+use Rattle.diagram.specs.Diagram.{vars, holds}
 use Rattle.diagram.specs.Valuations.{tally, countOf}
-use Rattle.diagram.specs.Verdict.{Outcome, accepted, refused, said, row, andThen, ifAccepted, verdictOf, roomAfter, Checked}
+use Rattle.diagram.specs.Verdict.{Outcome, accepted, refused, said, row, andThen, ifAccepted, verdictOf}
 use Rattle.diagram.specs.declared.verdict.Verdict.{Verdict}
 use Rattle.diagram.specs.declared.verdict.Verdict.the-variants.{Accepted as Yes, Refused as No}
 use Rattle.diagram.specs.declared.verdict.Output.the-variants.{Nothing as NoOutput}
@@ -25,11 +25,11 @@ use Rattle.diagram.proofs.Words.{front-cleared}
 use Rattle.diagram.proofs.Entering.{refusal-is, verdict-is, admitted, ordered, when-accepted}
 use Rattle.counts.specs.Counted.{Counts}
 use Rattle.counts.proofs.Nodes.{under-words}
-use Rattle.pairs.specs.Pairs.{Reached, start, levelOf, roots, allOf, pairsOf}
+use Rattle.pairs.specs.Pairs.{start, levelOf, roots, allOf, pairsOf}
 use Rattle.pairs.specs.Table.{pairWords, maxPairs, countsFrom, Alike, Space, Met}
 use Rattle.pairs.proofs.Meeting.{in-at}
 use Rattle.pairs.proofs.Numbering.{walks}
-use Rattle.comparison.specs.Comparison.{only, both, firstOnly, secondOnly, inBoth, anyDiffer, shown, numeral, least, differ, alikeOf, compareOf, whichOf, roomLeft, tableLeft, wholePairs, Tells, Compare}
+use Rattle.comparison.specs.Comparison.{both, firstOnly, secondOnly, inBoth, anyDiffer, shown, numeral, least, differ, alikeOf, compareOf, roomLeft, wholePairs, Tells, Compare}
 use Rattle.comparison.specs.Work.{worth, flagIn, unlikeAt, pairAt, Worths, Rooted, Arriving, Told, Worked, Nothing, Differences, Answered, Known, besideOf, Besides}
 use Rattle.comparison.specs.declared.work.Found.{Found}
 use Rattle.comparison.specs.declared.compare.Compared.{Compared}
@@ -150,6 +150,22 @@ module _ {a b : List ℕ} (alike : Alike a b) where
         pub work-told : {r : Found} → (r .full ≡ false) × Told a b r → Worked a b (length t / pairWords) r
         work-told e = record { full = e .0 ∙ sym (le-ltb (length t / pairWords) (pairsOf a b) (omega (arith, count-is))); told = λ f. e .1 }
 
+-- ---- rows of the verdict
+
+pub row-on : (n p : ℕ) (t : Bool) (o : Outcome) → t ≡ true → row n t p o ≡ refused n p
+unfolding row
+row-on n p t o e = rw e refl
+
+pub row-off : (n p : ℕ) (t : Bool) (o : Outcome) → t ≡ false → row n t p o ≡ o
+unfolding row
+row-off n p t o e = rw e refl
+
+-- what comes behind a row
+pub split-row : (n : ℕ) (t : Bool) (p m v : ℕ) (o : Outcome) → andThen (row n t p (accepted m v)) o ≡ row n t p o
+unfolding row
+split-row n true p m v o = refl
+split-row n false p m v o = refl
+
 -- ---- the answer
 
 -- what a refusal tells
@@ -183,14 +199,6 @@ module _ {a b : List ℕ} {v u : ℕ} {x y : List ℕ} (k : Known a b v u x y) (
   beside-alike : vars a ≡ vars b → besideOf a b (length table) ≡ row 32 (ltb (length table / pairWords) (pairsOf a b)) 0 (accepted (pairsOf a b) (vars a))
   unfolding besideOf row
   beside-alike e = simp (eq-eqb (vars a) (vars b) e)
-
-  row-on : (n p : ℕ) (t : Bool) (o : Outcome) → t ≡ true → row n t p o ≡ refused n p
-  unfolding row
-  row-on n p t o e = rw e refl
-
-  row-off : (n p : ℕ) (t : Bool) (o : Outcome) → t ≡ false → row n t p o ≡ o
-  unfolding row
-  row-off n p t o e = rw e refl
 
   pub beside-refused : v ≢ u → {r : Compared} → (r .verdict ≡ No 31 0) × (r .which ≡ 0) × Nothing r → Besides a b table table r
   beside-refused ne {r} e =
@@ -256,12 +264,6 @@ module _ {a b : List ℕ} {v u : ℕ} {x y : List ℕ} (k : Known a b v u x y) (
             }
 
 -- ---- the two checks
-
--- the second check's part of the verdict
-split-row : (n : ℕ) (t : Bool) (p m v : ℕ) (o : Outcome) → andThen (row n t p (accepted m v)) o ≡ row n t p o
-unfolding row
-split-row n true p m v o = refl
-split-row n false p m v o = refl
 
 sides : (m v : ℕ) (t : Bool) (x y : List ℕ) → cond t x y ≡ ifAccepted (row 31 (not t) 0 (accepted m v)) x y
 unfolding row

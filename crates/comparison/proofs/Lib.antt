@@ -5,9 +5,13 @@
 --     Adding     a pair's count from those of the pairs that it goes to
 --     Search     the search for the smallest valuation
 --     Answers    what is worked out in the table, and what is answered
+--     Numbers    there is one number of things with a property
+--     Promised   what is promised
 pub mod Beside
 pub mod Least
 pub mod Places
 pub mod Adding
 pub mod Search
 pub mod Answers
+pub mod Numbers
+pub mod Promised

@@ -2,23 +2,23 @@
 use Prim.Native.Nat.{ℕ, zero, suc, _+_, _-_, _*_, _^_, _≤_, _<_}
 use mathlib.Core.Path.{_≡_, refl, sym, ap, _∙_}
 use mathlib.Core.Logic.{_≢_}
-use mathlib.Core.Bool.{Bool, true, false, cond, not}
+use mathlib.Core.Bool.{Bool, true, false, not}
 use mathlib.Core.List.{List}
 use native.Mathlib.Omega.{arith}
 use native.Mathlib.Nat.{sub-zero, mul-one, mul-assoc, pow-suc, zero-mul, add-mul, le-mul-of-pos-right}
 use lib.ListN.{length}
-use lib.Pow.{pow-pos, pow-lt}
+use lib.Pow.{pow-pos}
 use lib.Dec.{ltb, eqb}
 use borrow.Author.Tests.{ltb-true, ltb-false}
-use Rattle.naturals.specs.Natural.{value, limit, limitIn, Holds, FittedIn, wordCount}
+use Rattle.naturals.specs.Natural.{value, limit, Holds, FittedIn, wordCount}
 use Rattle.naturals.proofs.Answer.{holds-as, fitted-below}
 use Rattle.diagram.specs.Diagram.{vars, holds}
 use Rattle.diagram.specs.Valuations.{tally}
 use Rattle.diagram.proofs.Tests.{by-test, cond-true}
 use Rattle.counts.proofs.Nodes.{under-words}
-use Rattle.pairs.specs.Pairs.{Pair, levelOf, next, ended, roots, allOf, pairsOf}
+use Rattle.pairs.specs.Pairs.{Pair, levelOf, next, ended, roots, allOf}
 use Rattle.pairs.specs.Table.{maxPairs, lowIn, highIn, Alike, Settled}
-use Rattle.pairs.proofs.Levels.{Inside, level-most, level-end, next-above}
+use Rattle.pairs.proofs.Levels.{Inside, level-end, next-above}
 use Rattle.comparison.specs.Comparison.{differ, anyDiffer, numeral, least, shown}
 use Rattle.comparison.specs.Work.{unlike, beside, worthFrom, worth, unlikeAt, flagIn, pairAt, Placed, Rooted, Searching, Turned}
 use Rattle.comparison.proofs.Beside.{passed, beside-cons, beside-roots, worth-step, worth-twice, passed-skips, part-is, scaled-sign, unlike-is, all-unlike}

@@ -7,10 +7,9 @@ use mathlib.Core.List.{List}
 use lib.ListN.{length}
 use Rattle.diagram.specs.Diagram.{vars, holds, Accepted}
 use Rattle.diagram.specs.Valuations.{countOf}
-use Rattle.diagram.specs.Verdict.{accepted, refused, roomOf, verdictOf}
-use Rattle.diagram.specs.declared.verdict.Output.the-variants.{Nothing}
+use Rattle.diagram.specs.Verdict.{accepted, refused, roomOf}
 use Rattle.counts.specs.Counting.{Number}
-use Rattle.pairs.specs.Pairs.{Pair, Reached}
+use Rattle.pairs.specs.Pairs.{Reached}
 use Rattle.pairs.specs.Table.{pairWords}
 use Rattle.comparison.specs.Comparison.{differ, firstOnly, secondOnly, inBoth, anyDiffer, numeral, least, compareOf}
 

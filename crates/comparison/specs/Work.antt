@@ -88,8 +88,7 @@ pub record Rooted (a b : List ℕ) (c : ℕ) (t : List ℕ) (place v : ℕ) : Ty
   pub here : pairAt a b place ≡ roots a b
   pub variables : v ≡ vars a
 
--- The search for the smallest valuation stands at a place and a variable i: the pair there differs from i on, and the bits that were
--- found are a number.
+-- The search for the smallest valuation stands at a place and a variable i: the pair there differs from i on.
 pub record Searching (a b : List ℕ) (c : ℕ) (t : List ℕ) (place i : ℕ) : Type 0 where
   pub worths : Worths a b c t (pairsOf a b)
   pub inside : place < pairsOf a b

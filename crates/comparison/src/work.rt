@@ -20,8 +20,8 @@ ghost use Rattle.pairs.specs.Table.{pairWords, Alike};
 ghost use Rattle.comparison.specs.Comparison.{inBoth, shown as shownOf};
 ghost use Rattle.comparison.specs.Work.{Rooted, Arriving, Told, Worked};
 
-// How many pairs were met, one more than the table has places for where there are more; and of that many the valuations that both
-// diagrams hold for, whether they differ, and the smallest valuation in which they do. Where there are more pairs, or no difference, what would be told is zero.
+// What was found: that there are more pairs than places, and nothing else; or how many pairs there are, how many valuations both diagrams
+// hold for, whether they differ, and the smallest valuation in which they do, zero where there is none.
 pub(crate) struct Found {
     pub pairs: usize,
     pub full: bool,

@@ -1,7 +1,6 @@
 use Rattle.comparison.proofs.Answers.{answered-full, less-by}
 use Rattle.diagram.proofs.Tests.{not-both}
 use mathlib.Core.Path.{refl}
-use native.Mathlib.Omega.{arith}
 use borrow.Author.Needs.{needs}
 use Rattle.comparison.proofs.compare.answered.Statement.{statement}
 use Rattle.comparison.proofs.compare.answered.Tie as tie

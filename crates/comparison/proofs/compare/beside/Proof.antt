@@ -3,7 +3,6 @@ use Rattle.comparison.specs.Comparison.{wholePairs}
 use mathlib.Core.Path.{sym}
 use lib.Seq.{length-take-le}
 use denote.Ref.{now}
-use native.Mathlib.Omega.{arith}
 use borrow.Author.Needs.{needs}
 use Rattle.comparison.proofs.compare.beside.Statement.{statement}
 use Rattle.comparison.proofs.compare.beside.Tie as tie

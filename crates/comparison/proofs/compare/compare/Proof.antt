@@ -1,7 +1,6 @@
 use denote.Ref.{now}
 use Rattle.comparison.proofs.Answers.{first-refused, second-refused, both-known, compare-done}
 use mathlib.Core.Path.{_∙_}
-use native.Mathlib.Omega.{arith}
 use borrow.Author.Needs.{needs}
 use Rattle.comparison.proofs.compare.compare.Statement.{statement}
 use Rattle.comparison.proofs.compare.compare.Tie as tie

@@ -1,7 +1,6 @@
 use Rattle.diagram.proofs.Words.{zeros-whole}
 use mathlib.Core.Path.{_∙_}
 use denote.Ref.{now}
-use native.Mathlib.Omega.{arith}
 use borrow.Author.Needs.{needs}
 use Rattle.comparison.proofs.compare.work_and_clear.Statement.{statement}
 use Rattle.comparison.proofs.compare.work_and_clear.Tie as tie

@@ -1,8 +1,7 @@
 use lib.Dec.{eqb}
 use Prim.Native.Nat.{ℕ}
 use mathlib.Core.Bool.{not}
-use mathlib.Core.Path.{refl, ap}
-use native.Mathlib.Omega.{arith}
+use mathlib.Core.Path.{ap}
 use borrow.Author.Needs.{needs}
 use Rattle.comparison.proofs.flags.differs_at.Statement.{statement}
 use Rattle.comparison.proofs.flags.differs_at.Tie as tie

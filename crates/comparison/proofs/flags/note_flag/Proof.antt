@@ -1,5 +1,4 @@
 use mathlib.Core.Path.{refl, _∙_}
-use native.Mathlib.Omega.{arith}
 use borrow.Author.Needs.{needs}
 use Rattle.comparison.proofs.flags.note_flag.Statement.{statement}
 use Rattle.comparison.proofs.flags.note_flag.Tie as tie

@@ -1,5 +1,4 @@
 use Rattle.comparison.proofs.Search.{turn-skips, turn-low-small, turn-low, turn-high}
-use native.Mathlib.Omega.{arith}
 use borrow.Author.Needs.{needs}
 use Rattle.comparison.proofs.smallest.turn.Statement.{statement}
 use Rattle.comparison.proofs.smallest.turn.Tie as tie

@@ -1,5 +1,4 @@
 use Rattle.comparison.proofs.Places.{level-is}
-use native.Mathlib.Omega.{arith}
 use borrow.Author.Needs.{needs}
 use Rattle.comparison.proofs.sums.level_at.Statement.{statement}
 use Rattle.comparison.proofs.sums.level_at.Tie as tie

@@ -1,5 +1,4 @@
 use Rattle.comparison.proofs.Places.{low-small, high-small, either-done}
-use native.Mathlib.Omega.{arith}
 use borrow.Author.Needs.{needs}
 use Rattle.comparison.proofs.sums.note_either.Statement.{statement}
 use Rattle.comparison.proofs.sums.note_either.Tie as tie

@@ -1,6 +1,5 @@
 use Rattle.comparison.proofs.Places.{end-product, end-done}
 use mathlib.Core.Path.{refl}
-use native.Mathlib.Omega.{arith}
 use borrow.Author.Needs.{needs}
 use Rattle.comparison.proofs.sums.note_end.Statement.{statement}
 use Rattle.comparison.proofs.sums.note_end.Tie as tie

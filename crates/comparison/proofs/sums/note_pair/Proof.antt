@@ -1,5 +1,4 @@
 use Rattle.comparison.proofs.Places.{pair-ends, pair-goes}
-use native.Mathlib.Omega.{arith}
 use borrow.Author.Needs.{needs}
 use Rattle.comparison.proofs.sums.note_pair.Statement.{statement}
 use Rattle.comparison.proofs.sums.note_pair.Tie as tie

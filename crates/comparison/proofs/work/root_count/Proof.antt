@@ -1,5 +1,4 @@
 use Rattle.comparison.proofs.Answers.{root-done}
-use native.Mathlib.Omega.{arith}
 use borrow.Author.Needs.{needs}
 use Rattle.comparison.proofs.work.root_count.Statement.{statement}
 use Rattle.comparison.proofs.work.root_count.Tie as tie

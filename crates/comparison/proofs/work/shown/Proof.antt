@@ -1,5 +1,4 @@
 use Rattle.comparison.proofs.Answers.{differ-some, shown-none}
-use native.Mathlib.Omega.{arith}
 use borrow.Author.Needs.{needs}
 use Rattle.comparison.proofs.work.shown.Statement.{statement}
 use Rattle.comparison.proofs.work.shown.Tie as tie

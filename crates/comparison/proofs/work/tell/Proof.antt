@@ -1,6 +1,5 @@
 use Rattle.comparison.proofs.Answers.{rooted, differ-is}
 use mathlib.Core.Path.{refl}
-use native.Mathlib.Omega.{arith}
 use borrow.Author.Needs.{needs}
 use Rattle.comparison.proofs.work.tell.Statement.{statement}
 use Rattle.comparison.proofs.work.tell.Tie as tie
