@@ -16,6 +16,7 @@ use request::Target;
 ghost use mathlib.Core.Path.{_≡_};
 ghost use Prim.Native.Nat.{_≤_};
 ghost use lib.ListN.{length};
+ghost use Rattle.diagram.specs.Limits.{maxWords};
 ghost use Rattle.diagram.specs.Diagram.{Accepted};
 ghost use Rattle.writing.specs.Writing.{Wrote};
 ghost use Rattle.report.specs.Report.{roomLent};
@@ -61,7 +62,37 @@ fn hand_out(
     }
 }
 
-// Cuts a diagram as requested.
+// Cuts a diagram as requested, in a room and an output that are long enough for any.
+fn shrink_in(
+    form: Form,
+    words: &[u32],
+    target: Target,
+    room: &mut [u32],
+    output: &mut [u32],
+    file: &mut [u8],
+    text: &mut [u8],
+) -> Ends
+    requires { ⌜ (length (now room) ≡ roomLent) × (length (now output) ≡ maxWords) ⌝ }
+    ensures { λ r. ⌜ Shrinks (diagramDone form (target .keep) (target .as_is) (aimOf target) (now (words .entry)) (length (now (file .entry)))) (now (file .entry)) (now (file .exit)) (now (text .entry)) (now (text .exit)) (r .file) (r .text) ⌝ }
+{
+    let cut = shrink_words(words, target, room, output);
+    let verdict = cut.verdict;
+    match verdict {
+        Verdict::Accepted { nodes: _, vars: _ } => hand_out(
+            form,
+            words,
+            &output[..3 * cut.nodes],
+            target,
+            cut.trials,
+            room,
+            file,
+            text,
+        ),
+        Verdict::Refused { number, place } => refuse(text, number, place),
+    }
+}
+
+// The same, with a room and an output of its own.
 pub(crate) fn shrink_diagram(
     form: Form,
     words: &[u32],
@@ -73,21 +104,7 @@ pub(crate) fn shrink_diagram(
 {
     let mut output = [0u32; MAX_WORDS];
     let mut room = [0u32; ROOM];
-    let cut = shrink_words(words, target, &mut room, &mut output);
-    let verdict = cut.verdict;
-    match verdict {
-        Verdict::Accepted { nodes: _, vars: _ } => hand_out(
-            form,
-            words,
-            &output[..3 * cut.nodes],
-            target,
-            cut.trials,
-            &mut room,
-            file,
-            text,
-        ),
-        Verdict::Refused { number, place } => refuse(text, number, place),
-    }
+    shrink_in(form, words, target, &mut room, &mut output, file, text)
 }
 
 // The whole cut, on the bytes of a file.

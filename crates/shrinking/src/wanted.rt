@@ -1,9 +1,9 @@
 // The one cut that a request means.
+use count_targets::count::overapproximate_to_cardinality;
+use count_targets::count::underapproximate_to_cardinality;
 use naturals::Natural;
 use request::Target;
 use targets::Approximated;
-use targets::count::overapproximate_to_cardinality;
-use targets::count::underapproximate_to_cardinality;
 use targets::size::overapproximate_to_size;
 use targets::size::underapproximate_to_size;
 ghost use Rattle.naturals.specs.Natural.{value};

@@ -1,6 +1,5 @@
-// Cutting to a target (document 01, "The evening's cut").
-pub mod count;
-mod met;
+// Cutting to a target (document 01, "The evening's cut"): to a size, and what cutting to a count, in crates/count_targets, has in common with it.
+pub mod met;
 pub mod size;
 
 use diagram::verdict::Verdict;

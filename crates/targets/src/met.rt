@@ -6,7 +6,7 @@ ghost use Rattle.approximation.specs.Met.{met};
 ghost use Rattle.targets.specs.Hits.{Targeting, Hit};
 
 // Its words as they are, where they are to be kept so; else it is reduced. No cut is made for either.
-pub(crate) fn meet(
+pub fn meet(
     words: &[u32],
     as_is: bool,
     room: &mut [u32],

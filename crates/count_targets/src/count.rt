@@ -1,6 +1,4 @@
 // To a count.
-use crate::Approximated;
-use crate::met::meet;
 use count_search::count_of;
 use count_search::seek;
 use diagram::lengths::most;
@@ -19,6 +17,8 @@ use naturals::power_of_two;
 use negation::negate;
 use recounts::turning::turn;
 use room_map::COUNTS_END;
+use targets::Approximated;
+use targets::met::meet;
 use told::count::tell;
 use trials::answers::Answer;
 use trials::answers::constantly;
@@ -30,8 +30,9 @@ ghost use Rattle.negation.specs.Negation.{negated};
 ghost use Rattle.approximation.specs.Search.{underToCount};
 ghost use Rattle.approximation.specs.Met.{underCountAnswer, overCountAnswer};
 ghost use Rattle.trials.specs.Trials.{Found};
 ghost use Rattle.targets.specs.Targets.{UnderToCount, OverToCount};
-ghost use Rattle.targets.specs.Hits.{toCount, ToCount, remaining, Mirroring, Lacking, Counting, Hit};
+ghost use Rattle.targets.specs.Hits.{Hit};
+ghost use Rattle.count_targets.specs.Aims.{toCount, ToCount, remaining, Mirroring, Lacking, Counting};
 
 // False where nothing may be left; the diagram itself where it has no more than are asked for; else the search.
 fn under(

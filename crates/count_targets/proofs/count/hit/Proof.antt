@@ -1,7 +1,7 @@
 use native.Mathlib.Omega.{arith}
 use borrow.Author.Needs.{needs}
-use Rattle.targets.proofs.count.hit.Statement.{statement}
-use Rattle.targets.proofs.count.hit.Tie as tie
+use Rattle.count_targets.proofs.count.hit.Statement.{statement}
+use Rattle.count_targets.proofs.count.hit.Tie as tie
 
 over-requires : tie.Need-over-requires
 over-requires c κs = rw (c .before .before .if1 .taken) at (c .before .before .before .before .before .before .pre)

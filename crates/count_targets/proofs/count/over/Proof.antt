@@ -1,14 +1,14 @@
 use borrow.Author.Tests.{leb-true, leb-false}
 use mathlib.Core.Path.{refl, sym, _∙_}
 use Rattle.targets.proofs.Hitting.{negation-returns}
-use Rattle.targets.proofs.Already.{cleared-targets, cleared-hits}
-use Rattle.targets.proofs.Counts.{over-searches, over-met, over-lacks, over-under, over-found, over-hits}
+use Rattle.count_targets.proofs.Cleared.{cleared-targets, cleared-hits}
+use Rattle.count_targets.proofs.Counts.{over-searches, over-met, over-lacks, over-under, over-found, over-hits}
 use Rattle.trials.proofs.Early.{searching-few}
 use native.Mathlib.Omega.{arith}
 use native.Mathlib.Omega.{arith}
 use borrow.Author.Needs.{needs}
-use Rattle.targets.proofs.count.over.Statement.{statement}
-use Rattle.targets.proofs.count.over.Tie as tie
+use Rattle.count_targets.proofs.count.over.Statement.{statement}
+use Rattle.count_targets.proofs.count.over.Tie as tie
 
 slice-aggregate-count-of : tie.Need-slice-aggregate-count-of
 slice-aggregate-count-of c = search needs

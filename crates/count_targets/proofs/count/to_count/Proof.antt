@@ -1,10 +1,10 @@
 use denote.Ref.{now}
 use Rattle.naturals.specs.Natural.{value}
-use Rattle.targets.proofs.Counts.{check-refuses, open-few, open-refuses, open-counts, open-meets}
+use Rattle.count_targets.proofs.Counts.{check-refuses, open-few, open-refuses, open-counts, open-meets}
 use native.Mathlib.Omega.{arith}
 use borrow.Author.Needs.{needs}
-use Rattle.targets.proofs.count.to_count.Statement.{statement}
-use Rattle.targets.proofs.count.to_count.Tie as tie
+use Rattle.count_targets.proofs.count.to_count.Statement.{statement}
+use Rattle.count_targets.proofs.count.to_count.Tie as tie
 
 admit-requires : tie.Need-admit-requires
 admit-requires c κs = search needs

@@ -34,8 +34,9 @@ use Rattle.trials.proofs.Early.{searching-ordered, searching-few, falsely}
 use Rattle.count_search.specs.Rounds.{Counted, Aiming, Above}
 use Rattle.count_search.proofs.Aims.{counted-searches, counted-beyond}
 use Rattle.told.specs.Told.{countToldOf}
-use Rattle.targets.specs.Hits.{toCount, countVerdict, ToCount, remaining, Targeting, Counting, Lacking, Mirroring, Hit}
+use Rattle.targets.specs.Hits.{Targeting, Hit}
+use Rattle.count_targets.specs.Aims.{toCount, countVerdict, ToCount, remaining, Counting, Lacking, Mirroring}
 use Rattle.targets.proofs.Hitting.{Flipped, most-same, targeting-searches, negation-hits, meets-refused, meets-hit, check-targets}
 
 pub under-aims : {w r out : List ℕ} {k n v : ℕ} → Counting false w r out k n v → Aiming w r k n v
 under-aims a = record { searching = targeting-searches (a .targeting); target = a .target }

@@ -3,17 +3,17 @@ use mathlib.Core.Path.{sym, ap, _∙_}
 use Prim.Native.Nat.{ℕ, _-_}
 use Rattle.naturals.specs.Natural.{value}
 use Rattle.told.proofs.Opening.{power-value}
-use Rattle.targets.proofs.Counts.{lacking-few, lacking-variables, lacking-none, lacking-mirrors, lacking-found}
+use Rattle.count_targets.proofs.Counts.{lacking-few, lacking-variables, lacking-none, lacking-mirrors, lacking-found}
 use native.Mathlib.Omega.{arith}
 use borrow.Author.Needs.{needs}
-use Rattle.targets.proofs.count.under_negation.Statement.{statement}
-use Rattle.targets.proofs.count.under_negation.Tie as tie
-use Rattle.targets.proofs.count.under_negation.Reads as reads
-use Rattle.targets.proofs.count.under_negation.Lts as lts
+use Rattle.count_targets.proofs.count.under_negation.Statement.{statement}
+use Rattle.count_targets.proofs.count.under_negation.Tie as tie
+use Rattle.count_targets.proofs.count.under_negation.Reads as reads
+use Rattle.count_targets.proofs.count.under_negation.Lts as lts
 use Rattle.naturals.proofs.excess.Reads as excess-reads
 use Rattle.naturals.proofs.is_zero.Reads as is-zero-reads
 use Rattle.naturals.proofs.power_of_two.Reads as power-of-two-reads
-use Rattle.targets.proofs.count.turn_and_seek.Reads as turn-and-seek-reads
+use Rattle.count_targets.proofs.count.turn_and_seek.Reads as turn-and-seek-reads
 use Rattle.trials.proofs.answers.constantly.Reads as constantly-reads
 
 power-of-two-requires : tie.Need-power-of-two-requires

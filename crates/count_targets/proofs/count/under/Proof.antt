@@ -1,14 +1,14 @@
 use borrow.Author.Tests.{leb-true, leb-false, eqb-true, eqb-false}
 use mathlib.Core.Path.{refl, sym, _∙_}
 use Rattle.count_search.proofs.Aims.{counted-found, aiming-few, aiming-none, aiming-above}
 use Rattle.targets.proofs.Hitting.{found-gives, found-hits}
-use Rattle.targets.proofs.Already.{cleared-targets, cleared-hits}
-use Rattle.targets.proofs.Counts.{under-aims, under-none, under-met, under-sought}
+use Rattle.count_targets.proofs.Cleared.{cleared-targets, cleared-hits}
+use Rattle.count_targets.proofs.Counts.{under-aims, under-none, under-met, under-sought}
 use native.Mathlib.Omega.{arith}
 use native.Mathlib.Omega.{arith}
 use borrow.Author.Needs.{needs}
-use Rattle.targets.proofs.count.under.Statement.{statement}
-use Rattle.targets.proofs.count.under.Tie as tie
+use Rattle.count_targets.proofs.count.under.Statement.{statement}
+use Rattle.count_targets.proofs.count.under.Tie as tie
 
 is-zero-requires : tie.Need-is-zero-requires
 is-zero-requires c κs = search needs

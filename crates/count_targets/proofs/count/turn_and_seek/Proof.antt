@@ -2,14 +2,14 @@ use lib.ListN.{replicate}
 use lib.Seq.{length-take-le}
 use mathlib.Core.Path.{sym}
 use Rattle.diagram.specs.Limits.{maxWords}
 use Rattle.targets.proofs.Hitting.{flips, flips-few, negation-fits}
-use Rattle.targets.proofs.Counts.{mirror-ready, mirror-turns, mirror-above, mirror-found}
+use Rattle.count_targets.proofs.Counts.{mirror-ready, mirror-turns, mirror-above, mirror-found}
 use native.Mathlib.Omega.{arith}
 use borrow.Author.Needs.{needs}
-use Rattle.targets.proofs.count.turn_and_seek.Statement.{statement}
-use Rattle.targets.proofs.count.turn_and_seek.Tie as tie
-use Rattle.targets.proofs.count.turn_and_seek.Reads as reads
-use Rattle.targets.proofs.count.turn_and_seek.Lts as lts
+use Rattle.count_targets.proofs.count.turn_and_seek.Statement.{statement}
+use Rattle.count_targets.proofs.count.turn_and_seek.Tie as tie
+use Rattle.count_targets.proofs.count.turn_and_seek.Reads as reads
+use Rattle.count_targets.proofs.count.turn_and_seek.Lts as lts
 use Rattle.count_search.proofs.seek.Reads as seek-reads
 use Rattle.negation.proofs.negate.Reads as negate-reads
 use Rattle.recounts.proofs.turning.turn.Reads as turn-reads
