@@ -37,11 +37,12 @@ fn turn(
         return Step { place, bit: 0 };
     }
     let low = low_at(table, capacity, place);
+    let high = high_at(table, capacity, place);
     if differs_at(table, capacity, low) {
         return Step { place: low, bit: 0 };
     }
     Step {
-        place: high_at(table, capacity, place),
+        place: high,
         bit: 1,
     }
 }

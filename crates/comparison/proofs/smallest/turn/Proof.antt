@@ -12,17 +12,17 @@ returns c = turn-skips (c .before .before .before .before .before .before .pre .
 low-at-requires : tie.Need-low-at-requires
 low-at-requires c κs = search needs
 
-differs-at-requires : tie.Need-differs-at-requires
-differs-at-requires c κs = turn-low-small (c .before .before .before .before .before .before .before .pre .0) (c .before .before .before .before .before .before .before .pre .1) (c .before .before .before .level-at .ensures) (c .before .if1 .left) (c .low-at .ensures)
-
-returns-2 : tie.Need-returns-2
-returns-2 c = turn-low (c .before .before .before .before .before .before .before .before .before .pre .0) (c .before .before .before .before .before .before .before .before .before .pre .1) (c .before .before .before .before .before .level-at .ensures) (c .before .before .before .if1 .left) (c .before .before .low-at .ensures) (c .before .differs-at .ensures) (c .if2 .taken)
-
 high-at-requires : tie.Need-high-at-requires
 high-at-requires c κs = search needs
 
+differs-at-requires : tie.Need-differs-at-requires
+differs-at-requires c κs = turn-low-small (c .before .before .before .before .before .before .before .before .pre .0) (c .before .before .before .before .before .before .before .before .pre .1) (c .before .before .before .before .level-at .ensures) (c .before .before .if1 .left) (c .before .low-at .ensures)
+
+returns-2 : tie.Need-returns-2
+returns-2 c = turn-low (c .before .before .before .before .before .before .before .before .before .before .pre .0) (c .before .before .before .before .before .before .before .before .before .before .pre .1) (c .before .before .before .before .before .before .level-at .ensures) (c .before .before .before .before .if1 .left) (c .before .before .before .low-at .ensures) (c .before .differs-at .ensures) (c .if2 .taken)
+
 returns-3 : tie.Need-returns-3
-returns-3 c = turn-high (c .before .before .before .before .before .before .before .before .before .before .pre .0) (c .before .before .before .before .before .before .before .before .before .before .pre .1) (c .before .before .before .before .before .before .level-at .ensures) (c .before .before .before .before .if1 .left) (c .before .before .before .low-at .ensures) (c .before .before .differs-at .ensures) (c .before .if2 .left) (c .high-at .ensures)
+returns-3 c = turn-high (c .before .before .before .before .before .before .before .before .before .before .pre .0) (c .before .before .before .before .before .before .before .before .before .before .pre .1) (c .before .before .before .before .before .before .level-at .ensures) (c .before .before .before .before .if1 .left) (c .before .before .before .low-at .ensures) (c .before .differs-at .ensures) (c .if2 .left) (c .before .before .high-at .ensures)
 
 pub turn-spec : {M : Type 1} → statement M
 turn-spec =
@@ -31,7 +31,7 @@ turn-spec =
     level-at-requires
     returns
     low-at-requires
+    high-at-requires
     differs-at-requires
     returns-2
-    high-at-requires
     returns-3)
