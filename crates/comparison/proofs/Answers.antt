@@ -25,8 +25,8 @@ use Rattle.diagram.proofs.Words.{front-cleared}
 use Rattle.diagram.proofs.Entering.{refusal-is, verdict-is, admitted, ordered, when-accepted}
 use Rattle.counts.specs.Counted.{Counts}
 use Rattle.counts.proofs.Nodes.{under-words}
-use Rattle.pairs.specs.Pairs.{start, levelOf, roots, allOf, pairsOf}
-use Rattle.pairs.specs.Table.{pairWords, maxPairs, countsFrom, Alike, Space, Met}
+use Rattle.pairs.specs.Pairs.{pairWords, maxPairs, start, levelOf, roots, allOf, pairsOf}
+use Rattle.pairs.specs.Table.{countsFrom, Alike, Space, Met}
 use Rattle.pairs.proofs.Meeting.{in-at}
 use Rattle.pairs.proofs.Numbering.{walks}
 use Rattle.comparison.specs.Comparison.{both, firstOnly, secondOnly, inBoth, anyDiffer, shown, numeral, least, differ, alikeOf, compareOf, roomLeft, wholePairs, Tells, Compare}

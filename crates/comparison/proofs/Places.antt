@@ -16,8 +16,8 @@ use Rattle.diagram.specs.Diagram.{vars}
 use Rattle.diagram.proofs.Tests.{by-eq}
 use Rattle.counts.specs.Table.{entry, Noted}
 use Rattle.counts.proofs.Entries.{noted}
-use Rattle.pairs.specs.Pairs.{Pair, pair, levelOf, next, ended, allOf, pairsOf}
-use Rattle.pairs.specs.Table.{maxPairs, keyIn, lowIn, highIn, countsFrom, flagsFrom, Settled, Standing}
+use Rattle.pairs.specs.Pairs.{maxPairs, Pair, pair, levelOf, next, ended, allOf, pairsOf}
+use Rattle.pairs.specs.Table.{keyIn, lowIn, highIn, countsFrom, flagsFrom, Settled, Standing}
 use Rattle.pairs.proofs.Levels.{Inside, ended-told}
 use Rattle.comparison.specs.Work.{worth, unlikeAt, flagIn, Listed, pairAt, Placed, Worths, Noting, Ending, Stepping, Counted}
 use Rattle.comparison.proofs.Beside.{both-ended, unlike-ended, unlike-node}

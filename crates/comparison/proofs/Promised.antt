@@ -20,8 +20,7 @@ use Rattle.diagram.proofs.Promised.{demand1}
 use Rattle.diagram.proofs.Reading.{accepted-ordered}
 use Rattle.counts.specs.Counting.{Number}
 use Rattle.counts.proofs.Turns.{counting}
-use Rattle.pairs.specs.Pairs.{Reached, pairsOf}
-use Rattle.pairs.specs.Table.{pairWords}
+use Rattle.pairs.specs.Pairs.{pairWords, Reached, pairsOf}
 use Rattle.pairs.proofs.Numbering.{walks}
 use Rattle.comparison.specs.Comparison.{differ, least, alikeOf, compareOf}
 use Rattle.comparison.specs.Compares.{BothAccepted, Compares}

@@ -16,8 +16,8 @@ use Rattle.diagram.specs.Diagram.{vars, holds}
 use Rattle.diagram.specs.Valuations.{tally}
 use Rattle.diagram.proofs.Tests.{by-test, cond-true}
 use Rattle.counts.proofs.Nodes.{under-words}
-use Rattle.pairs.specs.Pairs.{Pair, levelOf, next, ended, roots, allOf}
-use Rattle.pairs.specs.Table.{maxPairs, lowIn, highIn, Alike, Settled}
+use Rattle.pairs.specs.Pairs.{maxPairs, Pair, levelOf, next, ended, roots, allOf}
+use Rattle.pairs.specs.Table.{lowIn, highIn, Alike, Settled}
 use Rattle.pairs.proofs.Levels.{Inside, level-end, next-above}
 use Rattle.comparison.specs.Comparison.{differ, anyDiffer, numeral, least, shown}
 use Rattle.comparison.specs.Work.{unlike, beside, worthFrom, worth, unlikeAt, flagIn, pairAt, Placed, Rooted, Searching, Turned}

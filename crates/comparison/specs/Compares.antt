@@ -9,8 +9,7 @@ use Rattle.diagram.specs.Diagram.{vars, holds, Accepted}
 use Rattle.diagram.specs.Valuations.{countOf}
 use Rattle.diagram.specs.Verdict.{accepted, refused, roomOf}
 use Rattle.counts.specs.Counting.{Number}
-use Rattle.pairs.specs.Pairs.{Reached}
-use Rattle.pairs.specs.Table.{pairWords}
+use Rattle.pairs.specs.Pairs.{pairWords, Reached}
 use Rattle.comparison.specs.Comparison.{differ, firstOnly, secondOnly, inBoth, anyDiffer, numeral, least, compareOf}
 
 -- Both diagrams are accepted, and the room is long enough for each.

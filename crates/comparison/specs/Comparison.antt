@@ -10,8 +10,7 @@ use Rattle.diagram.specs.Diagram.{vars, holds}
 use Rattle.diagram.specs.Valuations.{tally}
 use Rattle.diagram.specs.Verdict.{Outcome, accepted, said, row, andThen, ifAccepted, verdictOf, roomAfter}
 use Rattle.diagram.specs.declared.verdict.Output.the-variants.{Nothing}
-use Rattle.pairs.specs.Pairs.{pairsOf}
-use Rattle.pairs.specs.Table.{pairWords}
+use Rattle.pairs.specs.Pairs.{pairWords, pairsOf}
 use Rattle.comparison.specs.declared.compare.Compared.{Compared}
 
 -- ---- what is told

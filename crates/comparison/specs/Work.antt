@@ -11,8 +11,8 @@ use Rattle.diagram.specs.Reading.{eval}
 use Rattle.diagram.specs.Valuations.{tally, countOf}
 use Rattle.counts.specs.Table.{entry}
 use Rattle.diagram.specs.Verdict.{Outcome, accepted, refused, said, row}
-use Rattle.pairs.specs.Pairs.{Pair, levelOf, ended, roots, allOf, pairsOf}
-use Rattle.pairs.specs.Table.{pairWords, countsFrom, flagsFrom, at, Space, Standing, Alike}
+use Rattle.pairs.specs.Pairs.{pairWords, Pair, levelOf, ended, roots, allOf, pairsOf}
+use Rattle.pairs.specs.Table.{countsFrom, flagsFrom, at, Space, Standing, Alike}
 use Rattle.comparison.specs.Comparison.{inBoth, anyDiffer, shown, numeral, least, wholePairs, Tells}
 use Rattle.comparison.specs.declared.work.Found.{Found}
 use Rattle.comparison.specs.declared.compare.Compared.{Compared}

@@ -12,7 +12,8 @@ ghost use mathlib.Core.Path.{_≡_};
 ghost use Prim.Native.Nat.{_/_};
 ghost use lib.ListN.{length, replicate};
 ghost use Rattle.diagram.specs.Diagram.{vars as varsOf};
-ghost use Rattle.pairs.specs.Table.{pairWords, Alike};
+ghost use Rattle.pairs.specs.Pairs.{pairWords};
+ghost use Rattle.pairs.specs.Table.{Alike};
 ghost use Rattle.comparison.specs.Comparison.{Compare};
 ghost use Rattle.comparison.specs.Work.{Worked, Nothing, Answered, Known, Besides};
 

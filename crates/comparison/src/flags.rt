@@ -7,7 +7,8 @@ ghost use mathlib.Core.Bool.{cond, not};
 ghost use Prim.Native.Nat.{_+_, _<_, _≤_};
 ghost use lib.ListN.{set};
 ghost use lib.Dec.{eqb};
-ghost use Rattle.pairs.specs.Table.{maxPairs, flagsFrom};
+ghost use Rattle.pairs.specs.Pairs.{maxPairs};
+ghost use Rattle.pairs.specs.Table.{flagsFrom};
 ghost use Rattle.comparison.specs.Work.{flagIn};
 
 // Whether the pair at a place differs.

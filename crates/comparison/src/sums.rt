@@ -20,8 +20,8 @@ ghost use mathlib.Core.Bool.{_||_};
 ghost use Prim.Native.Nat.{suc, _+_, _-_, _*_, _<_, _≤_};
 ghost use Rattle.naturals.specs.Natural.{wordCount};
 ghost use Rattle.diagram.specs.Diagram.{vars as varsOf};
-ghost use Rattle.pairs.specs.Pairs.{levelOf, pairsOf};
-ghost use Rattle.pairs.specs.Table.{maxPairs, countsFrom};
+ghost use Rattle.pairs.specs.Pairs.{maxPairs, levelOf, pairsOf};
+ghost use Rattle.pairs.specs.Table.{countsFrom};
 ghost use Rattle.comparison.specs.Work.{pairAt, Listed, Placed, Worths, Noting, Ending, Stepping, Counted};
 
 // The variable at which the pair at a place steps.

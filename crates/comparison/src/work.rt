@@ -16,7 +16,8 @@ ghost use Prim.Native.Nat.{_/_};
 ghost use lib.ListN.{length};
 ghost use Rattle.naturals.specs.Natural.{Holds};
 ghost use Rattle.diagram.specs.Diagram.{vars as varsOf};
-ghost use Rattle.pairs.specs.Table.{pairWords, Alike};
+ghost use Rattle.pairs.specs.Pairs.{pairWords};
+ghost use Rattle.pairs.specs.Table.{Alike};
 ghost use Rattle.comparison.specs.Comparison.{inBoth, shown as shownOf};
 ghost use Rattle.comparison.specs.Work.{Rooted, Arriving, Told, Worked};
 

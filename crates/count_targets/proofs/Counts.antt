@@ -34,7 +34,7 @@ use Rattle.trials.proofs.Early.{searching-ordered, searching-few, falsely}
 use Rattle.count_search.specs.Rounds.{Counted, Aiming, Above}
 use Rattle.count_search.proofs.Aims.{counted-searches, counted-beyond}
 use Rattle.told.specs.Told.{countToldOf}
-use Rattle.targets.specs.Hits.{Targeting, Hit}
+use Rattle.targets.specs.Hits.{Hit}
 use Rattle.count_targets.specs.Aims.{toCount, countVerdict, ToCount, remaining, Counting, Lacking, Mirroring}
 use Rattle.targets.proofs.Hitting.{Flipped, most-same, targeting-searches, negation-hits, meets-refused, meets-hit, check-targets}
 

@@ -1,10 +1,10 @@
 -- The walk begins with no pair in the table.
-use Prim.Native.Nat.{ℕ, _≤_, _<_, min}
-use mathlib.Core.Path.{_≡_, refl, sym, ap, _∙_}
+use Prim.Native.Nat.{ℕ, _<_, min}
+use mathlib.Core.Path.{_≡_, refl, _∙_}
 use mathlib.Core.List.{List, [], _++_}
 use native.Mathlib.Omega.{arith}
 use lib.ListN.{length, getD, drop, replicate, length-replicate, getD-replicate, List·getD-append}
-use Rattle.pairs.specs.Pairs.{Pair, pair, roots, allOf}
+use Rattle.pairs.specs.Pairs.{roots, allOf}
 use Rattle.pairs.specs.Table.{headIn, Space, Tabled, Alike, Walking, Met, Walked}
 use Rattle.pairs.proofs.Chains.{chains-none}
 use Rattle.pairs.proofs.Levels.{roots-in}

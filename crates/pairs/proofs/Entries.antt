@@ -2,17 +2,16 @@
 use Prim.Native.Nat.{ℕ, suc, _+_, _-_, _*_, _/_, _%_, _^_, _≤_, _<_}
 use mathlib.Core.Path.{_≡_, refl, sym, ap, _∙_}
 use mathlib.Core.Logic.{_≢_}
-use mathlib.Core.Bool.{Bool, true, false}
+use mathlib.Core.Bool.{true, false}
 use mathlib.Core.List.{List, [], _∷_, _++_}
 use native.Mathlib.Omega.{arith}
 use native.Mathlib.Nat.{mul-le-mul-left, mul-lt-mul-of-pos-right}
 use lib.ListN.{length, getD, set, length-set, length-append, List·getD-append}
 use lib.Seq.{getD-set-same, getD-set-other}
-use Rattle.diagram.specs.Limits.{maxNodes}
 use Rattle.diagram.specs.Diagram.{size}
 use Rattle.diagram.proofs.Tests.{by-eq}
-use Rattle.pairs.specs.Pairs.{Pair, pair, next, ended}
-use Rattle.pairs.specs.Table.{maxPairs, tableTo, headIn, keyIn, beforeIn, lowIn, highIn, keyOf, bucketOf, entered, at, Last, Chains, Seeking, Space, Linked, Sought, Settled, Standing, Tabled}
+use Rattle.pairs.specs.Pairs.{maxPairs, Pair, pair, next, ended}
+use Rattle.pairs.specs.Table.{headIn, keyIn, beforeIn, lowIn, highIn, keyOf, bucketOf, entered, at, Chains, Seeking, Space, Linked, Sought, Settled, Tabled}
 use Rattle.pairs.proofs.Chains.{chains-add, seek-begins, seek-falls, seek-goes}
 
 -- ---- buckets

@@ -1,13 +1,13 @@
 -- Pairs of two diagrams of one variable count: a step stays among the nodes and goes to a larger variable.
-use Prim.Native.Nat.{ℕ, suc, _≤_, _<_}
-use mathlib.Core.Path.{_≡_, refl, sym, _∙_}
+use Prim.Native.Nat.{ℕ, _≤_, _<_}
+use mathlib.Core.Path.{_≡_}
 use mathlib.Core.Logic.{_⊎_, inl, inr, ⊎-elim}
-use mathlib.Core.Bool.{Bool, true, false, _&&_}
+use mathlib.Core.Bool.{Bool, true, false}
 use mathlib.Core.List.{List}
 use native.Mathlib.Omega.{arith}
 use lib.Dec.{ltb}
-use borrow.Author.Tests.{ltb-true, ltb-false, lt-ltb}
-use Rattle.diagram.specs.Diagram.{varOf, lowOf, highOf, size, vars, root}
+use borrow.Author.Tests.{ltb-true, ltb-false}
+use Rattle.diagram.specs.Diagram.{varOf, size, vars}
 use Rattle.diagram.specs.Reading.{pass}
 use Rattle.diagram.proofs.Reading.{Layered, layered, root-in, pass-tests, pass-skips, child-above, pass-in, at-level, var-most}
 use Rattle.diagram.proofs.Tests.{by-test, and-both, both-and, not-both}

@@ -1,8 +1,7 @@
 -- The walk over pairs, `meet`: one step of it, how far it has to go, and what it leaves.
 use Prim.Native.Nat.{ℕ, zero, suc, _+_, _≤_, _<_}
 use mathlib.Core.Path.{_≡_, refl, sym, ap, _∙_, subst}
-use mathlib.Core.Logic.{_≢_, _⊎_, inl, inr, ⊎-elim}
-use mathlib.Core.Bool.{Bool, true, false, cond, _&&_, _||_}
+use mathlib.Core.Bool.{true, false}
 use mathlib.Core.List.{List, [], _∷_, _++_}
 use native.Mathlib.Omega.{arith}
 use lib.ListN.{length, length-append, List·getD-append}
@@ -10,11 +9,11 @@ use lib.Dec.{eqb}
 use borrow.Author.Tests.{eqb-true, eq-eqb}
 use Rattle.diagram.specs.Diagram.{vars}
 use Rattle.diagram.proofs.Tests.{by-test, not-both, and-both, both-and, or-cases, or-left, or-right, cond-true, cond-false}
-use Rattle.counts.specs.Counting.{In, here, there, Once, none, more}
-use Rattle.counts.proofs.Turns.{not-in, in-one, in-append, in-left, in-right, once-append}
+use Rattle.counts.specs.Counting.{In, here, there}
+use Rattle.counts.proofs.Turns.{in-left}
 use Rattle.pairs.specs.Pairs.{Pair, pair, levelOf, next, ended, same, met, meet, meetFrom}
 use Rattle.pairs.specs.Table.{at, Alike}
-use Rattle.pairs.proofs.Levels.{Inside, level-most, level-below, next-in, next-above}
+use Rattle.pairs.proofs.Levels.{Inside, level-most, next-in, next-above}
 
 -- ---- pairs that were met
 
@@ -53,6 +52,9 @@ pub in-at : (x : Pair) (s : List Pair) → In x s → (i : ℕ) × (i < length s
 in-at x (y ∷ s) here = (0, omega arith, refl)
 in-at x (y ∷ s) (there i) = let r = in-at x s i in (suc (r .0), omega (arith, r .1), r .2)
 
+pub one-more : (s : List Pair) (x : Pair) → length (s ++ (x ∷ [])) ≡ suc (length s)
+one-more s x = length-append s (x ∷ []) ∙ omega arith
+
 -- ---- one step
 
 module _ (a b : List ℕ) where
@@ -81,9 +83,6 @@ module _ (a b : List ℕ) where
       (λ f. subst P (sym (meet-on k x s e f)) (on e f)))
 
   -- nothing is lost
-  one-more : (s : List Pair) (x : Pair) → length (s ++ (x ∷ [])) ≡ suc (length s)
-  one-more s x = length-append s (x ∷ []) ∙ omega arith
-
   pub meet-longer : (k : ℕ) (x : Pair) (s : List Pair) → length s ≤ length (meet a b k x s)
   unfolding meet
   meet-longer zero x s = omega arith

@@ -1,7 +1,7 @@
 -- The pairs that the walk meets are those that are reached, each once; and how many they can be.
-use Prim.Native.Nat.{ℕ, zero, suc, _+_, _*_, _≤_, _<_}
-use mathlib.Core.Path.{_≡_, refl, sym, ap, _∙_, subst}
-use mathlib.Core.Logic.{_≢_, _⊎_, inl, inr, ⊎-elim}
+use Prim.Native.Nat.{ℕ, zero, suc, _+_, _≤_, _<_}
+use mathlib.Core.Path.{_≡_, refl, sym, subst}
+use mathlib.Core.Logic.{_⊎_, inl, inr, ⊎-elim}
 use mathlib.Core.Bool.{Bool, true, false, _||_}
 use mathlib.Core.List.{List, [], _∷_, _++_}
 use native.Mathlib.Omega.{arith}
@@ -9,17 +9,17 @@ use lib.ListN.{length}
 use lib.Dec.{eqb}
 use borrow.Author.Tests.{eqb-true, eq-eqb, ne-eqb}
 use Rattle.diagram.specs.Limits.{maxNodes}
-use Rattle.diagram.specs.Diagram.{size, vars, Ordered}
+use Rattle.diagram.specs.Diagram.{vars}
 use Rattle.diagram.specs.Marking.{count}
-use Rattle.diagram.proofs.Tests.{by-test, not-both, or-cases, or-left, or-right}
+use Rattle.diagram.proofs.Tests.{by-test, not-both, or-cases, or-left}
 use Rattle.diagram.proofs.Count.{count-most, count-less}
 use Rattle.counts.specs.Counting.{In, here, there, Once, none, more}
 use Rattle.counts.proofs.Turns.{not-in, in-one, in-append, in-left, in-right, once-append}
-use Rattle.pairs.specs.Pairs.{Pair, levelOf, next, ended, roots, Reached, start, step, met, meet, meetFrom, allOf, pairsOf}
-use Rattle.pairs.specs.Table.{maxPairs, keyOf, Alike}
+use Rattle.pairs.specs.Pairs.{maxPairs, Pair, levelOf, next, ended, roots, Reached, start, step, met, meet, allOf}
+use Rattle.pairs.specs.Table.{keyOf, Alike}
 use Rattle.pairs.specs.Walks.{Walks}
 use Rattle.pairs.proofs.Levels.{Inside, going, goes, roots-in, level-most, next-in, next-above}
-use Rattle.pairs.proofs.Meeting.{met-in, in-met, by-meet, meet-keeps, meet-enough}
+use Rattle.pairs.proofs.Meeting.{met-in, in-met, by-meet, meet-keeps}
 use Rattle.pairs.proofs.Walking.{key-tells}
 
 module _ (a b : List ℕ) (alike : Alike a b) where

@@ -1,21 +1,20 @@
 -- The walk that enters pairs in the table: what each call may rest on, and each of its returns.
-use Prim.Native.Nat.{ℕ, suc, _+_, _-_, _*_, _≤_, _<_, min}
-use mathlib.Core.Path.{_≡_, refl, sym, ap, _∙_, subst}
-use mathlib.Core.Logic.{_≢_}
+use Prim.Native.Nat.{ℕ, suc, _+_, _-_, _≤_, _<_}
+use mathlib.Core.Path.{_≡_, refl, sym, ap, _∙_}
 use mathlib.Core.Bool.{Bool, true, false}
 use mathlib.Core.List.{List, [], _∷_, _++_}
 use native.Mathlib.Omega.{arith}
 use native.Mathlib.Decide.{decLt}
-use lib.ListN.{length, getD, length-append}
+use lib.ListN.{length}
 use Rattle.diagram.specs.Limits.{maxNodes}
-use Rattle.diagram.specs.Diagram.{size, vars}
+use Rattle.diagram.specs.Diagram.{vars}
 use Rattle.diagram.specs.Reading.{pass}
 use Rattle.diagram.proofs.Tests.{by-test, not-both}
 use Rattle.pairs.specs.Pairs.{Pair, pair, levelOf, next, ended, met, meetFrom}
-use Rattle.pairs.specs.Table.{maxPairs, keyIn, keyOf, entered, at, Space, Linked, Sought, Adding, Added, Tabled, Alike, Walking, Arrived, Met, Walked}
+use Rattle.pairs.specs.Table.{keyIn, keyOf, at, Space, Linked, Sought, Adding, Added, Tabled, Alike, Walking, Met, Walked}
 use Rattle.pairs.proofs.Entries.{entered-tabled, entered-here}
 use Rattle.pairs.proofs.Levels.{Inside, level-below, next-in, next-above}
-use Rattle.pairs.proofs.Meeting.{pair-ext, in-met, met-in, at-in, in-at, meet-met, meet-end, meet-longer, meet-prefix, from-on}
+use Rattle.pairs.proofs.Meeting.{one-more, pair-ext, in-met, met-in, at-in, in-at, meet-met, meet-end, meet-longer, meet-prefix, from-on}
 
 -- a pair's word tells the pair
 pub key-tells : (x y : Pair) → x .second < maxNodes → y .second < maxNodes → keyOf x ≡ keyOf y → x ≡ y
@@ -27,9 +26,6 @@ pub next-is : (a b : List ℕ) (x : Pair) (bit : Bool) {i p q : ℕ} → i ≡ l
 next-is a b x bit {i} {p} {q} ei ep eq =
     ap (λ (y : ℕ). pair y q) (ep ∙ ap (λ (j : ℕ). pass a j (x .first) bit) ei)
     ∙ ap (λ (y : ℕ). pair (pass a (levelOf a b x) (x .first) bit) y) (eq ∙ ap (λ (j : ℕ). pass b j (x .second) bit) ei)
-
-one-more : (s : List Pair) (x : Pair) → length (s ++ (x ∷ [])) ≡ suc (length s)
-one-more s x = length-append s (x ∷ []) ∙ omega arith
 
 -- pairs that stand in a table of so many
 tabled-linked : {a b : List ℕ} {c : ℕ} {s : List Pair} {t : List ℕ} {k : ℕ} → Space c t → Tabled a b c s t → length s ≡ k → Linked c t k

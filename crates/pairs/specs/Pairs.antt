@@ -1,13 +1,21 @@
 -- Pairs of nodes of two diagrams a and b (document 02, E1): "it walks pairs of nodes from the two roots: the side with the smaller
 -- variable steps, both if equal, until both are terminals".
-use Prim.Native.Nat.{ℕ, zero, suc, _≤_, min}
+use Prim.Native.Nat.{ℕ, zero, suc, _*_, _≤_, min}
 use mathlib.Core.Logic.{_⊎_}
 use mathlib.Core.Bool.{Bool, true, false, cond, _&&_, _||_}
 use mathlib.Core.List.{List, [], _∷_, _++_}
 use lib.ListN.{length}
 use lib.Dec.{eqb, ltb}
+use Rattle.diagram.specs.Limits.{maxNodes}
 use Rattle.diagram.specs.Diagram.{varOf, vars, root}
 use Rattle.diagram.specs.Reading.{pass}
+
+-- The words that a caller lends for a pair, and as many pairs as two diagrams can have.
+abbrev pub pairWords : ℕ
+pairWords = 64
+
+abbrev pub maxPairs : ℕ
+maxPairs = maxNodes * maxNodes
 
 -- A node of the first diagram and one of the second.
 pub record Pair : Type 0 where

@@ -1,4 +1,4 @@
--- The table of the pairs met, in lent words. Auxiliary: no promise to a caller names it, but for the words of a pair. A table with places
+-- The table of the pairs met, in lent words. Auxiliary: no promise to a caller names it. A table with places
 -- for c pairs has
 --     from 0 on           for each of c buckets the successor of the last place whose pair is in it, or 0
 --     from c on           four words for each place: the pair, the place before it in its bucket, as above, and its two children's places
@@ -6,21 +6,13 @@
 --     from flagsFrom on   a word for each place
 use Prim.Native.Nat.{ℕ, suc, _+_, _-_, _*_, _/_, _%_, _≤_, _<_, min}
 use mathlib.Core.Path.{_≡_}
-use mathlib.Core.Logic.{_≢_, _⊎_}
-use mathlib.Core.Bool.{Bool, true, false}
+use mathlib.Core.Logic.{_≢_}
+use mathlib.Core.Bool.{true, false}
 use mathlib.Core.List.{List}
 use lib.ListN.{length, getD, set}
 use Rattle.diagram.specs.Limits.{maxNodes}
 use Rattle.diagram.specs.Diagram.{size, vars, Ordered}
-use Rattle.pairs.specs.Pairs.{Pair, pair, next, ended, meetFrom}
-
--- The words that a caller lends for a pair.
-abbrev pub pairWords : ℕ
-pairWords = 64
-
--- As many pairs as two diagrams can have.
-abbrev pub maxPairs : ℕ
-maxPairs = maxNodes * maxNodes
+use Rattle.pairs.specs.Pairs.{maxPairs, Pair, pair, next, ended, meetFrom}
 
 -- ---- the layout
 

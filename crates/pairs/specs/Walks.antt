@@ -4,8 +4,7 @@ use mathlib.Core.Path.{_≡_}
 use mathlib.Core.List.{List}
 use Rattle.diagram.specs.Diagram.{vars, Ordered}
 use Rattle.counts.specs.Counting.{Number}
-use Rattle.pairs.specs.Pairs.{Reached, pairsOf}
-use Rattle.pairs.specs.Table.{maxPairs}
+use Rattle.pairs.specs.Pairs.{maxPairs, Reached, pairsOf}
 
 pub record Walks : Type 0 where
   pub pairs : (a b : List ℕ) → Ordered a → Ordered b → vars a ≡ vars b → Number (Reached a b) (pairsOf a b)

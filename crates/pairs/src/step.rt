@@ -5,7 +5,6 @@ use diagram::node::high_link_of;
 use diagram::node::low_link_of;
 use diagram::node::var_of;
 ghost use mathlib.Core.Path.{_≡_};
-ghost use mathlib.Core.Bool.{_&&_};
 ghost use Rattle.diagram.specs.Reading.{pass as passOf};
 ghost use Rattle.pairs.specs.Pairs.{pair, levelOf, ended};
 

@@ -11,8 +11,8 @@ use diagram::room::least;
 ghost use mathlib.Core.Path.{_≡_};
 ghost use Prim.Native.Nat.{_/_, _%_, _<_, _≤_, min};
 ghost use Rattle.diagram.specs.Limits.{maxNodes};
-ghost use Rattle.pairs.specs.Pairs.{pair};
-ghost use Rattle.pairs.specs.Table.{pairWords, maxPairs, keyIn, lowIn, highIn, keyOf, bucketOf, entered, Space, Linked, Sought};
+ghost use Rattle.pairs.specs.Pairs.{pairWords, maxPairs, pair};
+ghost use Rattle.pairs.specs.Table.{keyIn, lowIn, highIn, keyOf, bucketOf, entered, Space, Linked, Sought};
 
 // The words that are lent for a pair.
 pub const PAIR_WORDS: usize = 64;

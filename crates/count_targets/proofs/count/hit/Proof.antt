@@ -1,4 +1,3 @@
-use native.Mathlib.Omega.{arith}
 use borrow.Author.Needs.{needs}
 use Rattle.count_targets.proofs.count.hit.Statement.{statement}
 use Rattle.count_targets.proofs.count.hit.Tie as tie

@@ -1,7 +1,6 @@
 use denote.Ref.{now}
 use Rattle.naturals.specs.Natural.{value}
 use Rattle.count_targets.proofs.Counts.{check-refuses, open-few, open-refuses, open-counts, open-meets}
-use native.Mathlib.Omega.{arith}
 use borrow.Author.Needs.{needs}
 use Rattle.count_targets.proofs.count.to_count.Statement.{statement}
 use Rattle.count_targets.proofs.count.to_count.Tie as tie

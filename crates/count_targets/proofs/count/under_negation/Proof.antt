@@ -4,7 +4,6 @@ use Prim.Native.Nat.{ℕ, _-_}
 use Rattle.naturals.specs.Natural.{value}
 use Rattle.told.proofs.Opening.{power-value}
 use Rattle.count_targets.proofs.Counts.{lacking-few, lacking-variables, lacking-none, lacking-mirrors, lacking-found}
-use native.Mathlib.Omega.{arith}
 use borrow.Author.Needs.{needs}
 use Rattle.count_targets.proofs.count.under_negation.Statement.{statement}
 use Rattle.count_targets.proofs.count.under_negation.Tie as tie

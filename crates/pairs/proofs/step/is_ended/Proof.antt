@@ -1,5 +1,4 @@
 use Rattle.pairs.proofs.Steps.{ended-both, ended-no}
-use native.Mathlib.Omega.{arith}
 use borrow.Author.Needs.{needs}
 use Rattle.pairs.proofs.step.is_ended.Statement.{statement}
 use Rattle.pairs.proofs.step.is_ended.Tie as tie

@@ -1,6 +1,5 @@
 use mathlib.Core.Path.{sym, _∙_}
 use Rattle.pairs.proofs.Steps.{level-first, level-second}
-use native.Mathlib.Omega.{arith}
 use borrow.Author.Needs.{needs}
 use Rattle.pairs.proofs.step.level.Statement.{statement}
 use Rattle.pairs.proofs.step.level.Tie as tie

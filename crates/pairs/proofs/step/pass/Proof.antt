@@ -1,11 +1,9 @@
 use Rattle.pairs.proofs.Steps.{pass-other, pass-high, pass-low}
 use Rattle.diagram.proofs.Reading.{pass-ends}
-use mathlib.Core.Bool.{true, false}
 use mathlib.Core.Path.{sym, _∙_}
 use borrow.Author.Tests.{ltb-true, ltb-false}
 use Rattle.pairs.proofs.Steps.{pass-other}
-use Rattle.diagram.proofs.Reading.{pass-tests, pass-ends}
-use native.Mathlib.Omega.{arith}
+use Rattle.diagram.proofs.Reading.{pass-ends}
 use borrow.Author.Needs.{needs}
 use Rattle.pairs.proofs.step.pass.Statement.{statement}
 use Rattle.pairs.proofs.step.pass.Tie as tie

@@ -1,7 +1,6 @@
 use mathlib.Core.Path.{refl}
 use Rattle.pairs.specs.Table.{bucketOf}
 use Rattle.pairs.proofs.Entries.{bucket-fits}
-use native.Mathlib.Omega.{arith}
 use borrow.Author.Needs.{needs}
 use Rattle.pairs.proofs.table.bucket.Statement.{statement}
 use Rattle.pairs.proofs.table.bucket.Tie as tie

@@ -1,7 +1,5 @@
 use Rattle.pairs.proofs.Entries.{bucket-small, entered-is}
-use Rattle.pairs.specs.Table.{entered}
 use Rattle.pairs.proofs.Entries.{bucket-small}
-use mathlib.Core.Path.{refl, ap, sym}
 use lib.ListN.{length-set}
 use native.Mathlib.Omega.{arith}
 use borrow.Author.Needs.{needs}

@@ -1,4 +1,4 @@
-use Rattle.pairs.proofs.Entries.{SeekIn, seek-head, seek-start, seek-inside, seek-hit, seek-next, seek-less, seek-ends}
+use Rattle.pairs.proofs.Entries.{SeekIn, seek-start, seek-inside, seek-hit, seek-next, seek-less, seek-ends}
 use borrow.Author.Needs.{needs}
 use native.Mathlib.Omega.{arith}
 use Rattle.pairs.proofs.table.seek.Statement.{statement}

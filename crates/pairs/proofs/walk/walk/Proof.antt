@@ -1,5 +1,4 @@
 use Rattle.pairs.proofs.Beginning.{walk-begins, walk-ends}
-use native.Mathlib.Omega.{arith}
 use borrow.Author.Needs.{needs}
 use Rattle.pairs.proofs.walk.walk.Statement.{statement}
 use Rattle.pairs.proofs.walk.walk.Tie as tie

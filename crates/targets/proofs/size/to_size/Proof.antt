@@ -1,6 +1,5 @@
 use denote.Ref.{now}
 use Rattle.targets.proofs.Sizes.{size-passed, size-refuses, size-targets, size-meets}
-use native.Mathlib.Omega.{arith}
 use borrow.Author.Needs.{needs}
 use Rattle.targets.proofs.size.to_size.Statement.{statement}
 use Rattle.targets.proofs.size.to_size.Tie as tie

@@ -1,5 +1,4 @@
 use Rattle.targets.proofs.Hitting.{targeting-searches, found-gives, found-hits}
-use native.Mathlib.Omega.{arith}
 use borrow.Author.Needs.{needs}
 use Rattle.targets.proofs.size.under.Statement.{statement}
 use Rattle.targets.proofs.size.under.Tie as tie
