@@ -126,13 +126,6 @@ unlike-is false true = refl
 unlike-is false false = refl
 
 -- terminals
-pub both-end : (p q : ℕ) → p < 2 → q < 2 → cond (eqb p 1 && eqb q 1) 1 0 ≡ p * q
-both-end zero q t u = omega arith
-both-end (suc zero) zero t u = refl
-both-end (suc zero) (suc zero) t u = refl
-both-end (suc zero) (suc (suc q)) t u = absurd (omega arith)
-both-end (suc (suc p)) q t u = absurd (omega arith)
-
 pub unlike-end : (p q : ℕ) → p < 2 → q < 2 → ltb 0 (cond (unlike (eqb p 1) (eqb q 1)) 1 0) ≡ not (eqb p q)
 unfolding unlike
 unlike-end zero zero t u = refl
@@ -146,9 +139,6 @@ unlike-end (suc (suc p)) q t u = absurd (omega arith)
 module _ {a b : List ℕ} (k : Alike a b) where
   pub both-roots : inBoth a b ≡ worth _&&_ a b (roots a b) * 2 ^ levelOf a b (roots a b)
   both-roots = worth-roots _&&_ k (λ bs. holds a bs && holds b bs) (λ bs. refl)
-
-  pub both-ended : (x : Pair) → Inside a b x → ended x ≡ true → worth _&&_ a b x ≡ x .first * x .second
-  both-ended x h e = worth-end _&&_ k x h e ∙ both-end (x .first) (x .second) (ended-told x e .0) (ended-told x e .1)
 
   pub unlike-ended : (x : Pair) → Inside a b x → ended x ≡ true → unlikeAt a b x ≡ not (eqb (x .first) (x .second))
   unlike-ended x h e = ap (ltb 0) (worth-end unlike k x h e) ∙ unlike-end (x .first) (x .second) (ended-told x e .0) (ended-told x e .1)

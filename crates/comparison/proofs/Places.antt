@@ -1,11 +1,10 @@
 -- What stands at a place of the table, and what a count or a flag that is noted leaves.
-use Prim.Native.Nat.{ℕ, suc, _+_, _-_, _*_, _/_, _%_, _^_, _≤_, _<_}
+use Prim.Native.Nat.{ℕ, suc, _+_, _-_, _*_, _/_, _%_, _≤_, _<_}
 use mathlib.Core.Path.{_≡_, refl, sym, ap, _∙_}
 use mathlib.Core.Logic.{_≢_}
 use mathlib.Core.Bool.{Bool, true, false, cond, not, _&&_, _||_}
 use mathlib.Core.List.{List}
 use native.Mathlib.Omega.{arith}
-use native.Mathlib.Nat.{mul-le-mul}
 use lib.ListN.{length, getD, set, length-set}
 use lib.Seq.{getD-drop, getD-set-same, getD-set-other}
 use lib.Dec.{eqb}
@@ -18,9 +17,9 @@ use Rattle.counts.specs.Table.{entry, Noted}
 use Rattle.counts.proofs.Entries.{noted}
 use Rattle.pairs.specs.Pairs.{maxPairs, Pair, pair, levelOf, next, ended, allOf, pairsOf}
 use Rattle.pairs.specs.Table.{keyIn, lowIn, highIn, countsFrom, flagsFrom, Settled, Standing}
-use Rattle.pairs.proofs.Levels.{Inside, ended-told}
+use Rattle.pairs.proofs.Levels.{Inside}
 use Rattle.comparison.specs.Work.{worth, unlikeAt, flagIn, Listed, pairAt, Placed, Worths, Noting, Ending, Stepping, Counted}
-use Rattle.comparison.proofs.Beside.{both-ended, unlike-ended, unlike-node}
+use Rattle.comparison.proofs.Beside.{worth-end, unlike-ended, unlike-node}
 
 -- ---- the pair at a place
 
@@ -157,7 +156,7 @@ module _ {a b : List ℕ} {c : ℕ} {t : List ℕ} {place v p q : ℕ} (n : Noti
   pub end-small : (c ≤ maxPairs) × (place < maxPairs)
   end-small = place-small placed
 
-  pub end-done : {at : ℕ} {words after after′ : List ℕ} {done d : Bool} → at ≡ countsFrom c + wordCount * place → Holds (p * q) words
+  pub end-done : {at : ℕ} {words after after′ : List ℕ} {done d : Bool} → at ≡ countsFrom c + wordCount * place → Holds (cond (eqb p 1 && eqb q 1) 1 0) words
       → Stores wordCount t at words done after → after′ ≡ set after (flagsFrom c + place) (cond d 1 0) → d ≡ not (eqb p q) → Worths a b c after′ (suc place)
   end-done {at} {words} {after} {after′} {done} {d} ea h r es ed =
       let long = n .worths .listed .space .long in
@@ -165,20 +164,11 @@ module _ {a b : List ℕ} {c : ℕ} {t : List ℕ} {place v p q : ℕ} (n : Noti
       let inside = n .inside in
       let alike = n .worths .listed .alike in
       let there : Stores wordCount t (countsFrom c + wordCount * place) words done after = rw ea at r in
-      let wrote = noted (countsFrom c) t place (omega arith) there (p * q) h in
-      let worth-is : p * q ≡ worth _&&_ a b (pairAt a b place) = rw (k .first, k .second) (sym (both-ended alike (pairAt a b place) (place-inside placed) (k .done))) in
+      let wrote = noted (countsFrom c) t place (omega arith) there (cond (eqb p 1 && eqb q 1) 1 0) h in
+      let worth-is : cond (eqb p 1 && eqb q 1) 1 0 ≡ worth _&&_ a b (pairAt a b place) = rw (k .first, k .second) (sym (worth-end _&&_ alike (pairAt a b place) (place-inside placed) (k .done))) in
       let flag-right : d ≡ unlikeAt a b (pairAt a b place) =
       ed ∙ rw (k .first, k .second) (sym (unlike-ended alike (pairAt a b place) (place-inside placed) (k .done))) in
       flag-noted (count-noted (n .worths) (n .inside) wrote worth-is) es flag-right
-
--- two terminals' numbers
-pub end-product : {a b : List ℕ} {place p q : ℕ} → Ending a b place p q → p * q < 2 ^ 32
-end-product {a} {b} {place} k =
-    let t = ended-told (pairAt a b place) (k .done) in
-    rw (k .first, k .second) (small (pairAt a b place .first) (pairAt a b place .second) (t .0) (t .1))
-  where
-    small : (p q : ℕ) → p < 2 → q < 2 → p * q < 2 ^ 32
-    small p q t u = let m = mul-le-mul {n₁ = p} {m₁ = q} {n₂ = 1} {m₂ = 1} (omega arith) (omega arith) in omega arith
 
 -- ---- which of the two a pair is
 

@@ -20,7 +20,7 @@ pub(crate) fn differs_at(table: &[u32], capacity: usize, place: usize) -> bool
 }
 
 // The word that says so.
-fn word_of(differs: bool) -> u32
+pub(crate) fn word_of(differs: bool) -> u32
     ensures { λ r. ⌜ r ≡ cond differs 1 0 ⌝ }
 {
     if differs {

@@ -1,6 +1,7 @@
 // What each pair is worth, from the first place to the last: a pair's children stand before it.
 use crate::flags::differs_at;
 use crate::flags::note_flag;
+use crate::flags::word_of;
 use diagram::node::BddPointer;
 use diagram::node::BddVariable;
 use in_place::sum::Shifted;
@@ -16,7 +17,8 @@ use pairs::table::high_at;
 use pairs::table::low_at;
 use pairs::table::second_at;
 ghost use mathlib.Core.Path.{_≡_};
-ghost use mathlib.Core.Bool.{_||_};
+ghost use mathlib.Core.Bool.{_&&_, _||_};
+ghost use lib.Dec.{eqb};
 ghost use Prim.Native.Nat.{suc, _+_, _-_, _*_, _<_, _≤_};
 ghost use Rattle.naturals.specs.Natural.{wordCount};
 ghost use Rattle.diagram.specs.Diagram.{vars as varsOf};
@@ -48,6 +50,16 @@ pub(crate) fn count_from(capacity: usize, place: usize) -> usize
     COUNTS * capacity + naturals::WORDS * place
 }
 
+// Whether both are node 1.
+fn are_ones(p: BddPointer, q: BddPointer) -> bool
+    ensures { λ r. ⌜ r ≡ (eqb (p .0) 1 && eqb (q .0) 1) ⌝ }
+{
+    if p.0 == 1 {
+        return q.0 == 1;
+    }
+    false
+}
+
 // Two terminals: both hold where both are node 1, and they differ where they are not the same.
 fn note_end(
     first: &[u32],
@@ -62,7 +74,7 @@ fn note_end(
     requires { ⌜ Noting (now first) (now second) capacity (now table) place vars × Ending (now first) (now second) place (p .0) (q .0) ⌝ }
     ensures { λ _. ⌜ Worths (now (first .entry)) (now (second .entry)) capacity (now (table .exit)) (suc place) ⌝ }
 {
-    let both = p.0 * q.0;
+    let both = word_of(are_ones(p, q));
     store(table, count_from(capacity, place), from_word(both));
     note_flag(table, capacity, place, p.0 != q.0);
 }

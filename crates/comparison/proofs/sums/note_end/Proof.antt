@@ -1,11 +1,14 @@
-use Rattle.comparison.proofs.Places.{end-product, end-done}
 use mathlib.Core.Path.{refl}
+use Rattle.comparison.proofs.Places.{end-done}
 use borrow.Author.Needs.{needs}
 use Rattle.comparison.proofs.sums.note_end.Statement.{statement}
 use Rattle.comparison.proofs.sums.note_end.Tie as tie
 
-mul-both : tie.Need-mul-both
-mul-both c = record { fits = end-product (c .before .before .before .before .before .pre .1) }
+are-ones-requires : tie.Need-are-ones-requires
+are-ones-requires c κs = search needs
+
+word-of-requires : tie.Need-word-of-requires
+word-of-requires c κs = search needs
 
 count-from-requires : tie.Need-count-from-requires
 count-from-requires c κs = search needs
@@ -23,13 +26,14 @@ same-length : tie.Need-same-length
 same-length c = search needs
 
 returns : tie.Need-returns
-returns c = end-done (c .before .before .before .before .before .before .before .before .before .before .before .before .before .before .before .before .before .pre .0) (c .before .before .before .before .before .before .before .before .before .before .before .before .before .before .before .before .before .pre .1) (c .before .before .before .before .before .before .before .before .before .before .count-from .ensures) (c .before .before .before .before .before .before .before .before .before .from-word .ensures) (c .before .before .before .before .before .before .before .before .store .ensures) (c .before .before .note-flag .ensures) refl
+returns c = end-done (c .before .before .before .before .before .before .before .before .before .before .before .before .before .before .before .before .before .pre .0) (c .before .before .before .before .before .before .before .before .before .before .before .before .before .before .before .before .before .pre .1) (c .before .before .before .before .before .before .before .before .before .before .count-from .ensures) (rw (c .before .before .before .before .before .before .before .before .before .before .before .before .word-of .ensures, c .before .before .before .before .before .before .before .before .before .before .before .before .before .are-ones .ensures) at (c .before .before .before .before .before .before .before .before .before .from-word .ensures)) (c .before .before .before .before .before .before .before .before .store .ensures) (c .before .before .note-flag .ensures) refl
 
 pub note-end-spec : {M : Type 1} → statement M
 note-end-spec =
     tie.close
     (tie.spec
-    mul-both
+    are-ones-requires
+    word-of-requires
     count-from-requires
     from-word-requires
     store-requires
