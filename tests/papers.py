@@ -216,6 +216,7 @@ own = ruled[:ruled.index(12) + 1]
 for path, found, said in [
     ("crates/diagram/src/refusal.rt and crates/comparison/src/compare.rt", sorted(numbers(CONSTANT, text_of("crates/diagram/src/refusal.rt")) + numbers(CONSTANT, text_of("crates/comparison/src/compare.rt"))), sorted(ruled)),
     ("crates/diagram/specs/Verdict.antt", numbers(r"\brow (\d+) ", text_of("crates/diagram/specs/Verdict.antt")), own),
+    ("crates/comparison/specs/Comparison.antt", numbers(r"\brow (\d+) ", text_of("crates/comparison/specs/Comparison.antt")), [number for number in ruled if number in (31, 32)]),
     ("include/houayletan.h", numbers(r"^ \*   {,2}(\d+)   ", text_of("include/houayletan.h")), ruled + filed),
     ("bindings/rust/src/refusal.rs", sorted(numbers(r"^            (\d+) => ", text_of("bindings/rust/src/refusal.rs"))), sorted(ruled + filed)),
     ("crates/blocks/src/stored.rt", sorted(numbers(CONSTANT, text_of("crates/blocks/src/stored.rt"))), sorted(set(stored) - set(ruled))),
