@@ -19,6 +19,9 @@
  *   output    at least HOUAYLETAN_OUTPUT(n) words, 3 x m, for a diagram; HOUAYLETAN_WEIGHTS(n), a count for each node, for
  *             weights; HOUAYLETAN_VARS for sizes by variable, whatever the answer needs. A refusal leaves it as it was; an
  *             answer leaves it as it was beyond the result.
+ *   table     of a comparison: HOUAYLETAN_TABLE(pairs) words, HOUAYLETAN_PAIR_WORDS for each pair of nodes. What it holds at first
+ *             does not matter. The diagrams' own refusals and 31 leave it as it was; 32, and all answers, leave its whole pairs zero
+ *             and the words beyond them as they were.
  *   count     HOUAYLETAN_COUNT_WORDS words of 32 bits, least first.
  *
  * Numbers of refusal, in the order in which the checks run (docs/RULES.md has the same table, with the paper that each row
@@ -46,6 +49,8 @@
  *   16   a count target above 2^v for an overapproximation              0
  *   19   a count target strictly between 0 and 2^v: under on two nodes, over on one
  *                                                                       0
+ *   31   two diagrams have different variable counts                    0
+ *   32   two diagrams reach more pairs of nodes than the table holds    0
  *
  * Of 8, 9 and 10 the first faulty node is reported, and in it the variable, then low, then high. Of 11 and 17 likewise: the
  * node is chosen first, then its low child comes before its high child.
@@ -81,6 +86,9 @@ extern "C" {
 #define HOUAYLETAN_OUTPUT(n) (3 * ((size_t)(n) < 2 ? (size_t)2 : (size_t)(n)))
 #define HOUAYLETAN_WEIGHTS(n) (HOUAYLETAN_COUNT_WORDS * (size_t)(n))
 
+/* The words of a table for so many pairs of nodes. */
+#define HOUAYLETAN_TABLE(pairs) (HOUAYLETAN_PAIR_WORDS * (size_t)(pairs))
+
 /* The bytes of a node file of n nodes. */
 #define HOUAYLETAN_BYTES(n) (HOUAYLETAN_BYTES_PER_NODE * (size_t)(n))
 
@@ -110,6 +118,7 @@ extern "C" {
 #define houayletan_overapproximate_to_size HOUAYLETAN_LINKED(houayletan_overapproximate_to_size)
 #define houayletan_underapproximate_to_cardinality HOUAYLETAN_LINKED(houayletan_underapproximate_to_cardinality)
 #define houayletan_overapproximate_to_cardinality HOUAYLETAN_LINKED(houayletan_overapproximate_to_cardinality)
+#define houayletan_compare HOUAYLETAN_LINKED(houayletan_compare)
 #define houayletan_read_as_bytes HOUAYLETAN_LINKED(houayletan_read_as_bytes)
 #define houayletan_write_as_bytes HOUAYLETAN_LINKED(houayletan_write_as_bytes)
 
@@ -235,6 +244,34 @@ HouayletanApproximation houayletan_underapproximate_to_cardinality(const uint32_
                                                                    uint32_t *room, size_t room_len, uint32_t *output, size_t output_len);
 HouayletanApproximation houayletan_overapproximate_to_cardinality(const uint32_t *words, size_t words_len, HouayletanNatural target, uint32_t as_is,
                                                                   uint32_t *room, size_t room_len, uint32_t *output, size_t output_len);
+
+/* What a comparison of two diagrams says. verdict: accepted, with the number of pairs of nodes that were reached as nodes, and the
+ * variable count v. which: the diagram that a refusal is about, 0 the first and 1 the second; 0 where it is about none (31, 32), and
+ * where nothing is refused. first, second, both: how many valuations hold in the first only, in the second only and in both, each as a
+ * count. differ: 1 where there is a valuation that holds in one and not in the other, else 0. smallest: the smallest such, as a number of
+ * v bits in which x0 weighs most, so that variable i is bit v - 1 - i: HOUAYLETAN_BIT(smallest, v - 1 - i). It is 0 where there is none, so look at
+ * differ first: all zeros may be the smallest too, and of no variables it always is. All but verdict and which is 0 where it is refused. */
+typedef struct {
+    HouayletanVerdict verdict;
+    uint32_t which;
+    uint32_t differ;
+    uint32_t first[HOUAYLETAN_COUNT_WORDS];
+    uint32_t second[HOUAYLETAN_COUNT_WORDS];
+    uint32_t both[HOUAYLETAN_COUNT_WORDS];
+    uint32_t smallest[HOUAYLETAN_COUNT_WORDS];
+} HouayletanComparison;
+
+/* Bit i of a number of HOUAYLETAN_COUNT_WORDS words, least first. */
+#define HOUAYLETAN_BIT(words, i) ((words)[(i) / 32] >> (i) % 32 & 1)
+
+/* Two diagrams of one variable count beside each other. Pairs of nodes are gone through from the two roots: the side with the smaller
+ * variable steps, both where they are equal, until both are terminals; also where the two nodes are the same. Each pair that is reached
+ * takes a place in the table, pairs of terminals too: at most the product of the two diagrams' nodes, mostly far fewer. After 32 lend a
+ * longer one. The room serves both checks in turn and has to be long enough for the larger diagram: HOUAYLETAN_ROOM of it. Where the second
+ * is refused 5 or before, what the check of the first left zero stays zero. Refusals: the first diagram's own, then the second's, then 31,
+ * then 32. */
+HouayletanComparison houayletan_compare(const uint32_t *first, size_t first_len, const uint32_t *second, size_t second_len,
+                                        uint32_t *room, size_t room_len, uint32_t *table, size_t table_len);
 
 /* What reading or writing a node file says. number 0: done, with the number of nodes, and place 0. Any other number: refused; place is
  * as in the table, nodes is 0. */

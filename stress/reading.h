@@ -3,6 +3,9 @@
 #define READING_H
 
 #include "../tests/c/operations.h"
+
+/* As many pairs as are counted out. */
+#define PAIRS_COUNTED 20000
 #include <stdlib.h>
 
 typedef struct {
@@ -163,6 +166,27 @@ static inline Refused reading_words(const uint32_t *w, size_t len, size_t bytes)
         if (w[3 * p] > UINT16_MAX) return (Refused){55, p};
     }
     return (Refused){0, 0};
+}
+
+/* How many pairs of nodes two accepted diagrams of one variable count reach; more than `most` are not counted out. */
+static inline size_t reading_pairs(const uint32_t *a, size_t a_len, const uint32_t *b, size_t b_len, size_t most) {
+    static bool met[HOUAYLETAN_NODES][HOUAYLETAN_NODES];
+    static uint32_t queue[PAIRS_COUNTED + 2][2];
+    size_t count = 1;
+    queue[0][0] = (uint32_t)(a_len / 3 - 1), queue[0][1] = (uint32_t)(b_len / 3 - 1);
+    met[queue[0][0]][queue[0][1]] = true;
+    for (size_t i = 0; i < count && count <= most; i++) {
+        uint32_t p = queue[i][0], q = queue[i][1];
+        if (p < 2 && q < 2) continue;
+        /* node 1 of a one-node diagram is not there, and is not looked at */
+        uint32_t x = p < 2 ? a[0] : a[3 * p], y = q < 2 ? b[0] : b[3 * q], at = x < y ? x : y;
+        for (int side = 1; side < 3; side++) {
+            uint32_t to_p = x == at ? a[3 * p + side] : p, to_q = y == at ? b[3 * q + side] : q;
+            if (!met[to_p][to_q]) met[to_p][to_q] = true, queue[count][0] = to_p, queue[count][1] = to_q, count++;
+        }
+    }
+    for (size_t i = 0; i < count; i++) met[queue[i][0]][queue[i][1]] = false;
+    return count;
 }
 
 #endif

@@ -1,14 +1,18 @@
 /* Random and damaged words through the C interface, with guard words around every lent buffer:
  *
  *     stress SEED REQUESTS [GUARD]   GUARD words on each side, 16 unless given; 0 for a memory checker, which sees the first
- *                                    word beyond a buffer by itself; and a quarter as many node files more, with guard bytes
+ *                                    word beyond a buffer by itself; and a quarter as many node files more, with guard bytes, and
+ *                                    a quarter as many comparisons of two diagrams
  *     stress deep                    the longest paths, each operation on a stack of its own: how many bytes of it are used
  *
  * Of every call: guard words, input, room and output as the header says; number and place as a reading of the table says; and
  * of an answer what can be seen from outside (a result is accepted, a cut goes the right way and meets its target; reduced where it
  * must be, by a reduction of its own, and the input's words where as_is keeps them; node 0 weighs nothing, node 1 and the root as
  * much as the count, which the count and weights together give too, and no node more). Of every node file: guards, input and what is
- * beyond the result; number and place; words and bytes by another way of reading them; and the way back. */
+ * beyond the result; number and place; words and bytes by another way of reading them; and the way back. Of every comparison: guards,
+ * inputs, room and table; number, place and diagram; the pairs counted by another search; both counts add up to the diagrams' own; the
+ * smallest is a difference; and of few variables counts and smallest by looking at every valuation. */
+#include "../tests/c/comparing.h"
 #include "../tests/c/files.h"
 #include "reading.h"
 #include <pthread.h>
@@ -390,6 +394,111 @@ static void tell_files(void) {
     printf("\n");
 }
 
+/* ---- two diagrams */
+
+static uint32_t others[3 * MOST];
+static unsigned long comparisons, comparison_refused[2][64], alike, tried_out; /* by number, of the first or none and of the second */
+
+/* What stands in words goes to the others, and new words come beside them: of the same variable count mostly, and at times the same diagram
+ * with a link changed. */
+static void any_two(size_t *first_len, size_t *second_len) {
+    size_t len = any_words();
+    memcpy(others, words, 4 * len);
+    *second_len = len;
+    if (one_in(3)) {
+        if (len >= 9 && one_in(2)) words[3 * (2 + below(len / 3 - 2)) + 1 + below(2)] = (uint32_t)below(2);
+        *first_len = len;
+        return;
+    }
+    *first_len = any_words();
+    if (one_in(8) || *first_len < 3 || len < 3) return;
+    uint32_t vars = words[0] > others[0] ? words[0] : others[0];
+    words[0] = others[0] = vars;
+    if (*first_len >= 6) words[3] = vars;
+    if (len >= 6) others[3] = vars;
+}
+
+static Refused reading_two(size_t first_len, size_t second_len, size_t room_len, size_t pairs, size_t table_len, uint32_t *which) {
+    Refused refused = reading(words, first_len, room_len, NO_OUTPUT, 0);
+    *which = 0;
+    if (refused.number) return refused;
+    refused = reading(others, second_len, room_len, NO_OUTPUT, 0);
+    *which = refused.number != 0;
+    if (refused.number) return refused;
+    if (words[0] != others[0]) return (Refused){31, 0};
+    return (Refused){pairs > table_len / HOUAYLETAN_PAIR_WORDS ? 32 : 0, 0};
+}
+
+/* Every valuation in turn, where there are few. */
+static const char *wrong_by_trial(const PairLoan *l, const HouayletanComparison *r) {
+    uint32_t first = 0, second = 0, both = 0, smallest = UINT32_MAX, vars = r->verdict.vars;
+    if (vars > 8) return NULL;
+    for (uint32_t number = 0; number < (uint32_t)1 << vars; number++) {
+        const uint32_t valuation[COUNT_WORDS] = {number};
+        bool a = holds_for(l->first.words, l->first.len, valuation), b = holds_for(l->second.words, l->second.len, valuation);
+        first += a && !b, second += b && !a, both += a && b;
+        if (a != b && smallest == UINT32_MAX) smallest = number;
+    }
+    tried_out++;
+    if (first != r->first[0] || second != r->second[0] || both != r->both[0]) return "the counts";
+    return r->differ != (smallest != UINT32_MAX) || (r->differ && smallest != r->smallest[0]) ? "the smallest" : NULL;
+}
+
+static void stop_comparison(const PairLoan *l, const HouayletanComparison *r, Refused expected, uint32_t which, const char *fault) {
+    printf("FAILED: compare: %s\n  expected %u at %zu of %u, got %u at %zu of %u; room %zu, table %zu, words", fault, expected.number, expected.place, which,
+           r->verdict.number, r->verdict.place, r->which, l->room.len, l->table.len);
+    for (size_t i = 0; i < l->first.len; i++) printf(" %u", words[i]);
+    printf("; and");
+    for (size_t i = 0; i < l->second.len; i++) printf(" %u", others[i]);
+    printf("\n");
+    exit(1);
+}
+
+static void check_comparison(const PairLoan *l, const HouayletanComparison *r, size_t pairs) {
+    uint32_t which;
+    Refused expected = reading_two(l->first.len, l->second.len, l->room.len, pairs, l->table.len, &which);
+    const char *fault = wrong_comparison(l, r, words, others);
+    if (!fault && (r->verdict.number != expected.number || r->verdict.place != expected.place || r->which != which)) fault = "another verdict";
+    if (!fault && !expected.number && r->verdict.nodes != pairs) fault = "the pairs";
+    if (!fault && !expected.number) fault = wrong_by_trial(l, r);
+    if (fault) stop_comparison(l, r, expected, which, fault);
+    comparisons++;
+    comparison_refused[which][expected.number]++;
+    alike += !expected.number && !r->differ;
+}
+
+/* How many pairs the two reach, where they are diagrams of one variable count. */
+static size_t pairs_of_two(size_t first_len, size_t second_len) {
+    bool diagrams = !reading(words, first_len, SIZE_MAX, NO_OUTPUT, 0).number && !reading(others, second_len, SIZE_MAX, NO_OUTPUT, 0).number;
+    return diagrams && words[0] == others[0] ? reading_pairs(words, first_len, others, second_len, PAIRS_COUNTED) : below(20);
+}
+
+static void one_comparison(size_t guard) {
+    size_t first_len, second_len;
+    any_two(&first_len, &second_len);
+    size_t pairs = pairs_of_two(first_len, second_len), larger = (first_len > second_len ? first_len : second_len) / 3;
+    size_t room_len = any_length(HOUAYLETAN_ROOM(larger));
+    /* more than are counted out are refused: the table is too short for them */
+    size_t table_len = any_length(HOUAYLETAN_TABLE(pairs > PAIRS_COUNTED ? below(PAIRS_COUNTED) : pairs));
+    PairLoan l = loan_of_pair(words, first_len, others, second_len, room_len, table_len, (uint32_t)next(), guard);
+    HouayletanComparison r = call_compare(&l);
+    check_comparison(&l, &r, pairs);
+    give_pair_back(&l);
+}
+
+static void tell_comparisons(void) {
+    static const char *const names[] = {"the first or none", "the second"};
+    printf("comparisons: %lu, 0 failed; answered %lu, %lu of them where there is no difference, %lu by every valuation", comparisons,
+           comparison_refused[0][0], alike, tried_out);
+    for (int which = 0; which < 2; which++) {
+        printf("; refused of %s", names[which]);
+        for (int i = 1; i < 64; i++) {
+            if (comparison_refused[which][i]) printf(" %d: %lu", i, comparison_refused[which][i]);
+        }
+    }
+    printf("\n");
+}
+
 /* ---- the longest paths */
 
 /* A level for each variable, columns and a tree above them: as many nodes as are taken. Each column goes to itself and to the next one. Order 0:
@@ -463,6 +572,14 @@ static void *file_on_own_stack(void *unused) {
     return unused;
 }
 
+static PairLoan deep_pair;
+static HouayletanComparison deep_comparison;
+
+static void *comparison_on_own_stack(void *unused) {
+    deep_comparison = call_compare(&deep_pair);
+    return unused;
+}
+
 static size_t stack_used(void (*start)(void)) {
     memset(stack, 0xC3, STACK);
     start();
@@ -521,7 +638,18 @@ static int deep(void) {
         give_file_back(&deep_file);
         printf("  %-32s %zu\n", writes ? "write_as_bytes" : "read_as_bytes", used > idle ? used - idle : 0);
     }
-    printf("stress deep: %lu calls, %lu of them to a target that is met, 0 failed; node files: %lu, 0 failed\n", made, reduced, files);
+    thread_body = comparison_on_own_stack;
+    for (int turn = 0; turn < 4; turn++) {
+        size_t second_len = ladder(turn % 2, 0);
+        memcpy(others, words, 4 * second_len);
+        size_t len = ladder(0, (uint32_t)turn / 2), pairs = pairs_of_two(len, second_len);
+        deep_pair = loan_of_pair(words, len, others, second_len, HOUAYLETAN_ROOM(HOUAYLETAN_NODES), HOUAYLETAN_TABLE(pairs), 77, 16);
+        size_t used = stack_used(start_thread);
+        check_comparison(&deep_pair, &deep_comparison, pairs);
+        give_pair_back(&deep_pair);
+        printf("  %-32s %zu (%zu pairs)\n", "compare", used > idle ? used - idle : 0, pairs);
+    }
+    printf("stress deep: %lu calls, %lu of them to a target that is met, 0 failed; node files: %lu, 0 failed; comparisons: %lu, 0 failed\n", made, reduced, files, comparisons);
     return 0;
 }
 
@@ -536,6 +664,7 @@ int main(int argc, char **argv) {
     size_t guard = argc > 3 ? strtoul(argv[3], NULL, 10) : 16;
     while (made < requests) one_request(guard);
     while (files < requests / 4) one_file(guard);
+    while (comparisons < requests / 4) one_comparison(guard);
     printf("targets that the array meets: %lu with as_is; %lu without, %lu of these to other words\n", kept, reduced, reworded);
     printf("answered with more than %d variables: %lu; of 2^%d or more: %lu counts, %lu targets\n", FIRST_VARS, many_vars, 32 * FIRST_WORDS,
            wide_counts, wide_targets);
@@ -545,5 +674,6 @@ int main(int argc, char **argv) {
     }
     printf("\n");
     tell_files();
+    tell_comparisons();
     return 0;
 }

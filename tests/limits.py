@@ -1,10 +1,11 @@
-"""The numbers of document 01 for all scripts, each once. The library's own are crates/diagram/src/limits.rt, naturals::WORDS and
-crates/blocks/src/layout.rt; papers.py holds these to them. The node file's is docs/NODE-FILES.md's."""
+"""The numbers of document 01 for all scripts, each once. The library's own are crates/diagram/src/limits.rt, naturals::WORDS,
+crates/pairs/src/table.rt and crates/blocks/src/layout.rt; papers.py holds these to them. The node file's is docs/NODE-FILES.md's."""
 
 MAX_NODES = 4096        # the most nodes of a diagram
 MAX_VARS = 511          # the most variables
 ROOM = 128              # words of working room for each node
 COUNT = 16              # words of a count
+PAIR = 64               # words of a pair of nodes in the table of a comparison
 BLOCK = 512             # bytes of a block
 BLOCK_NODES = 50        # nodes of a whole block
 FILE_NODES = 120        # the most nodes of a block file

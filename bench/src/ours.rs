@@ -40,6 +40,17 @@ pub struct Natural {
 }
 
 #[repr(C)]
+pub struct Comparison {
+    pub verdict: Verdict,
+    pub which: u32,
+    pub differ: u32,
+    pub first: [u32; COUNT_WORDS],
+    pub second: [u32; COUNT_WORDS],
+    pub both: [u32; COUNT_WORDS],
+    pub smallest: [u32; COUNT_WORDS],
+}
+
+#[repr(C)]
 pub struct Stored {
     pub number: u32,
     pub place: usize,
@@ -77,12 +88,19 @@ extern "C" {
     fn houayletan_read_as_bytes(bytes: *const u8, bytes_len: usize, output: *mut u32, output_len: usize) -> Stored;
     #[link_name = linked!(write_as_bytes)]
     fn houayletan_write_as_bytes(words: *const u32, words_len: usize, bytes: *mut u8, bytes_len: usize) -> Stored;
+    #[link_name = linked!(compare)]
+    fn houayletan_compare(first: *const u32, first_len: usize, second: *const u32, second_len: usize, room: *mut u32, room_len: usize, table: *mut u32, table_len: usize) -> Comparison;
     #[link_name = linked!(reduce)]
     fn houayletan_reduce(words: *const u32, words_len: usize, room: *mut u32, room_len: usize, output: *mut u32, output_len: usize) -> Diagram;
 }
 
 pub fn validate(words: &[u32], room: &mut [u32]) -> Verdict {
     unsafe { houayletan_validate(words.as_ptr(), words.len(), room.as_mut_ptr(), room.len()) }
+}
+
+pub fn compare(first: &[u32], second: &[u32], room: &mut [u32], table: &mut [u32]) -> Comparison {
+    let (lent, len) = (table.as_mut_ptr(), table.len());
+    unsafe { houayletan_compare(first.as_ptr(), first.len(), second.as_ptr(), second.len(), room.as_mut_ptr(), room.len(), lent, len) }
 }
 
 pub fn clear(room: &mut [u32], count: usize) {

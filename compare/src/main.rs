@@ -2,6 +2,7 @@
 //!
 //!     houayletan-compare SEED REQUESTS          compares; the first difference is printed as a line for tests/c/replay.c
 //!     houayletan-compare store SEED REQUESTS    prints requests with the expected answers, for tests/c/replay.txt
+mod comparing;
 mod files;
 mod generate;
 mod random;
@@ -22,6 +23,9 @@ const FILES_ONE_IN: u64 = 4;
 
 /// Node files among the stored requests, after the others.
 const STORED_FILES: u64 = 400;
+
+/// Comparisons among them, after these.
+const STORED_COMPARISONS: u64 = 400;
 
 /// The most nodes of a request's diagram: many small ones, some of every size.
 fn most_nodes(random: &mut Random) -> usize {
@@ -182,7 +186,8 @@ fn main() {
     let random = &mut Random(seed);
     if store {
         self::store(random, requests);
-        return files::store(seed, STORED_FILES);
+        files::store(seed, STORED_FILES);
+        return comparing::store(seed, STORED_COMPARISONS);
     }
 
     let mut tally = vec![[0u64; 2]; OPERATIONS.len()];
@@ -253,6 +258,7 @@ fn main() {
         println!("| {name} | {whole} | {damaged} |");
     }
     files::compare(seed, requests / FILES_ONE_IN);
+    comparing::compare(seed, requests);
 }
 
 /// Small diagrams, and a few large ones. The searches come up three times as often as the others, with more nodes.

@@ -15,7 +15,13 @@
  *   read_as_bytes, number of bytes, the bytes, length of the output, seed, '=', number, place, nodes, number of output words, and these
  *   words, or '#' and their sum;
  *   write_as_bytes, number of words, the words, length of the bytes, seed, '=', number, place, nodes, number of bytes written, and these
- *   bytes, or '#' and the sum of as many words. */
+ *   bytes, or '#' and the sum of as many words.
+ *
+ * Of two diagrams:
+ *
+ *   compare, number of words and the words of the first, and the same of the second, length of the room, length of the table, seed, '=',
+ *   number, place, pairs, vars, which, differ, and the words of four counts: first only, second only, both, the smallest. */
+#include "comparing.h"
 #include "files.h"
 #include <inttypes.h>
 
@@ -108,6 +114,37 @@ static const char *replay_file(bool writes) {
     return fault;
 }
 
+/* NULL, or what is wrong with the answer to a line that asks for two diagrams to be compared. */
+static const char *replay_comparison(void) {
+    static uint32_t second[3 * MOST];
+    size_t len = numbers(words, sizeof words / 4), second_len = numbers(second, sizeof second / 4), room_len = number(), table_len = number();
+    uint32_t seed = (uint32_t)number(), counts[4][HOUAYLETAN_COUNT_WORDS];
+    mark('=');
+    HouayletanComparison expected;
+    expected.verdict.number = (uint32_t)number();
+    expected.verdict.place = number();
+    expected.verdict.nodes = number();
+    expected.verdict.vars = (uint32_t)number();
+    expected.which = (uint32_t)number();
+    expected.differ = (uint32_t)number();
+    for (int k = 0; k < 4; k++) {
+        for (int i = 0; i < HOUAYLETAN_COUNT_WORDS; i++) counts[k][i] = (uint32_t)number();
+    }
+    mark('\n');
+    PairLoan l = loan_of_pair(words, len, second, second_len, room_len, table_len, seed, 16);
+    HouayletanComparison r = call_compare(&l);
+    const char *fault = wrong_comparison(&l, &r, words, second);
+    const HouayletanVerdict *a = &r.verdict, *b = &expected.verdict;
+    if (!fault && (a->number != b->number || a->place != b->place || a->nodes != b->nodes || a->vars != b->vars)) fault = "verdict";
+    if (!fault && (r.which != expected.which || r.differ != expected.differ)) fault = "which or differ";
+    const uint32_t *said[] = {r.first, r.second, r.both, r.smallest};
+    for (int k = 0; k < 4 && !fault; k++) {
+        if (memcmp(said[k], counts[k], sizeof counts[k])) fault = "a count or the smallest";
+    }
+    give_pair_back(&l);
+    return fault;
+}
+
 int main(int argc, char **argv) {
     if (argc != 2 || !(in = fopen(argv[1], "r"))) {
         fprintf(stderr, "usage: replay FILE\n");
@@ -116,9 +153,9 @@ int main(int argc, char **argv) {
     unsigned long passed = 0, failed = 0;
     char name[64];
     while (fscanf(in, "%63[a-z_]", name) == 1) {
-        bool writes = strcmp(name, "write_as_bytes") == 0;
-        if (writes || strcmp(name, "read_as_bytes") == 0) {
-            const char *fault = replay_file(writes);
+        bool writes = strcmp(name, "write_as_bytes") == 0, compares = strcmp(name, "compare") == 0;
+        if (writes || compares || strcmp(name, "read_as_bytes") == 0) {
+            const char *fault = compares ? replay_comparison() : replay_file(writes);
             if (fault) printf("FAILED: line %lu, %s: %s\n", line, name, fault);
             fault ? failed++ : passed++;
             line++;

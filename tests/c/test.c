@@ -1,5 +1,6 @@
 /* The archive as a C program sees it: worked examples, every row of the tables of refusals, lengths exact and one short,
  * and what a call leaves in the lent buffers. Prints what fails; the last line has the counts. */
+#include "comparing.h"
 #include "files.h"
 
 static int passed, failed;
@@ -529,8 +530,193 @@ static void node_files(void) {
     writes(file_words, 3 * HOUAYLETAN_NODES + 3, HOUAYLETAN_BYTES(HOUAYLETAN_NODES + 1), 53, 0);
 }
 
+/* ---- two diagrams */
+
+static void tell_comparison(const HouayletanComparison *r, uint32_t number, size_t place, uint32_t which) {
+    bool right = r->verdict.number == number && r->verdict.place == place && r->which == which;
+    expect(right, "number, place and diagram", "compare");
+    if (!right) printf("  got %u at %zu of %u, not %u at %zu of %u\n", r->verdict.number, r->verdict.place, r->which, number, place, which);
+}
+
+/* A call over what is lent, with guards all around, and what it must say. */
+static HouayletanComparison compares(const uint32_t *first, size_t first_len, const uint32_t *second, size_t second_len, size_t room_len,
+                                     size_t table_len, uint32_t number, size_t place, uint32_t which) {
+    PairLoan l = loan_of_pair(first, first_len, second, second_len, room_len, table_len, (uint32_t)(first_len + second_len), 16);
+    HouayletanComparison r = call_compare(&l);
+    const char *fault = wrong_comparison(&l, &r, first, second);
+    expect(!fault, fault, "compare");
+    tell_comparison(&r, number, place, which);
+    give_pair_back(&l);
+    return r;
+}
+
+static size_t larger(size_t a, size_t b) { return a > b ? a : b; }
+
+/* The same with room for both, and for as many pairs as are asked for. */
+static HouayletanComparison compares_in(const uint32_t *first, size_t first_len, const uint32_t *second, size_t second_len, size_t pairs,
+                                        uint32_t number) {
+    size_t room_len = HOUAYLETAN_ROOM(larger(first_len, second_len) / 3);
+    return compares(first, first_len, second, second_len, room_len, HOUAYLETAN_TABLE(pairs), number, 0, 0);
+}
+
+/* How many pairs two reduced diagrams of three variables reach, by looking at each word of up to three bits. */
+static size_t pairs_of_three(const uint32_t *first, size_t first_len, const uint32_t *second, size_t second_len) {
+    bool met[16][16] = {{false}};
+    size_t count = 0;
+    for (uint32_t bits = 0; bits < 8; bits++) {
+        size_t p = first_len / 3 - 1, q = second_len / 3 - 1;
+        for (;;) {
+            if (!met[p][q]) met[p][q] = true, count++;
+            if (p < 2 && q < 2) break;
+            uint32_t x = first[3 * p], y = second[3 * q], at = x < y ? x : y, side = 1 + (bits >> (2 - at) & 1);
+            if (x == at) p = first[3 * p + side];
+            if (y == at) q = second[3 * q + side];
+        }
+    }
+    return count;
+}
+
+/* The reduced diagram of a function of three variables: bit 4 x0 + 2 x1 + x2 of `holds` is its value. */
+static size_t of_three(uint32_t holds, uint32_t *words) {
+    uint32_t tree[27] = {3, 0, 0, 3, 1, 1}, reduced[27];
+    for (uint32_t i = 0; i < 4; i++) tree[6 + 3 * i] = 2, tree[7 + 3 * i] = holds >> 2 * i & 1, tree[8 + 3 * i] = holds >> (2 * i + 1) & 1;
+    for (uint32_t i = 0; i < 2; i++) tree[18 + 3 * i] = 1, tree[19 + 3 * i] = 2 + 2 * i, tree[20 + 3 * i] = 3 + 2 * i;
+    tree[24] = 0, tree[25] = 6, tree[26] = 7;
+    HouayletanDiagram r = houayletan_reduce(tree, LEN(tree), room, LEN(room), reduced, LEN(reduced));
+    memcpy(words, reduced, 12 * r.nodes);
+    return 3 * r.nodes;
+}
+
+static uint32_t bits_of(uint32_t x) { return x ? (x & 1) + bits_of(x >> 1) : 0; }
+
+/* Every two functions of three variables: counts, the smallest, the pairs, and one place too few. */
+static void every_two(void) {
+    static uint32_t words[256][27];
+    static size_t lens[256];
+    for (uint32_t f = 0; f < 256; f++) lens[f] = of_three(f, words[f]);
+    for (uint32_t f = 0; f < 256; f++) {
+        for (uint32_t g = 0; g < 256; g++) {
+            size_t pairs = pairs_of_three(words[f], lens[f], words[g], lens[g]);
+            HouayletanComparison r = compares_in(words[f], lens[f], words[g], lens[g], pairs, 0);
+            uint32_t smallest = 0;
+            while (f != g && (f >> smallest & 1) == (g >> smallest & 1)) smallest++;
+            expect(r.verdict.nodes == pairs, "the pairs", "compare");
+            expect(r.first[0] == bits_of(f & ~g) && r.second[0] == bits_of(g & ~f) && r.both[0] == bits_of(f & g), "the counts", "compare");
+            expect(r.differ == (f != g) && r.smallest[0] == smallest, "the smallest", "compare");
+            compares_in(words[f], lens[f], words[g], lens[g], pairs - 1, 32);
+        }
+    }
+}
+
+/* Cuts of some diagrams beside them: from below nothing is new, from above nothing is lost. */
+static void cuts_beside(void) {
+    static uint32_t words[27], cut[27];
+    static const char *const names[] = {"underapproximate", "overapproximate", "underapproximate_to_size", "overapproximate_to_size"};
+    for (uint32_t f = 0; f < 256; f++) {
+        size_t len = of_three(f, words);
+        for (size_t k = 0; k < LEN(names); k++) {
+            const Operation *o = operation(names[k]);
+            for (uint32_t p = 2; p < len / 3; p++) {
+                Request q = asks(words, len);
+                q.list = &p, q.list_len = o->argument == LIST, q.target[0] = p, q.output_len = len;
+                Reply made = call(o, &q);
+                expect(made.verdict.number == 0, "a cut", names[k]);
+                memcpy(cut, output, 4 * made.written);
+                HouayletanComparison r = compares_in(cut, made.written, words, len, 64, 0);
+                expect(is_zero(k % 2 ? r.second : r.first), "a cut goes one way only", names[k]);
+            }
+        }
+    }
+}
+
+/* Each refusal before the next, and what is left of room and table: compares() looks at both. */
+static void refused_comparisons(void) {
+    static const uint32_t X0[] = {1, 0, 0, 1, 1, 1, 0, 0, 1}, FALSE1[] = {1, 0, 0}, FALSE0[] = {0, 0, 0}, TRUE0[] = {0, 0, 0, 0, 1, 1};
+    static const struct {
+        size_t len;
+        uint32_t words[12], number;
+        size_t place;
+    } cases[] = {
+        {0, {0}, 1, 0},
+        {4, {1, 0, 0, 1}, 2, 0},
+        {6, {1, 0, 0, 1, 1, 0}, 6, 1},
+        {3, {VARS + 1, 0, 0}, 7, 0},
+        {9, {1, 0, 0, 1, 1, 1, 1, 0, 1}, 8, 2},
+        {9, {1, 0, 0, 1, 1, 1, 0, 3, 1}, 9, 2},
+        {9, {1, 0, 0, 1, 1, 1, 0, 0, 3}, 10, 2},
+        {9, {1, 0, 0, 1, 1, 1, 0, 2, 1}, 11, 2},
+        {9, {1, 0, 0, 1, 1, 1, 0, 1, 2}, 17, 2},
+        {12, {1, 0, 0, 1, 1, 1, 0, 0, 1, 0, 0, 1}, 12, 2},
+    };
+    static uint32_t many[3 * (HOUAYLETAN_NODES + 1)];
+    memcpy(many, TRUE3, sizeof TRUE3);
+    const size_t large = HOUAYLETAN_ROOM(4);
+    for (size_t i = 0; i < LEN(cases); i++) {
+        const uint32_t *w = cases[i].words;
+        size_t len = cases[i].len, place = cases[i].place;
+        /* in a room that is just long enough, and in a longer one; a table of nothing hides nothing */
+        for (size_t more = 0; more < 300; more += 100) {
+            compares(w, len, X0, LEN(X0), HOUAYLETAN_ROOM(len / 3) + more, more, cases[i].number, place, 0);
+            compares(w, len, w, len, large + more, 64 + more, cases[i].number, place, 0);
+            compares(X0, LEN(X0), w, len, large + more, 130, cases[i].number, place, 1);
+            compares(D, LEN(D), w, len, HOUAYLETAN_ROOM(5) + more, more, cases[i].number, place, 1);
+            compares(FALSE0, LEN(FALSE0), w, len, large + more, more, cases[i].number, place, 1);
+        }
+    }
+    compares(many, LEN(many), X0, LEN(X0), LEN(room), 64, 3, 0, 0);
+    compares(X0, LEN(X0), many, LEN(many), LEN(room), 64, 3, 0, 1);
+    /* the room: too short for the first; long enough for it and not for the second, which comes before 31 */
+    compares(D, LEN(D), X0, LEN(X0), HOUAYLETAN_ROOM(5) - 1, 640, 5, 0, 0);
+    compares(X0, LEN(X0), D, LEN(D), HOUAYLETAN_ROOM(5) - 1, 640, 5, 0, 1);
+    compares(X0, LEN(X0), D, LEN(D), HOUAYLETAN_ROOM(3), 640, 5, 0, 1);
+    compares(X0, LEN(X0), X0, LEN(X0), 0, 640, 5, 0, 0);
+    compares(FALSE1, LEN(FALSE1), FALSE1, LEN(FALSE1), HOUAYLETAN_ROOM(1) - 1, 64, 5, 0, 0);
+    /* 31, before 32; then 32, by whole pairs */
+    compares(X0, LEN(X0), D, LEN(D), HOUAYLETAN_ROOM(5), 0, 31, 0, 0);
+    compares(D, LEN(D), X0, LEN(X0), HOUAYLETAN_ROOM(5) + 9, 650, 31, 0, 0);
+    compares(FALSE0, LEN(FALSE0), FALSE1, LEN(FALSE1), HOUAYLETAN_ROOM(1), 64, 31, 0, 0);
+    for (size_t len = 0; len < HOUAYLETAN_TABLE(5); len++) {
+        /* false and x0 reach three pairs, and false beside itself one */
+        compares(FALSE1, LEN(FALSE1), X0, LEN(X0), HOUAYLETAN_ROOM(3), len, len < HOUAYLETAN_TABLE(3) ? 32 : 0, 0, 0);
+        compares(FALSE1, LEN(FALSE1), FALSE1, LEN(FALSE1), HOUAYLETAN_ROOM(1), len, len < HOUAYLETAN_TABLE(1) ? 32 : 0, 0, 0);
+    }
+    /* no variables: the empty valuation is the smallest, or there is none */
+    expect(compares_in(FALSE0, LEN(FALSE0), TRUE0, LEN(TRUE0), 1, 0).differ == 1, "the empty valuation", "compare");
+    expect(compares_in(TRUE0, LEN(TRUE0), TRUE0, LEN(TRUE0), 1, 0).differ == 0, "no difference", "compare");
+}
+
+/* The valuations below one number beside those below another: they differ from the smaller one on. */
+static void wide_comparisons(void) {
+    static uint32_t words[3 * (VARS + 2)], others[LEN(words)];
+    uint32_t number[HOUAYLETAN_COUNT_WORDS], higher[HOUAYLETAN_COUNT_WORDS];
+    for (uint32_t i = 0; i < VARS; i = next_edge(i)) {
+        for (uint32_t j = i + 1; j <= VARS; j = next_edge(j)) {
+            sum_of((Sum){1, {i}}, number), sum_of((Sum){2, {i, j}}, higher);
+            if (j == VARS) higher[i / 32] &= ~((uint32_t)1 << i % 32);
+            size_t len = below(number, words), other_len = below(higher, others);
+            HouayletanComparison r = compares_in(words, len, others, other_len, 4 * VARS, 0);
+            expect(is_zero(r.first) && memcmp(r.both, number, sizeof number) == 0, "wide counts", "compare");
+            expect(r.differ == 1 && memcmp(r.smallest, number, sizeof number) == 0, "a wide smallest", "compare");
+            r = compares_in(others, other_len, words, len, 4 * VARS, 0);
+            expect(is_zero(r.second) && adds_up(r.first, number, higher), "wide counts", "compare");
+        }
+    }
+    /* the most nodes, beside themselves and beside their negation */
+    static uint32_t most[3 * HOUAYLETAN_NODES], negation[3 * HOUAYLETAN_NODES];
+    size_t len = longest(most);
+    HouayletanComparison r = compares_in(most, len, most, len, HOUAYLETAN_NODES, 0);
+    expect(r.differ == 0 && r.verdict.nodes <= HOUAYLETAN_NODES, "the most nodes beside themselves", "compare");
+    houayletan_not(most, len, room, LEN(room), negation, LEN(negation));
+    r = compares_in(most, len, negation, len, HOUAYLETAN_NODES, 0);
+    expect(r.differ == 1 && is_zero(r.both) && is_zero(r.smallest), "the most nodes beside their negation", "compare");
+}
+
 int main(void) {
     node_files();
+    every_two();
+    cuts_beside();
+    refused_comparisons();
+    wide_comparisons();
     for (size_t i = 0; i < OPERATIONS; i++) {
         refusals(&operations[i], 0);
         limits(&operations[i], 0);

@@ -14,7 +14,7 @@
 //! assert_eq!(output[..6], [1, 0, 0, 1, 1, 1]);
 //! assert_eq!(lent::reduce(&words, &mut room[1..], &mut output).verdict.number, 5);
 //! ```
-use crate::limits::{linked, BYTES_PER_NODE, ROOM_PER_NODE};
+use crate::limits::{linked, BYTES_PER_NODE, PAIR_WORDS, ROOM_PER_NODE};
 use crate::Count;
 
 /// Words of working room for a diagram of that many nodes.
@@ -25,6 +25,11 @@ pub const fn room_for(nodes: usize) -> usize {
 /// Words of a diagram output for a diagram of that many nodes.
 pub const fn output_for(nodes: usize) -> usize {
     3 * if nodes < 2 { 2 } else { nodes }
+}
+
+/// Words of a table for that many pairs of nodes.
+pub const fn table_for(pairs: usize) -> usize {
+    PAIR_WORDS * pairs
 }
 
 /// Bytes of a node file of that many nodes.
@@ -81,6 +86,21 @@ pub struct Approximation {
     pub verdict: Verdict,
     pub nodes: usize,
     pub trials: usize,
+}
+
+/// What two diagrams are beside each other. Accepted, the verdict's nodes are the pairs of nodes reached. `which` is the diagram that a
+/// refusal is about, 0 or 1; 0 where it is about none. `differ` is 1 or 0; `smallest` is a number whose highest bit of the variable count's
+/// is variable 0. All but the verdict and `which` is 0 where it is refused.
+#[derive(Clone, Copy, Debug, Eq, PartialEq)]
+#[repr(C)]
+pub struct Compared {
+    pub verdict: Verdict,
+    pub which: u32,
+    pub differ: u32,
+    pub first: Count,
+    pub second: Count,
+    pub both: Count,
+    pub smallest: Count,
 }
 
 /// What reading or writing a node file says. Number 0: done, with the number of nodes. Else refused, and there are none.
@@ -190,6 +210,20 @@ pub fn clear(room: &mut [u32], count: usize) {
         fn symbol(room: *mut u32, room_len: usize, count: usize);
     }
     unsafe { symbol(room.as_mut_ptr(), room.len(), count) }
+}
+
+/// [`crate::compare`], over what is lent: a room for the larger of the two ([`room_for`]) and a table ([`table_for`]). It is refused 32
+/// where more pairs are reached than the table has whole places for.
+pub fn compare(first: &[u32], second: &[u32], room: &mut [u32], table: &mut [u32]) -> Compared {
+    extern "C" {
+        #[link_name = linked!(compare)]
+        fn symbol(
+            first: *const u32, first_len: usize, second: *const u32, second_len: usize,
+            room: *mut u32, room_len: usize, table: *mut u32, table_len: usize,
+        ) -> Compared;
+    }
+    let (one, other) = ((first.as_ptr(), first.len()), (second.as_ptr(), second.len()));
+    unsafe { symbol(one.0, one.1, other.0, other.1, room.as_mut_ptr(), room.len(), table.as_mut_ptr(), table.len()) }
 }
 
 /// [`crate::read_as_bytes`], over what is lent: the words are the first of the output, 3 for each node. Besides 51, 53 and 52 it is

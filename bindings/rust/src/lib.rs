@@ -5,7 +5,7 @@
 //! root is the last node. At most [`MOST_NODES`] nodes and [`MOST_VARS`] variables; nodes may stand in any order.
 //!
 //! Any words may be offered. What is no diagram is refused with a number, a place and a sentence ([`Refusal`]): *the diagram's
-//! own* refusals are 1 to 12 and 17. Each function here allocates its output and its working room, so that 4, 5 and 54 don't come
+//! own* refusals are 1 to 12 and 17. Each function here allocates its output and its working room, so that 4, 5, 32 and 54 don't come
 //! up; in [`lent`] the caller lends them. [`swapping`] is for who comes from biodivine-lib-bdd.
 //!
 //! ```
@@ -23,6 +23,7 @@
 //! ```
 #![warn(missing_docs)]
 
+mod comparison;
 mod count;
 mod refusal;
 
@@ -31,6 +32,7 @@ pub mod lent;
 pub mod limits;
 pub mod swapping;
 
+pub use comparison::{compare, Comparison, RefusedComparison, Valuation};
 pub use count::Count;
 pub use limits::{MOST_NODES, MOST_VARS};
 pub use refusal::Refusal;
@@ -455,7 +457,7 @@ mod tests {
             let sentence = Refusal { number, place: 0 }.sentence();
             assert_eq!(sentence.replace(',', ""), format!("there are more than {MOST_NODES} nodes"));
         }
-        for number in (1..=19).filter(|n| *n != 15).chain(51..=55) {
+        for number in (1..=19).filter(|n| *n != 15).chain(31..=32).chain(51..=55) {
             let refusal = Refusal { number, place: 7 };
             assert!(!refusal.sentence().contains("no table"), "{number}");
             assert!(refusal.to_string().starts_with(&format!("refused {number} at 7: ")));

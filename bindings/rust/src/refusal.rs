@@ -18,7 +18,7 @@ fn in_threes(n: usize) -> String {
 /// ```
 #[derive(Clone, Copy, Debug, Eq, Hash, PartialEq)]
 pub struct Refusal {
-    /// 1 to 19, but 15; 51 to 55 of node files.
+    /// 1 to 19, but 15; 31 and 32 of two diagrams; 51 to 55 of node files.
     pub number: u32,
     /// A node, a place in the list of a cut, or 0.
     pub place: usize,
@@ -47,6 +47,8 @@ impl Refusal {
             17 => format!("node {place} has a high child that is not at a larger variable"),
             18 => "no answer has so few nodes; 2 are always enough".into(),
             19 => "a constant can't be cut to a count between 0 and the number of all valuations".into(),
+            31 => "the diagrams have different variable counts".into(),
+            32 => "more pairs of nodes are reached than the table holds".into(),
             51 => "the file is empty".into(),
             52 => "the length of the file is not a multiple of ten bytes".into(),
             53 => format!("there are more than {} nodes", in_threes(MOST_NODES)),

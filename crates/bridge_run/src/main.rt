@@ -1,12 +1,14 @@
 // Asks exported functions, one for each struct that they answer with, of the diagram D of document 01: number, place, nodes and vars
 // of the verdict, then the value. Then a cut to a size that is met, x1 under a root with low = high: reduced, and as it is. Then a
-// refusal: two nodes of which the second is no terminal. Then node files: a variable is too wide, and the bytes read as they were; D,
-// there and back; and a byte is missing.
+// refusal: two nodes of which the second is no terminal. Then D beside x2, in a table for their seven pairs and in one for six; and the
+// two words that are no diagram in second place. Then node files: a variable is too wide, and the bytes read as they were; D, there and
+// back; and a byte is missing.
 use diagram::limits::ROOM_PER_NODE;
 use diagram::node::word;
 use houayletan::HouayletanStored;
 use houayletan::HouayletanVerdict;
 use houayletan::asking::houayletan_is_false_3;
+use houayletan::comparing::houayletan_compare_3;
 use houayletan::cutting::houayletan_overapproximate_3;
 use houayletan::cutting::houayletan_underapproximate_to_size_3;
 use houayletan::houayletan_exact_cardinality_3;
@@ -14,6 +16,7 @@ use houayletan::houayletan_validate_3;
 use houayletan::storing::houayletan_read_as_bytes_3;
 use houayletan::storing::houayletan_write_as_bytes_3;
 use libc::STDOUT_FILENO;
+use pairs::table::PAIR_WORDS;
 
 fn say(text: &[u8], value: u64) {
     io::write_all(STDOUT_FILENO, text);
@@ -73,6 +76,30 @@ fn cut_to_size(words: &[u32], as_is: u32, room: &mut [u32], output: &mut [u32]) 
     end_line();
 }
 
+fn compare(first: &[u32], second: &[u32], room: &mut [u32], table: &mut [u32]) {
+    let answer = houayletan_compare_3(first, second, room, table);
+    let verdict = answer.verdict;
+    let first_only = answer.first;
+    let second_only = answer.second;
+    let both = answer.both;
+    let smallest = answer.smallest;
+    say_verdict(verdict);
+    say(b", of ", answer.which as u64);
+    say(b", differ ", answer.differ as u64);
+    say(b", first ", word(&first_only, 0) as u64);
+    say(b", second ", word(&second_only, 0) as u64);
+    say(b", both ", word(&both, 0) as u64);
+    say(b", smallest ", word(&smallest, 0) as u64);
+    end_line();
+}
+
+fn compare_in(first: &[u32], second: &[u32], room: &mut [u32]) {
+    let mut table = [9u32; 7 * PAIR_WORDS];
+    compare(first, second, room, &mut table);
+    let mut short = [9u32; 6 * PAIR_WORDS];
+    compare(first, second, room, &mut short);
+}
+
 fn say_stored(stored: HouayletanStored) {
     say(b"number ", stored.number as u64);
     say(b" place ", stored.place as u64);
@@ -115,5 +142,8 @@ fn main() {
     cut_to_size(&met, 7, &mut room, &mut output);
     let other = [0u32; 6];
     check(&other, &mut room);
+    let last = [3u32, 0, 0, 3, 1, 1, 2, 0, 1];
+    compare_in(&words, &last, &mut room);
+    compare_in(&words, &other, &mut room);
     files(&words);
 }

@@ -9,11 +9,13 @@ use Rattle.diagram.specs.Verdict.{Outcome, accepted, refused, said}
 use Rattle.diagram.specs.declared.verdict.Verdict.{Verdict}
 use Rattle.blocks.specs.Block.{Outcome as Filed, nodes as filed, refused as unfiled, said as saidOf}
 use Rattle.blocks.specs.declared.stored.Stored.{Stored}
+use Rattle.comparison.specs.declared.compare.Compared.{Compared}
 use Rattle.houayletan.specs.declared.HouayletanCount.{HouayletanCount}
 use Rattle.houayletan.specs.declared.HouayletanFloat.{HouayletanFloat}
 use Rattle.houayletan.specs.declared.HouayletanDiagram.{HouayletanDiagram}
 use Rattle.houayletan.specs.declared.HouayletanApproximation.{HouayletanApproximation}
 use Rattle.houayletan.specs.declared.HouayletanAmount.{HouayletanAmount}
+use Rattle.houayletan.specs.declared.HouayletanComparison.{HouayletanComparison}
 use Rattle.houayletan.specs.declared.HouayletanStored.{HouayletanStored}
 use Rattle.houayletan.specs.declared.HouayletanVerdict.{HouayletanVerdict}
 
@@ -63,3 +65,19 @@ flagged x = not (eqb x 0)
 -- A yes as 1 and a no as 0.
 abbrev pub bit : Bool → ℕ
 bit b = cond b 1 0
+
+-- What two diagrams are beside each other, field by field.
+pub record Laid (c : Compared) (r : HouayletanComparison) : Type 0 where
+  pub verdict : r .verdict ≡ flatOf (said (c .verdict))
+  pub which : r .which ≡ c .which
+  pub differ : r .differ ≡ bit (c .differ)
+  pub first : r .first ≡ c .first .words
+  pub second : r .second ≡ c .second .words
+  pub both : r .both ≡ c .both .words
+  pub smallest : r .smallest ≡ c .smallest .words
+
+-- What the comparison promises of its answer, which is then laid flat.
+pub record FlatCompared (promise : Compared → Type 0) (r : HouayletanComparison) : Type 0 where
+  pub compared : Compared
+  pub kept : promise compared
+  pub flat : Laid compared r

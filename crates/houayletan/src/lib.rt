@@ -2,6 +2,7 @@
 // include/houayletan.h declares the same for C. The names end in the number that its HOUAYLETAN_LINKED puts there, so that what was
 // compiled against an older header does not link.
 pub mod asking;
+pub mod comparing;
 pub mod cutting;
 pub mod storing;
 
@@ -74,6 +75,19 @@ pub struct HouayletanApproximation {
     pub verdict: HouayletanVerdict,
     pub nodes: usize,
     pub trials: usize,
+}
+
+// What two diagrams are beside each other: the verdict's nodes are the pairs reached; which diagram a refusal is about; a yes as 1 and a
+// no as 0; and numbers of naturals::WORDS words, least first. All but the verdict and which is zero where one is refused.
+#[repr(C)]
+pub struct HouayletanComparison {
+    pub verdict: HouayletanVerdict,
+    pub which: u32,
+    pub differ: u32,
+    pub first: [u32; naturals::WORDS],
+    pub second: [u32; naturals::WORDS],
+    pub both: [u32; naturals::WORDS],
+    pub smallest: [u32; naturals::WORDS],
 }
 
 // What reading or writing a file says, without an enum: number 0 with the nodes, or a refusal, whose nodes are 0.
