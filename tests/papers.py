@@ -184,7 +184,7 @@ NUMBERS = [
     (LIMITS, "ROOM_PER_NODE", "crates/diagram/specs/Limits.antt", "roomPerNode", "words of working room", "HOUAYLETAN_ROOM_PER_NODE", "ROOM_PER_NODE", "ROOM"),
     ("crates/naturals/src/lib.rt", "WORDS", "crates/naturals/specs/Natural.antt", "wordCount", "words of 32 bits in a count, least first", "HOUAYLETAN_COUNT_WORDS", "COUNT_WORDS", "COUNT"),
     ("crates/naturals/src/lib.rt", "WORDS", "crates/naturals/specs/Natural.antt", "wordCount", "words of a weight output"),
-    ("crates/pairs/src/table.rt", "PAIR_WORDS", "crates/pairs/specs/Table.antt", "pairWords", "words of a pair of nodes in the table of a comparison", "HOUAYLETAN_PAIR_WORDS", "PAIR_WORDS", "PAIR"),
+    ("crates/pairs/src/table.rt", "PAIR_WORDS", "crates/pairs/specs/Pairs.antt", "pairWords", "words of the table of pairs, for each pair", "HOUAYLETAN_PAIR_WORDS", "PAIR_WORDS", "PAIR"),
     ("crates/blocks/src/layout.rt", "BLOCK", "crates/blocks/specs/Block.antt", "blockBytes", "bytes of a block", None, None, "BLOCK"),
     ("crates/blocks/src/layout.rt", "NODES", "crates/blocks/specs/Block.antt", "blockNodes", "nodes in a block, at most", None, None, "BLOCK_NODES"),
     ("crates/blocks/src/layout.rt", "MOST", "crates/blocks/specs/Block.antt", "maxStored", "nodes in a block file, at most", None, None, "FILE_NODES"),
@@ -211,14 +211,15 @@ def section(text, heading):
 
 
 ROW, CONSTANT = r"^\| (\d+) \| ", r"^pub const \w+: u32 = (\d+);$"
-ruled, stored, filed = (numbers(ROW, section(text_of(RULES), heading)) for heading in ("Refusals", "Refusals of block files", "Refusals of node files"))
+ruled, compared, stored, filed = (numbers(ROW, section(text_of(RULES), heading)) for heading in ("Refusals", "Two diagrams compared", "Refusals of block files", "Refusals of node files"))
 own = ruled[:ruled.index(12) + 1]
 for path, found, said in [
-    ("crates/diagram/src/refusal.rt and crates/comparison/src/compare.rt", sorted(numbers(CONSTANT, text_of("crates/diagram/src/refusal.rt")) + numbers(CONSTANT, text_of("crates/comparison/src/compare.rt"))), sorted(ruled)),
+    ("crates/diagram/src/refusal.rt", sorted(numbers(CONSTANT, text_of("crates/diagram/src/refusal.rt"))), sorted(ruled)),
+    ("crates/comparison/src/compare.rt", numbers(CONSTANT, text_of("crates/comparison/src/compare.rt")), compared),
     ("crates/diagram/specs/Verdict.antt", numbers(r"\brow (\d+) ", text_of("crates/diagram/specs/Verdict.antt")), own),
-    ("crates/comparison/specs/Comparison.antt", numbers(r"\brow (\d+) ", text_of("crates/comparison/specs/Comparison.antt")), [number for number in ruled if number in (31, 32)]),
-    ("include/houayletan.h", numbers(r"^ \*   {,2}(\d+)   ", text_of("include/houayletan.h")), ruled + filed),
-    ("bindings/rust/src/refusal.rs", sorted(numbers(r"^            (\d+) => ", text_of("bindings/rust/src/refusal.rs"))), sorted(ruled + filed)),
+    ("crates/comparison/specs/Comparison.antt", numbers(r"\brow (\d+) ", text_of("crates/comparison/specs/Comparison.antt")), compared),
+    ("include/houayletan.h", numbers(r"^ \*   {,2}(\d+)   ", text_of("include/houayletan.h")), ruled + compared + filed),
+    ("bindings/rust/src/refusal.rs", sorted(numbers(r"^            (\d+) => ", text_of("bindings/rust/src/refusal.rs"))), sorted(ruled + compared + filed)),
     ("crates/blocks/src/stored.rt", sorted(numbers(CONSTANT, text_of("crates/blocks/src/stored.rt"))), sorted(set(stored) - set(ruled))),
     ("crates/node_file/src/layout.rt", sorted(numbers(CONSTANT, text_of("crates/node_file/src/layout.rt"))), sorted(filed)),
     ("crates/node_file/specs/NodeFile.antt", numbers(r"\brow (\d+) ", text_of("crates/node_file/specs/NodeFile.antt")), filed[:-1] + ruled[:2] + filed[-1:]),
