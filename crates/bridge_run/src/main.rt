@@ -5,6 +5,7 @@
 // back; and a byte is missing.
 use diagram::limits::ROOM_PER_NODE;
 use diagram::node::word;
+use houayletan::HouayletanComparison;
 use houayletan::HouayletanStored;
 use houayletan::HouayletanVerdict;
 use houayletan::asking::houayletan_is_false_3;
@@ -76,21 +77,29 @@ fn cut_to_size(words: &[u32], as_is: u32, room: &mut [u32], output: &mut [u32]) 
     end_line();
 }
 
-fn compare(first: &[u32], second: &[u32], room: &mut [u32], table: &mut [u32]) {
-    let answer = houayletan_compare_3(first, second, room, table);
+fn say_count(text: &[u8], count: [u32; naturals::WORDS]) {
+    say(text, word(&count, 0) as u64);
+}
+
+fn say_comparison(answer: HouayletanComparison) {
     let verdict = answer.verdict;
-    let first_only = answer.first;
-    let second_only = answer.second;
+    let first = answer.first;
+    let second = answer.second;
     let both = answer.both;
     let smallest = answer.smallest;
     say_verdict(verdict);
     say(b", of ", answer.which as u64);
     say(b", differ ", answer.differ as u64);
-    say(b", first ", word(&first_only, 0) as u64);
-    say(b", second ", word(&second_only, 0) as u64);
-    say(b", both ", word(&both, 0) as u64);
-    say(b", smallest ", word(&smallest, 0) as u64);
+    say_count(b", first ", first);
+    say_count(b", second ", second);
+    say_count(b", both ", both);
+    say_count(b", smallest ", smallest);
     end_line();
+}
+
+fn compare(first: &[u32], second: &[u32], room: &mut [u32], table: &mut [u32]) {
+    let answer = houayletan_compare_3(first, second, room, table);
+    say_comparison(answer);
 }
 
 fn compare_in(first: &[u32], second: &[u32], room: &mut [u32]) {
