@@ -67,7 +67,7 @@ unfolding refusalText refusedAt
 refusal-length number place =
     simp length-append (omega (arith, decimal-length number, decimal-length place, subject-length number place, phrase-length number))
 
-twice-length : (label : List ℕ) (n : ℕ) (middle : List ℕ) → length (twice label n middle) ≤ length label + length middle + 1 + decimalDigits + hexadecimalDigits
+pub twice-length : (label : List ℕ) (n : ℕ) (middle : List ℕ) → length (twice label n middle) ≤ length label + length middle + 1 + decimalDigits + hexadecimalDigits
 unfolding twice
 twice-length label n middle = simp length-append (omega (arith, decimal-length n, hexadecimal-length n))
 
