@@ -7,12 +7,11 @@ from fractions import Fraction
 from itertools import product
 
 from diagram_cases import D, HALF, crowded, full, ladder, layered, terminals, widened
-from limits import MAX_NODES, MAX_VARS, ROOM
+from limits import MAX_NODES, MAX_VARS, PAIR, ROOM
 from reading import most, nodes, room_after, verdict
 
 HERE = os.path.dirname(os.path.abspath(__file__))
 FOLDER = os.path.join(HERE, '..', 'crates', 'comparison_run')
-PAIR = 64               # words that are lent for a pair
 MARK, FILL = 7, 9       # what room and table are filled with beforehand
 FEW = 10                # variables whose valuations are gone through one by one
 
