@@ -97,16 +97,21 @@ fn say_number(name: &[u8], a: Natural) {
 }
 
 fn say_answer(answer: Compared) {
-    say_verdict(answer.verdict, answer.which);
-    say_number(b", first ", answer.first);
-    say_number(b" second ", answer.second);
-    say_number(b" both ", answer.both);
+    let verdict = answer.verdict;
+    let first = answer.first;
+    let second = answer.second;
+    let both = answer.both;
+    let smallest = answer.smallest;
+    say_verdict(verdict, answer.which);
+    say_number(b", first ", first);
+    say_number(b" second ", second);
+    say_number(b" both ", both);
     if answer.differ {
         io::write_all(STDOUT_FILENO, b", differ yes");
     } else {
         io::write_all(STDOUT_FILENO, b", differ no");
     }
-    say_number(b" smallest ", answer.smallest);
+    say_number(b" smallest ", smallest);
 }
 
 fn run_case(
