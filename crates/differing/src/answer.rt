@@ -21,7 +21,7 @@ fn differ_named(
     lines: &mut [u8],
     text: &mut [u8],
 ) -> Ends
-    ensures { λ r. ⌜ Differs (filesDone form (oldName form (now (first .entry)) (now (second .entry))) (newName form (now (second .entry)) (now (third .entry))) old_found (now (old .entry)) new_found (now (new .entry))) (now (lines .entry)) (now (lines .exit)) (now (text .entry)) (now (text .exit)) (r .lines) (r .text) ⌝ }
+    ensures { λ r. ⌜ Differs (filesDone form (oldName form (now (first .entry)) (now (second .entry))) (newName form (now (second .entry)) (now (third .entry))) «old_found» (now (old .entry)) «new_found» (now (new .entry))) (now (lines .entry)) (now (lines .exit)) (now (text .entry)) (now (text .exit)) (r .lines) (r .text) ⌝ }
 {
     match form {
         Form::Blocks => differ(
@@ -63,7 +63,7 @@ pub fn answer(
     lines: &mut [u8],
     text: &mut [u8],
 ) -> Ends
-    ensures { λ r. ⌜ Differs (done (askedOf count (now (first .entry))) (now (first .entry)) (now (second .entry)) (now (third .entry)) old_found (now (old .entry)) new_found (now (new .entry))) (now (lines .entry)) (now (lines .exit)) (now (text .entry)) (now (text .exit)) (r .lines) (r .text) ⌝ }
+    ensures { λ r. ⌜ Differs (done (askedOf count (now (first .entry))) (now (first .entry)) (now (second .entry)) (now (third .entry)) «old_found» (now (old .entry)) «new_found» (now (new .entry))) (now (lines .entry)) (now (lines .exit)) (now (text .entry)) (now (text .exit)) (r .lines) (r .text) ⌝ }
 {
     let asked = asked_of(count, first);
     match asked {

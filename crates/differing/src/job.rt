@@ -158,7 +158,7 @@ pub(crate) fn differ(
     lines: &mut [u8],
     text: &mut [u8],
 ) -> Ends
-    ensures { λ r. ⌜ Differs (filesDone form (now (old .entry)) (now (new .entry)) old_found (now (old_bytes .entry)) new_found (now (new_bytes .entry))) (now (lines .entry)) (now (lines .exit)) (now (text .entry)) (now (text .exit)) (r .lines) (r .text) ⌝ }
+    ensures { λ r. ⌜ Differs (filesDone form (now (old .entry)) (now (new .entry)) «old_found» (now («old_bytes» .entry)) «new_found» (now («new_bytes» .entry))) (now (lines .entry)) (now (lines .exit)) (now (text .entry)) (now (text .exit)) (r .lines) (r .text) ⌝ }
 {
     let mut words = [0u32; MAX_WORDS];
     let loading = load(form, old_found, old_bytes, &mut words);
