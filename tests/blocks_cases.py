@@ -7,7 +7,7 @@ import block
 import node_file
 import plant
 from diagram_cases import D, HALF, ladder, terminals, widened
-from limits import BLOCK, BLOCK_NODES, COUNT, FILE_NODES, MAX_NODES, MAX_VARS, ROOM
+from limits import BLOCK, BLOCK_NODES, COUNT, FILE_NODES, LENT_PAIRS, MAX_NODES, MAX_VARS, ROOM
 from reading import nodes, verdict
 from weights_cases import by_chances, count_of
 
@@ -27,6 +27,7 @@ SENTENCES = {
     16: 'the count to reach is above the number of all valuations', 17: 'node %d has a high child that is not at a larger variable', 18: 'no answer has so few nodes; 2 are always enough', 19: "a constant can't be cut to a count between 0 and the number of all valuations",
     21: 'a block is short or missing, or bytes stand after the last one', 22: 'a check sum is wrong',
     23: 'a block number, a node count or the order of blocks is wrong', 24: 'unused bytes are not zero', 25: 'there are more than %s nodes' % FILE_NODES,
+    31: "the two conditions don't have the same number of variables", 32: 'more than %s pairs of nodes are reached' % LENT_PAIRS,
     51: 'the file is empty', 52: 'the length of the file is not a multiple of ten bytes', 53: 'there are more than %s nodes' % MAX_NODES,
 }
 

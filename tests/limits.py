@@ -10,3 +10,5 @@ BLOCK = 512             # bytes of a block
 BLOCK_NODES = 50        # nodes of a whole block
 FILE_NODES = 120        # the most nodes of a block file
 NODE_BYTES = 10         # bytes of a node in a node file
+PAIR = 64               # words of a table for each pair of nodes
+LENT_PAIRS = 16384      # pairs for which the program differ lends a table

@@ -1,6 +1,7 @@
 """Writes tests/programs: for each case NAME.call (the program and its words, one to a line), NAME.in, NAME.out and NAME.err, which
 tests/programs.sh holds the built programs to. Inputs of which several cases take the first bytes stand once, and NAME.from in place of NAME.in has
-the file and the number of bytes; of a very long output NAME.sum in place of NAME.out has the SHA-256 sum. Block files by block.py, node files by node_file.py, reports by blocks_cases.py, cuts by cuts_cases.py:
+the file and the number of bytes; of a very long output NAME.sum in place of NAME.out has the SHA-256 sum. The files that `differ` is given
+by name stand beside the cases, under that name. Block files by block.py, node files by node_file.py, reports by blocks_cases.py, cuts by cuts_cases.py:
 readings of the papers that share nothing with the code.
 
     python3 tests/program_cases.py"""
@@ -10,12 +11,13 @@ import random
 import sys
 
 import block
+import comparison_cases
 import node_file
 import plant
 from blocks_cases import SENTENCES, chain, changed, filled, longest, refused_line, report, resummed
 from cuts_cases import count, count_words, cuts, flat, refusal
-from diagram_cases import D, HALF, crowded, terminals, widened
-from limits import BLOCK, COUNT, FILE_NODES, MAX_NODES, MAX_VARS, NODE_BYTES, ROOM
+from diagram_cases import D, HALF, crowded, layered, terminals, widened
+from limits import BLOCK, COUNT, FILE_NODES, LENT_PAIRS, MAX_NODES, MAX_VARS, NODE_BYTES, ROOM
 from reading import nodes, verdict
 
 FOLDER = os.path.join(os.path.dirname(os.path.abspath(__file__)), 'programs')
@@ -179,7 +181,7 @@ def asked():
         seen.add(number)
         assert shrunk(*request)[1].startswith(b'refused %d at ' % number), (number, shrunk(*request))
         requests.append(tuple(request))
-    assert seen == set(SENTENCES) - {4} - NODES_ONLY
+    assert seen == set(SENTENCES) - {4, 31, 32} - NODES_ONLY
     requests = [(*request, False) for request in requests]
     requests += [(*request[:4], True) for request in requests if request[3] in (d, file_of(DEAD)) and request[1] != 'hex' or request[0] == 'suppress' and request[3] == b'']
     requests += [(*request, as_is) for request in wide_requests() for as_is in ((False, True) if request[1:3] == ('size', FILE_NODES) else (False,))]
@@ -294,6 +296,156 @@ def node_cases():
             yield '%s-nodes-words-%02d' % (program, i), [program] + words, d, b'', said
 
 
+DIFFER_UNKNOWN = b'differ: the words are the names of two files, with nodes before them where they are node files; differ alone prints its help\n'
+DIFFER_HELP = b"""differ OLD NEW         compares two block files, by their names
+differ nodes OLD NEW   compares two node files
+Says how many cases hold in the old condition only, in the new one only and in both, and shows the smallest case in which they differ: a bit for each signal, x0 first, and the signals that are on.
+Two node files that reach more than 16384 pairs of nodes together are refused; two block files never do.
+"""
+# The longest name that can be opened, and the longest that is looked at.
+PATH, NAME = 4095, 4096
+
+
+def named(name, number, place):
+    return b'', ('%s: %s' % (name, refused_line(number, place))).encode()
+
+
+def differed(form, old, new, files):
+    """Standard output and standard error for two names; `files` has the bytes of those that can be read."""
+    found = []
+    for name in (old, new):
+        if name not in files:
+            return b'', ("%s: can't be opened\n" % (name if len(name) <= NAME else '')).encode()
+        answer, words = read(form, files[name])
+        if answer[0] == 'refused':
+            return named(name, *answer[1:])
+        found.append(words)
+    for name, words in zip((old, new), found):
+        answer = verdict(words, ROOM * MAX_NODES)
+        if answer[0] == 'refused':
+            return named(name, *answer[1:])
+    first, second = found
+    if first[0] != second[0]:
+        return named('differ', 31, 0)
+    if len(comparison_cases.pairs_of(first, second)) > LENT_PAIRS:
+        return named('differ', 32, 0)
+    one, two, both, smallest = comparison_cases.by_chances(first, second)
+    lines = ['vars %d' % first[0], 'old only ' + twice(one), 'new only ' + twice(two), 'both ' + twice(both)]
+    if smallest is None:
+        lines += ['no difference']
+    else:
+        row = ''.join(str(smallest >> i & 1) for i in reversed(range(first[0])))
+        on = ['x%d' % i for i, bit in enumerate(row) if bit == '1']
+        lines += [('smallest difference ' + row).rstrip(), 'on ' + (' '.join(on) or 'none')]
+    return ('\n'.join(lines) + '\n').encode(), b''
+
+
+def under(words, links):
+    """Some nodes more on top: each goes on by 1, and by 0 to node 0. They come first in the order of variables."""
+    v = words[0] + links
+    made = terminals(v) + [x + links if i % 3 == 0 else x for i, x in enumerate(words[6:])]
+    for i in reversed(range(links)):
+        made += [i, 0, len(made) // 3 - 1]
+    return made
+
+
+def crowd():
+    """Two diagrams that reach as many pairs together as the program lends a table for."""
+    rng = random.Random(16384)
+    while True:
+        first, second = (layered(rng, 900, 30) for _ in range(2))
+        short = LENT_PAIRS - len(comparison_cases.pairs_of(first, second))
+        if 0 < short < MAX_VARS - 30:
+            return under(first, short), under(second, short)
+
+
+CUT = TRUE + [2, 0, 1, 0, 2, 0]                         # C4: D without node 3
+EITHER = TRUE + [2, 0, 1, 1, 2, 1]                      # x1 or x2: beside D, x0 is on in no difference but the smallest has none of it
+
+
+def block_names():
+    """Block files by name: right ones, and one for each refusal of a file or a diagram."""
+    d = file_of(D)
+    found = {'D': D, 'cut': CUT, 'either': EITHER, 'false': FALSE, 'true': TRUE, 'none': NONE, 'dead': DEAD, 'x2': TRUE + [2, 0, 1], 'no-variable-false': [0, 0, 0], 'no-variable-true': [0, 0, 0, 0, 1, 1],
+             'chain': chain(FILE_NODES), 'widest': filled(), 'longest': longest(), 'wide': wide(), 'wide-false': terminals(MAX_VARS)[:3]}
+    found.update(('refused-%02d' % number, words) for number, words in DIAGRAMS.items())
+    found = {name: file_of(words) for name, words in found.items()}
+    found.update({'refused-21': d[:-1], 'empty': b'', 'trailing': d + b'\0', 'refused-22': changed(d, block.SUMMED, 0), 'refused-23': resummed(changed(d, 0, 1)),
+                  'refused-24': resummed(changed(d, 503, 1)), 'refused-25': b''.join(block.write(chain(FILE_NODES + 1)))})
+    return {name + '.block': data for name, data in found.items()}
+
+
+def node_names():
+    """The same of node files; some have more nodes than a block file."""
+    first, second = crowd()
+    found = {'D': D, 'cut': CUT, 'either': EITHER, 'false': FALSE, 'true': TRUE, 'dead': DEAD, 'x2': TRUE + [2, 0, 1], 'no-variable-false': [0, 0, 0], 'no-variable-true': [0, 0, 0, 0, 1, 1],
+             'widest': filled(), 'longest': longest(), 'crowd-first': first, 'crowd-second': second, 'crowd-first-more': under(first, 1), 'crowd-second-more': under(second, 1)}
+    found.update(('refused-%02d' % number, words) for number, words in DIAGRAMS.items())
+    found = {name: node_file.write(words) for name, words in found.items()}
+    found.update({'refused-51': b'', 'refused-52': found['D'][:-1]})
+    return {name + '.nodes': data for name, data in found.items()}
+
+
+def differ_calls():
+    """(form, old, new)"""
+    for form, end in (('blocks', '.block'), ('nodes', '.nodes')):
+        right = ['D', 'cut', 'either', 'dead', 'x2', 'false', 'true']
+        for old in right:
+            for new in right:
+                yield form, old + end, new + end
+        for old, new in (('no-variable-false', 'no-variable-true'), ('no-variable-false', 'no-variable-false'), ('no-variable-true', 'D'), ('widest', 'longest'), ('widest', 'widest')):
+            yield form, old + end, new + end
+            yield form, new + end, old + end
+        own = ['refused-%02d' % number for number in sorted(DIAGRAMS)]
+        files = ['refused-%d' % number for number in ((21, 22, 23, 24, 25) if form == 'blocks' else (51, 52))]
+        for name in own + files:                        # each refusal of each file, and of both
+            yield form, name + end, 'D' + end
+            yield form, 'D' + end, name + end
+            yield form, name + end, name + end
+            yield form, name + end, 'longest' + end     # 31 comes later
+        for name in files:                              # a file's refusal comes before a diagram's, of either
+            yield form, name + end, own[0] + end
+            yield form, own[0] + end, name + end
+        for name in ('missing', 'D', files[0], own[0]):
+            yield form, 'missing', name + end
+            yield form, name + end, 'missing'
+        for name in ('.', '', 'nodes', PATH * 'n', NAME * 'n', (NAME + 1) * 'n'):
+            yield form, name, 'D' + end
+            yield form, 'D' + end, name
+    for old, new in (('empty', 'D'), ('D', 'trailing'), ('chain', 'D'), ('chain', 'chain'), ('wide', 'wide-false'), ('wide-false', 'wide'), ('widest', 'wide'), ('longest', 'wide-false'), ('none', 'false')):
+        yield 'blocks', old + '.block', new + '.block'
+    for old, new in (('crowd-first', 'crowd-second'), ('crowd-second', 'crowd-first'), ('crowd-first-more', 'crowd-second-more'), ('crowd-first', 'crowd-second-more')):
+        yield 'nodes', old + '.nodes', new + '.nodes'   # answered at exactly as many pairs, and 32 at one more
+    for old, new in (('whole.bytes', 'D.nodes'), ('D.nodes', 'whole.bytes'), ('crowded.bytes', 'crowded.bytes'), ('broad.bytes', 'crowded.bytes'), ('wide.bytes', 'crowded.bytes'), ('D.nodes', 'D.block')):
+        yield 'nodes', old, new
+    yield 'blocks', 'D.nodes', 'D.block'
+    yield 'blocks', 'D.block', 'crowded.bytes'
+
+
+DIFFER_WORDS = [w.split() for w in ('D.block', 'nodes', 'nodes D.nodes D.nodes D.nodes', 'D.block cut.block D.block', 'blocks D.block cut.block', 'Nodes D.nodes cut.nodes', 'D.nodes nodes cut.nodes', 'D.nodes cut.nodes nodes')]
+DIFFER_WORDS += [[''], ['', 'D.nodes', 'cut.nodes'], ['nodes ', 'D.nodes', 'cut.nodes'], ['nodes' + NAME * 's', 'D.nodes', 'cut.nodes']]
+
+
+def differ_cases(files):
+    """(name, call, input, standard output, standard error) of `differ`, over files by their names."""
+    for i, (form, old, new) in enumerate(differ_calls()):
+        yield 'differ-%03d' % i, ['differ'] + ['nodes'] * (form == 'nodes') + [old, new], b'', *differed(form, old, new, files)
+    for i, (words, said) in enumerate([([], DIFFER_HELP)] + [(w, DIFFER_UNKNOWN) for w in DIFFER_WORDS]):
+        yield 'differ-words-%02d' % i, ['differ'] + words, b'', b'', said
+
+
+def hold_to_differ(cases):
+    """Every refusal that can come up in `differ` does, of either file."""
+    own, blocks, nodes_ = set(DIAGRAMS), {21, 22, 23, 24, 25}, NODES_ONLY
+    for form, said in (('blocks', own | blocks), ('nodes', own | nodes_)):
+        for side in (-2, -1):
+            found = {int(err.split()[2]) for _, call, _, _, err in cases
+                     if (form == 'nodes') == (call[1:2] == ['nodes'] and len(call) == 4) and len(call) > 2 and call[-2] != call[-1] and err.startswith(call[side].encode() + b': refused ')}
+            assert found == said, (form, side, found)
+    both = {int(err.split()[2]) for _, _, _, _, err in cases if err.startswith(b'differ: refused ')}
+    assert both == {31, 32}, both
+
+
 def numbers_of(cases, program, form):
     """The refusals that the cases of a program over a form meet."""
     found = set()
@@ -323,12 +475,16 @@ def main():
     old = len(cases)
     cases += node_cases()
     hold_to_refusals(cases[old:])
+    named_files = {**block_names(), **node_names()}
+    old = len(cases)
+    cases += differ_cases({**named_files, **shared()})
+    hold_to_differ(cases[old:])
     assert len({case[0] for case in cases}) == len(cases)
     os.makedirs(FOLDER, exist_ok=True)
     for old in os.listdir(FOLDER):
         os.remove(os.path.join(FOLDER, old))
     inputs = shared()
-    for name, data in inputs.items():
+    for name, data in {**inputs, **named_files}.items():
         with open(os.path.join(FOLDER, name), 'wb') as f:
             f.write(data)
     for name, call, data, out, err in cases:

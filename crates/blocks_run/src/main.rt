@@ -172,7 +172,7 @@ fn report_case(bytes: &[u8], lent: usize) {
 
 fn refusal_case(number: u32, place: usize) {
     let mut lines = blank_lines();
-    let end = write_refusal(&mut lines, number, place);
+    let end = write_refusal(&mut lines, 0, number, place);
     show(&lines, end);
 }
 

@@ -68,7 +68,7 @@ fn read_diagram(form: Form, bytes: &[u8], words: &mut [u32]) -> Stored
 fn refuse(text: &mut [u8], number: u32, place: usize) -> Ends
     ensures { λ r. ⌜ (r .file ≡ 0) × Wrote (refusalText number place) (now (text .entry)) 0 (now (text .exit)) (r .text) ⌝ }
 {
-    let end = write_refusal(text, number, place);
+    let end = write_refusal(text, 0, number, place);
     Ends { file: 0, text: end }
 }
 

@@ -12,7 +12,7 @@ use Rattle.text.specs.Digits.{decimalDigits, hexadecimalDigits, decimal}
 use Rattle.text.proofs.Numerals.{decimal-length, hexadecimal-length}
 use Rattle.report.specs.Report.{refusedAt}
 use Rattle.request.specs.Request.{Aim, nodes, cases}
-use Rattle.messages.specs.Texts.{subject, ofNode, moreThan, phrase, refusalText, twice, targetText, sizesText, countsText, changeText, trialsText}
+use Rattle.messages.specs.Texts.{subject, ofNode, moreThan, lentPairs, pairsPhrase, phrase, refusalText, twice, targetText, sizesText, countsText, changeText, trialsText}
 
 of-both : (k : ℕ) (b : Bool) (x y : List ℕ) → length x ≤ k → length y ≤ k → length (cond b x y) ≤ k
 of-both k true x y h g = h
@@ -25,6 +25,10 @@ longestSentence = 80
 more-length : (most : ℕ) (what : List ℕ) → length (moreThan most what) ≤ 20 + decimalDigits + length what
 unfolding moreThan
 more-length most what = simp length-append (omega (arith, decimal-length most))
+
+pairs-length : length pairsPhrase ≤ 37 + decimalDigits
+unfolding pairsPhrase
+pairs-length = simp length-append (omega (arith, decimal-length lentPairs))
 
 phrase-length : (number : ℕ) → length (phrase number) ≤ longestSentence + decimalDigits
 unfolding phrase
@@ -46,10 +50,12 @@ phrase-length number =
     (of-both (longestSentence + decimalDigits) (eqb number 23) _ _ (omega arith)
     (of-both (longestSentence + decimalDigits) (eqb number 24) _ _ (omega arith)
     (of-both (longestSentence + decimalDigits) (eqb number 25) _ _ (omega (arith, more-length maxStored (bytes " nodes")))
+    (of-both (longestSentence + decimalDigits) (eqb number 31) _ _ (omega arith)
+    (of-both (longestSentence + decimalDigits) (eqb number 32) _ _ (omega (arith, pairs-length))
     (of-both (longestSentence + decimalDigits) (eqb number 51) _ _ (omega arith)
     (of-both (longestSentence + decimalDigits) (eqb number 52) _ _ (omega arith)
     (of-both (longestSentence + decimalDigits) (eqb number 53) _ _ (omega (arith, more-length maxNodes (bytes " nodes")))
-    (omega arith))))))))))))))))))))
+    (omega arith))))))))))))))))))))))
 
 subject-length : (number place : ℕ) → length (subject number place) ≤ 6 + decimalDigits
 unfolding subject
@@ -61,7 +67,7 @@ unfolding refusalText refusedAt
 refusal-length number place =
     simp length-append (omega (arith, decimal-length number, decimal-length place, subject-length number place, phrase-length number))
 
-twice-length : (label : List ℕ) (n : ℕ) (middle : List ℕ) → length (twice label n middle) ≤ length label + length middle + 1 + decimalDigits + hexadecimalDigits
+pub twice-length : (label : List ℕ) (n : ℕ) (middle : List ℕ) → length (twice label n middle) ≤ length label + length middle + 1 + decimalDigits + hexadecimalDigits
 unfolding twice
 twice-length label n middle = simp length-append (omega (arith, decimal-length n, hexadecimal-length n))
 

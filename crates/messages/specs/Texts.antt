@@ -35,6 +35,14 @@ subject number place = cond (ofNode number) (bytes "node " ++ decimal place ++ b
 unfoldable pub moreThan : ℕ → List ℕ → List ℕ
 moreThan most what = bytes "there are more than " ++ decimal most ++ what
 
+-- The pairs for which `differ` lends a table: all that two block files can have.
+abbrev pub lentPairs : ℕ
+lentPairs = 16384
+
+-- `more than 16384 pairs of nodes are reached`
+unfoldable pub pairsPhrase : List ℕ
+pairsPhrase = bytes "more than " ++ decimal lentPairs ++ bytes " pairs of nodes are reached"
+
 unfoldable pub phrase : ℕ → List ℕ
 phrase number =
     cond (eqb number 4) (bytes "the output is too short")
@@ -54,10 +62,12 @@ phrase number =
     (cond (eqb number 23) (bytes "a block number, a node count or the order of blocks is wrong")
     (cond (eqb number 24) (bytes "unused bytes are not zero")
     (cond (eqb number 25) (moreThan maxStored (bytes " nodes"))
+    (cond (eqb number 31) (bytes "the two conditions don't have the same number of variables")
+    (cond (eqb number 32) pairsPhrase
     (cond (eqb number 51) (bytes "the file is empty")
     (cond (eqb number 52) (bytes "the length of the file is not a multiple of ten bytes")
     (cond (eqb number 53) (moreThan maxNodes (bytes " nodes"))
-    (bytes "the input is refused"))))))))))))))))))))
+    (bytes "the input is refused"))))))))))))))))))))))
 
 unfoldable pub refusalText : ℕ → ℕ → List ℕ
 refusalText number place = refusedAt number place ++ bytes ": " ++ subject number place ++ phrase number ++ feed

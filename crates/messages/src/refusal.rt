@@ -12,7 +12,10 @@ use writing::put;
 use writing::write;
 ghost use mathlib.Core.Path.{_≡_};
 ghost use Rattle.writing.specs.Writing.{Wrote};
-ghost use Rattle.messages.specs.Texts.{ofNode, subject, moreThan, phrase, refusalText};
+ghost use Rattle.messages.specs.Texts.{ofNode, subject, moreThan, pairsPhrase, phrase, refusalText};
+
+// The pairs for which `differ` lends a table: all that two block files can have.
+pub const LENT_PAIRS: usize = 16384;
 
 // Whether the place of a refusal with this number is a node.
 fn of_node(number: u32) -> bool
@@ -46,6 +49,14 @@ fn write_limit(out: &mut [u8], at: usize, most: usize, what: &[u8]) -> usize
 {
     let next = write_number(out, at, b"there are more than ", most as u64);
     write(out, next, what)
+}
+
+// `more than 16384 pairs of nodes are reached`
+fn write_pairs(out: &mut [u8], at: usize) -> usize
+    ensures { λ r. ⌜ Wrote pairsPhrase (now (out .entry)) at (now (out .exit)) r ⌝ }
+{
+    let next = write_number(out, at, b"more than ", LENT_PAIRS as u64);
+    write(out, next, b" pairs of nodes are reached")
 }
 
 fn write_phrase(out: &mut [u8], at: usize, number: u32) -> usize
@@ -97,6 +108,12 @@ fn write_phrase(out: &mut [u8], at: usize, number: u32) -> usize
         ),
         24 => write(out, at, b"unused bytes are not zero"),
         25 => write_limit(out, at, MOST, b" nodes"),
+        31 => write(
+            out,
+            at,
+            b"the two conditions don't have the same number of variables",
+        ),
+        32 => write_pairs(out, at),
         51 => write(out, at, b"the file is empty"),
         52 => write(
             out,
@@ -108,10 +125,10 @@ fn write_phrase(out: &mut [u8], at: usize, number: u32) -> usize
     }
 }
 
-pub fn write_refusal(out: &mut [u8], number: u32, place: usize) -> usize
-    ensures { λ r. ⌜ Wrote (refusalText number place) (now (out .entry)) 0 (now (out .exit)) r ⌝ }
+pub fn write_refusal(out: &mut [u8], at: usize, number: u32, place: usize) -> usize
+    ensures { λ r. ⌜ Wrote (refusalText number place) (now (out .entry)) at (now (out .exit)) r ⌝ }
 {
-    let refused = write_refused(out, number, place);
+    let refused = write_refused(out, at, number, place);
     let colon = write(out, refused, b": ");
     let of = write_subject(out, colon, number, place);
     let said = write_phrase(out, of, number);

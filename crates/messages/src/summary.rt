@@ -34,7 +34,7 @@ fn write_twice(out: &mut [u8], at: usize, label: &[u8], a: Natural, middle: &[u8
     put(out, repeated, 41)
 }
 
-fn write_line(out: &mut [u8], at: usize, label: &[u8], a: Natural, middle: &[u8]) -> usize
+pub fn write_line(out: &mut [u8], at: usize, label: &[u8], a: Natural, middle: &[u8]) -> usize
     ensures { λ r. ⌜ Wrote (twice (now (label .entry)) (value (a .words)) (now (middle .entry)) ++ feed) (now (out .entry)) at (now (out .exit)) r ⌝ }
 {
     let next = write_twice(out, at, label, a, middle);

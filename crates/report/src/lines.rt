@@ -47,17 +47,17 @@ pub(crate) fn write_count(out: &mut [u8], at: usize, label: &[u8], a: Natural) -
 }
 
 // `refused 12 at 4`, without the line feed
-pub fn write_refused(out: &mut [u8], number: u32, place: usize) -> usize
-    ensures { λ r. ⌜ Wrote (refusedAt number place) (now (out .entry)) 0 (now (out .exit)) r ⌝ }
+pub fn write_refused(out: &mut [u8], at: usize, number: u32, place: usize) -> usize
+    ensures { λ r. ⌜ Wrote (refusedAt number place) (now (out .entry)) at (now (out .exit)) r ⌝ }
 {
-    let first = write_number(out, 0, b"refused ", number as u64);
+    let first = write_number(out, at, b"refused ", number as u64);
     write_number(out, first, b" at ", place as u64)
 }
 
 pub(crate) fn write_refusal(out: &mut [u8], number: u32, place: usize) -> usize
     ensures { λ r. ⌜ Wrote (refusal number place) (now (out .entry)) 0 (now (out .exit)) r ⌝ }
 {
-    let next = write_refused(out, number, place);
+    let next = write_refused(out, 0, number, place);
     put(out, next, 10)
 }
 

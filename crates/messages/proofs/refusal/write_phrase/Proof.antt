@@ -113,11 +113,20 @@ slice-aggregate-write-16 c = search needs
 write-requires-16 : tie.Need-write-requires-16
 write-requires-16 c κs = search needs
 
+write-pairs-requires : tie.Need-write-pairs-requires
+write-pairs-requires c κs = search needs
+
 slice-aggregate-write-17 : tie.Need-slice-aggregate-write-17
 slice-aggregate-write-17 c = search needs
 
 write-requires-17 : tie.Need-write-requires-17
 write-requires-17 c κs = search needs
+
+slice-aggregate-write-18 : tie.Need-slice-aggregate-write-18
+slice-aggregate-write-18 c = search needs
+
+write-requires-18 : tie.Need-write-requires-18
+write-requires-18 c κs = search needs
 
 slice-aggregate-write-limit-3 : tie.Need-slice-aggregate-write-limit-3
 slice-aggregate-write-limit-3 c = search needs
@@ -125,11 +134,11 @@ slice-aggregate-write-limit-3 c = search needs
 write-limit-requires-3 : tie.Need-write-limit-requires-3
 write-limit-requires-3 c κs = search needs
 
-slice-aggregate-write-18 : tie.Need-slice-aggregate-write-18
-slice-aggregate-write-18 c = search needs
+slice-aggregate-write-19 : tie.Need-slice-aggregate-write-19
+slice-aggregate-write-19 c = search needs
 
-write-requires-18 : tie.Need-write-requires-18
-write-requires-18 c κs = search needs
+write-requires-19 : tie.Need-write-requires-19
+write-requires-19 c κs = search needs
 
 same-length : tie.Need-same-length
 same-length c = search needs
@@ -262,21 +271,35 @@ same-length-19 c = search needs
 
 returns-19 : tie.Need-returns-19
 unfolding phrase
-returns-19 c = rw (c .before .before .before .before .before .match .keys19) (c .before .before .write17 .ensures)
+returns-19 c = rw (c .before .before .before .before .match .keys19) (c .before .before .write-pairs .ensures)
 
 same-length-20 : tie.Need-same-length-20
 same-length-20 c = search needs
 
 returns-20 : tie.Need-returns-20
 unfolding phrase
-returns-20 c = rw (c .before .before .before .before .before .match .keys20) (c .before .before .write-limit3 .ensures)
+returns-20 c = rw (c .before .before .before .before .before .match .keys20) (c .before .before .write17 .ensures)
 
 same-length-21 : tie.Need-same-length-21
 same-length-21 c = search needs
 
 returns-21 : tie.Need-returns-21
 unfolding phrase
-returns-21 c = simp (ne-eqb (c .before .before .before .before .before .before .before .args .number) 4 (c .before .before .before .before .before .match .rest .0 .0 .0 .0 .0 .0 .0 .0 .0 .0 .0 .0 .0 .0 .0 .0 .0 .0 .0 .1), ne-eqb (c .before .before .before .before .before .before .before .args .number) 6 (c .before .before .before .before .before .match .rest .0 .0 .0 .0 .0 .0 .0 .0 .0 .0 .0 .0 .0 .0 .0 .0 .0 .0 .1), ne-eqb (c .before .before .before .before .before .before .before .args .number) 7 (c .before .before .before .before .before .match .rest .0 .0 .0 .0 .0 .0 .0 .0 .0 .0 .0 .0 .0 .0 .0 .0 .0 .1), ne-eqb (c .before .before .before .before .before .before .before .args .number) 8 (c .before .before .before .before .before .match .rest .0 .0 .0 .0 .0 .0 .0 .0 .0 .0 .0 .0 .0 .0 .0 .0 .1), ne-eqb (c .before .before .before .before .before .before .before .args .number) 9 (c .before .before .before .before .before .match .rest .0 .0 .0 .0 .0 .0 .0 .0 .0 .0 .0 .0 .0 .0 .0 .1), ne-eqb (c .before .before .before .before .before .before .before .args .number) 10 (c .before .before .before .before .before .match .rest .0 .0 .0 .0 .0 .0 .0 .0 .0 .0 .0 .0 .0 .0 .1), ne-eqb (c .before .before .before .before .before .before .before .args .number) 11 (c .before .before .before .before .before .match .rest .0 .0 .0 .0 .0 .0 .0 .0 .0 .0 .0 .0 .0 .1), ne-eqb (c .before .before .before .before .before .before .before .args .number) 12 (c .before .before .before .before .before .match .rest .0 .0 .0 .0 .0 .0 .0 .0 .0 .0 .0 .0 .1), ne-eqb (c .before .before .before .before .before .before .before .args .number) 16 (c .before .before .before .before .before .match .rest .0 .0 .0 .0 .0 .0 .0 .0 .0 .0 .0 .1), ne-eqb (c .before .before .before .before .before .before .before .args .number) 17 (c .before .before .before .before .before .match .rest .0 .0 .0 .0 .0 .0 .0 .0 .0 .0 .1), ne-eqb (c .before .before .before .before .before .before .before .args .number) 18 (c .before .before .before .before .before .match .rest .0 .0 .0 .0 .0 .0 .0 .0 .0 .1), ne-eqb (c .before .before .before .before .before .before .before .args .number) 19 (c .before .before .before .before .before .match .rest .0 .0 .0 .0 .0 .0 .0 .0 .1), ne-eqb (c .before .before .before .before .before .before .before .args .number) 21 (c .before .before .before .before .before .match .rest .0 .0 .0 .0 .0 .0 .0 .1), ne-eqb (c .before .before .before .before .before .before .before .args .number) 22 (c .before .before .before .before .before .match .rest .0 .0 .0 .0 .0 .0 .1), ne-eqb (c .before .before .before .before .before .before .before .args .number) 23 (c .before .before .before .before .before .match .rest .0 .0 .0 .0 .0 .1), ne-eqb (c .before .before .before .before .before .before .before .args .number) 24 (c .before .before .before .before .before .match .rest .0 .0 .0 .0 .1), ne-eqb (c .before .before .before .before .before .before .before .args .number) 25 (c .before .before .before .before .before .match .rest .0 .0 .0 .1), ne-eqb (c .before .before .before .before .before .before .before .args .number) 51 (c .before .before .before .before .before .match .rest .0 .0 .1), ne-eqb (c .before .before .before .before .before .before .before .args .number) 52 (c .before .before .before .before .before .match .rest .0 .1), ne-eqb (c .before .before .before .before .before .before .before .args .number) 53 (c .before .before .before .before .before .match .rest .1)) (c .before .before .write18 .ensures)
+returns-21 c = rw (c .before .before .before .before .before .match .keys21) (c .before .before .write18 .ensures)
+
+same-length-22 : tie.Need-same-length-22
+same-length-22 c = search needs
+
+returns-22 : tie.Need-returns-22
+unfolding phrase
+returns-22 c = rw (c .before .before .before .before .before .match .keys22) (c .before .before .write-limit3 .ensures)
+
+same-length-23 : tie.Need-same-length-23
+same-length-23 c = search needs
+
+returns-23 : tie.Need-returns-23
+unfolding phrase
+returns-23 c = simp (ne-eqb (c .before .before .before .before .before .before .before .args .number) 4 (c .before .before .before .before .before .match .rest .0 .0 .0 .0 .0 .0 .0 .0 .0 .0 .0 .0 .0 .0 .0 .0 .0 .0 .0 .0 .0 .1), ne-eqb (c .before .before .before .before .before .before .before .args .number) 6 (c .before .before .before .before .before .match .rest .0 .0 .0 .0 .0 .0 .0 .0 .0 .0 .0 .0 .0 .0 .0 .0 .0 .0 .0 .0 .1), ne-eqb (c .before .before .before .before .before .before .before .args .number) 7 (c .before .before .before .before .before .match .rest .0 .0 .0 .0 .0 .0 .0 .0 .0 .0 .0 .0 .0 .0 .0 .0 .0 .0 .0 .1), ne-eqb (c .before .before .before .before .before .before .before .args .number) 8 (c .before .before .before .before .before .match .rest .0 .0 .0 .0 .0 .0 .0 .0 .0 .0 .0 .0 .0 .0 .0 .0 .0 .0 .1), ne-eqb (c .before .before .before .before .before .before .before .args .number) 9 (c .before .before .before .before .before .match .rest .0 .0 .0 .0 .0 .0 .0 .0 .0 .0 .0 .0 .0 .0 .0 .0 .0 .1), ne-eqb (c .before .before .before .before .before .before .before .args .number) 10 (c .before .before .before .before .before .match .rest .0 .0 .0 .0 .0 .0 .0 .0 .0 .0 .0 .0 .0 .0 .0 .0 .1), ne-eqb (c .before .before .before .before .before .before .before .args .number) 11 (c .before .before .before .before .before .match .rest .0 .0 .0 .0 .0 .0 .0 .0 .0 .0 .0 .0 .0 .0 .0 .1), ne-eqb (c .before .before .before .before .before .before .before .args .number) 12 (c .before .before .before .before .before .match .rest .0 .0 .0 .0 .0 .0 .0 .0 .0 .0 .0 .0 .0 .0 .1), ne-eqb (c .before .before .before .before .before .before .before .args .number) 16 (c .before .before .before .before .before .match .rest .0 .0 .0 .0 .0 .0 .0 .0 .0 .0 .0 .0 .0 .1), ne-eqb (c .before .before .before .before .before .before .before .args .number) 17 (c .before .before .before .before .before .match .rest .0 .0 .0 .0 .0 .0 .0 .0 .0 .0 .0 .0 .1), ne-eqb (c .before .before .before .before .before .before .before .args .number) 18 (c .before .before .before .before .before .match .rest .0 .0 .0 .0 .0 .0 .0 .0 .0 .0 .0 .1), ne-eqb (c .before .before .before .before .before .before .before .args .number) 19 (c .before .before .before .before .before .match .rest .0 .0 .0 .0 .0 .0 .0 .0 .0 .0 .1), ne-eqb (c .before .before .before .before .before .before .before .args .number) 21 (c .before .before .before .before .before .match .rest .0 .0 .0 .0 .0 .0 .0 .0 .0 .1), ne-eqb (c .before .before .before .before .before .before .before .args .number) 22 (c .before .before .before .before .before .match .rest .0 .0 .0 .0 .0 .0 .0 .0 .1), ne-eqb (c .before .before .before .before .before .before .before .args .number) 23 (c .before .before .before .before .before .match .rest .0 .0 .0 .0 .0 .0 .0 .1), ne-eqb (c .before .before .before .before .before .before .before .args .number) 24 (c .before .before .before .before .before .match .rest .0 .0 .0 .0 .0 .0 .1), ne-eqb (c .before .before .before .before .before .before .before .args .number) 25 (c .before .before .before .before .before .match .rest .0 .0 .0 .0 .0 .1), ne-eqb (c .before .before .before .before .before .before .before .args .number) 31 (c .before .before .before .before .before .match .rest .0 .0 .0 .0 .1), ne-eqb (c .before .before .before .before .before .before .before .args .number) 32 (c .before .before .before .before .before .match .rest .0 .0 .0 .1), ne-eqb (c .before .before .before .before .before .before .before .args .number) 51 (c .before .before .before .before .before .match .rest .0 .0 .1), ne-eqb (c .before .before .before .before .before .before .before .args .number) 52 (c .before .before .before .before .before .match .rest .0 .1), ne-eqb (c .before .before .before .before .before .before .before .args .number) 53 (c .before .before .before .before .before .match .rest .1)) (c .before .before .write19 .ensures)
 
 pub write-phrase-spec : {M : Type 1} → statement M
 write-phrase-spec =
@@ -318,12 +341,15 @@ write-phrase-spec =
     write-limit-requires-2
     slice-aggregate-write-16
     write-requires-16
+    write-pairs-requires
     slice-aggregate-write-17
     write-requires-17
-    slice-aggregate-write-limit-3
-    write-limit-requires-3
     slice-aggregate-write-18
     write-requires-18
+    slice-aggregate-write-limit-3
+    write-limit-requires-3
+    slice-aggregate-write-19
+    write-requires-19
     same-length
     returns
     same-length-2
@@ -365,4 +391,8 @@ write-phrase-spec =
     same-length-20
     returns-20
     same-length-21
-    returns-21)
+    returns-21
+    same-length-22
+    returns-22
+    same-length-23
+    returns-23)

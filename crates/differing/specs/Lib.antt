@@ -1,0 +1,3 @@
+-- What a reader must believe of comparing two files.
+--     Differing  what the words ask for, what is done, and the bytes of both channels
+pub mod Differing
