@@ -7,7 +7,7 @@ use native.Mathlib.Omega.{arith}
 use lib.ListN.{length, take}
 use lib.Dec.{eqb, ltb}
 use Rattle.pairs.specs.Pairs.{pairsOf}
-use Rattle.pairs.specs.Table.{pairWords}
+use Rattle.pairs.specs.Pairs.{pairWords}
 use Rattle.naturals.specs.Natural.{value}
 use Rattle.diagram.specs.Limits.{maxVariables, maxWords}
 use Rattle.diagram.specs.Diagram.{vars, Accepted as IsAccepted}

@@ -10,7 +10,7 @@ use Rattle.naturals.specs.Natural.{value}
 use Rattle.diagram.specs.Limits.{maxWords}
 use Rattle.diagram.specs.Diagram.{vars}
 use Rattle.diagram.specs.Verdict.{Outcome, accepted, refused as rejected, said as judged}
-use Rattle.pairs.specs.Table.{pairWords}
+use Rattle.pairs.specs.Pairs.{pairWords}
 use Rattle.comparison.specs.Comparison.{differ, firstOnly, secondOnly, inBoth, anyDiffer, least, compareOf, whichOf, Tells}
 use Rattle.comparison.specs.declared.compare.Compared.{Compared}
 use Rattle.blocks.specs.Block.{nodes as stored, refused as unread}
