@@ -1,9 +1,9 @@
 -- What is reported of a diagram and of a file.
 use Prim.Native.Nat.{ℕ, _+_, _*_, _≤_, _<_}
-use mathlib.Core.Path.{_≡_, refl, sym, ap, _∙_}
+use mathlib.Core.Path.{_≡_, sym, ap, _∙_}
 use mathlib.Core.List.{List, _++_}
 use native.Mathlib.Omega.{arith}
-use lib.ListN.{length, take, drop, replicate}
+use lib.ListN.{length, take}
 use borrow.Author.Tests.{le-leb, ltb-false}
 use Rattle.naturals.specs.Natural.{value, wordCount}
 use Rattle.diagram.specs.declared.verdict.Output.the-variants.{Weights}
@@ -16,15 +16,13 @@ use Rattle.diagram.specs.declared.verdict.Verdict.the-variants.{Accepted, Refus
 use Rattle.weights.specs.Weighed.{CountsAndWeighs}
 use Rattle.node_weights.proofs.Answers.{weighed-long, weighed-at}
 use Rattle.diagram.specs.Limits.{maxNodes}
-use Rattle.blocks.specs.Block.{nodes, refused as unread, said as told}
 use Rattle.blocks.specs.declared.stored.Stored.{Stored}
 use Rattle.blocks.specs.declared.stored.Stored.the-variants.{Nodes, Refused as Unread}
-use Rattle.block_file.specs.File.{Reading, reading}
-use Rattle.forms.specs.Form.{readAs, FormReads}
+use Rattle.forms.specs.Form.{FormReads}
 use Rattle.forms.specs.declared.Form.{Form}
 use Rattle.forms.proofs.Laws.{form-few}
 use Rattle.writing.specs.Writing.{Wrote}
-use Rattle.report.specs.Report.{refusal, head, lines, weightIn, weighedReport, weightsLent, roomLent, diagramReport, storedReport, blank, reportOf}
+use Rattle.report.specs.Report.{refusal, head, lines, weightIn, weightsLent, roomLent, diagramReport, blank, reportOf}
 use Rattle.report.proofs.Composing.{lines-same}
 
 module _ (w room room-left table left : List ℕ) {r : Verdict} {count : List ℕ} (a : CountsAndWeighs w room room-left table left r count)

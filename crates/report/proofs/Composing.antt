@@ -1,16 +1,15 @@
 -- Lines from their parts.
-use Prim.Native.Nat.{ℕ, zero, suc, _+_, _-_, _*_, _≤_, _<_}
-use mathlib.Core.Path.{_≡_, refl, sym, ap, _∙_}
-use mathlib.Core.List.{List, [], _∷_, _++_}
+use Prim.Native.Nat.{ℕ, zero, suc, _+_, _-_, _≤_, _<_}
+use mathlib.Core.Path.{_≡_, refl, ap}
+use mathlib.Core.List.{List, [], _++_}
 use native.Mathlib.Omega.{arith}
 use native.Mathlib.Numerals.{add-one}
-use lib.ListN.{length}
 use Rattle.naturals.specs.Natural.{value}
 use Rattle.diagram.specs.Diagram.{varOf, size, vars}
 use Rattle.writing.specs.Writing.{bytes, Wrote}
 use Rattle.writing.proofs.Laws.{wrote-then, Still, still-begins}
 use Rattle.text.specs.Digits.{decimal, hexadecimal}
-use Rattle.report.specs.Report.{refusal, line, lines, head, feed}
+use Rattle.report.specs.Report.{line, lines, head, feed}
 
 pub wrote-head : (w : List ℕ) (count : ℕ) {x : ℕ} {f₀ f₁ f₂ f₃ f₄ : List ℕ} {p₀ p₁ p₂ p₃ p₄ : ℕ} → x ≡ vars w
     → Wrote (bytes "vars " ++ decimal x) f₀ p₀ f₁ p₁ → Wrote (bytes "\nnodes " ++ decimal (size w)) f₁ p₁ f₂ p₂

@@ -3,7 +3,7 @@ use Prim.Native.Nat.{ℕ, zero, suc, _+_, _*_, _≤_, _<_}
 use mathlib.Core.Path.{_≡_, refl, ap, _∙_}
 use mathlib.Core.List.{List, _++_}
 use native.Mathlib.Omega.{arith}
-use lib.ListN.{length, take, drop, replicate, length-append, length-take}
+use lib.ListN.{length, take, drop, length-append}
 use lib.Seq.{take-at}
 use Rattle.diagram.specs.Diagram.{varOf, size, vars, Accepted}
 use Rattle.diagram.specs.Valuations.{countOf, weightOf}
@@ -11,13 +11,12 @@ use Rattle.diagram.specs.Verdict.{Outcome, accepted, refused, verdictFor}
 use Rattle.diagram.specs.declared.verdict.Output.the-variants.{Weights}
 use Rattle.diagram.proofs.Meaning.{verdict-accepted}
 use Rattle.diagram.proofs.Reading.{layered, accepted-ordered, var-most}
-use Rattle.diagram.specs.Limits.{maxNodes}
 use Rattle.blocks.specs.Block.{nodes, refused as unread}
 use Rattle.block_file.specs.File.{Reading, reading}
 use Rattle.forms.specs.Form.{readAs}
 use Rattle.forms.specs.declared.Form.{Form}
 use Rattle.forms.proofs.Promised.{front-enough}
-use Rattle.text.specs.Digits.{decimalDigits, hexadecimalDigits, decimal}
+use Rattle.text.specs.Digits.{decimalDigits, decimal}
 use Rattle.text.proofs.Numerals.{decimal-length, decimal-short, hexadecimal-length}
 use Rattle.writing.specs.Writing.{Wrote}
 use Rattle.writing.proofs.Laws.{wrote-length, wrote-fits, wrote-place}

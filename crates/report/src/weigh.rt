@@ -9,29 +9,38 @@ use diagram::verdict::Verdict;
 use forms::Form;
 use forms::read_form;
 use node_weights::count_and_weights;
-ghost use Prim.Native.Nat.{_*_, _≤_};
+ghost use mathlib.Core.Path.{_≡_};
+ghost use Prim.Native.Nat.{_*_};
 ghost use lib.ListN.{length};
 ghost use Rattle.writing.specs.Writing.{Wrote};
-ghost use Rattle.report.specs.Report.{reportOf, diagramReport};
+ghost use Rattle.report.specs.Report.{reportOf, diagramReport, roomLent, weightsLent};
 
 // Words of the weights of the most nodes, and of the room to weigh them.
 const WEIGHTS: usize = naturals::WORDS * MAX_NODES;
 
 const ROOM: usize = ROOM_PER_NODE * MAX_NODES;
 
-// The report of a diagram, or its refusal.
+// The report of a diagram, or its refusal, with a room and an output for weights that are long enough for any.
+fn report_in(out: &mut [u8], words: &[u32], room: &mut [u32], weights: &mut [u32]) -> usize
+    requires { ⌜ (length (now room) ≡ roomLent) × (length (now weights) ≡ weightsLent) ⌝ }
+    ensures { λ r. ⌜ Wrote (diagramReport (now (words .entry))) (now (out .entry)) 0 (now (out .exit)) r ⌝ }
+{
+    let both = count_and_weights(words, room, weights);
+    let verdict = both.verdict;
+    let count = both.count;
+    match verdict {
+        Verdict::Accepted { nodes: _, vars: _ } => write_lines(out, words, count, weights),
+        Verdict::Refused { number, place } => write_refusal(out, number, place),
+    }
+}
+
+// The same, with a room and an output of its own.
 pub fn report_diagram(out: &mut [u8], words: &[u32]) -> usize
     ensures { λ r. ⌜ Wrote (diagramReport (now (words .entry))) (now (out .entry)) 0 (now (out .exit)) r ⌝ }
 {
     let mut weights = [0u32; WEIGHTS];
     let mut room = [0u32; ROOM];
-    let both = count_and_weights(words, &mut room, &mut weights);
-    let verdict = both.verdict;
-    let count = both.count;
-    match verdict {
-        Verdict::Accepted { nodes: _, vars: _ } => write_lines(out, words, count, &weights),
-        Verdict::Refused { number, place } => write_refusal(out, number, place),
-    }
+    report_in(out, words, &mut room, &mut weights)
 }
 
 // The report of a file: the file's refusal, or what its diagram reports.

@@ -1,5 +1,4 @@
 use Rattle.writing.proofs.Laws.{wrote-then}
-use native.Mathlib.Omega.{arith}
 use borrow.Author.Needs.{needs}
 use Rattle.report.proofs.lines.write_refusal.Statement.{statement}
 use Rattle.report.proofs.lines.write_refusal.Tie as tie

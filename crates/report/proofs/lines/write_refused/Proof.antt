@@ -1,6 +1,5 @@
 use Rattle.writing.proofs.Laws.{wrote-then}
 use Rattle.report.specs.Report.{refusedAt}
-use native.Mathlib.Omega.{arith}
 use borrow.Author.Needs.{needs}
 use Rattle.report.proofs.lines.write_refused.Statement.{statement}
 use Rattle.report.proofs.lines.write_refused.Tie as tie

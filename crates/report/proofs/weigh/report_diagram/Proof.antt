@@ -1,62 +1,31 @@
-use Prim.Native.Nat.{ℕ}
-use mathlib.Core.Path.{sym}
-use lib.ListN.{length-replicate}
 use Rattle.report.specs.Report.{weightsLent, roomLent}
-use Rattle.report.proofs.Answering.{diagram-refused, diagram-weighed, weights-fit}
-use native.Mathlib.Omega.{arith}
-use borrow.Author.Needs.{needs}
+use lib.ListN.{length-replicate}
+use mathlib.Core.Path.{sym}
+use Prim.Native.Nat.{ℕ}
 use Rattle.report.proofs.weigh.report_diagram.Statement.{statement}
 use Rattle.report.proofs.weigh.report_diagram.Tie as tie
 
-slice-aggregate-count-and-weights : tie.Need-slice-aggregate-count-and-weights
-slice-aggregate-count-and-weights c = sym (length-replicate {A = ℕ} roomLent 0)
+slice-aggregate-report-in : tie.Need-slice-aggregate-report-in
+slice-aggregate-report-in c = sym (length-replicate {A = ℕ} roomLent 0)
 
-slice-aggregate-count-and-weights-2 : tie.Need-slice-aggregate-count-and-weights-2
-slice-aggregate-count-and-weights-2 c = sym (length-replicate {A = ℕ} weightsLent 0)
+slice-aggregate-report-in-2 : tie.Need-slice-aggregate-report-in-2
+slice-aggregate-report-in-2 c = sym (length-replicate {A = ℕ} weightsLent 0)
 
-count-and-weights-requires : tie.Need-count-and-weights-requires
-count-and-weights-requires c κs = search needs
-
-enum-told : tie.Need-enum-told
-enum-told c = search needs
-
-slice-aggregate-write-lines : tie.Need-slice-aggregate-write-lines
-slice-aggregate-write-lines c = sym (c .before .before .before .before .before .before .before .count-and-weights .kept .1 .1 .0)
-
-write-lines-requires : tie.Need-write-lines-requires
-write-lines-requires c κs = omega (arith, weights-fit (c .before .before .before .before .before .before .before .before .before .before .before .before .args .words .now) _ _ _ _ (c .before .before .before .before .before .before .before .count-and-weights .ensures) (length-replicate {A = ℕ} weightsLent 0) (length-replicate {A = ℕ} roomLent 0) (c .before .before .enum-told .given .1))
-
-enum-known-verdict : tie.Need-enum-known-verdict
-enum-known-verdict c = search needs
-
-write-refusal-requires : tie.Need-write-refusal-requires
-write-refusal-requires c κs = search needs
+report-in-requires : tie.Need-report-in-requires
+report-in-requires c κs = (length-replicate {A = ℕ} roomLent 0, length-replicate {A = ℕ} weightsLent 0)
 
 same-length : tie.Need-same-length
-same-length c = search needs
+same-length c = c .before .before .before .before .report-in .kept .0
 
 returns : tie.Need-returns
-returns c = diagram-weighed (c .before .before .before .before .before .before .before .before .before .before .before .before .before .before .before .args .words .now) _ _ _ _ (c .before .before .before .before .before .before .before .before .before .before .count-and-weights .ensures) (length-replicate {A = ℕ} weightsLent 0) (length-replicate {A = ℕ} roomLent 0) (c .before .before .before .before .before .enum-told .given .1) (c .before .before .write-lines .ensures)
-
-same-length-2 : tie.Need-same-length-2
-same-length-2 c = search needs
-
-returns-2 : tie.Need-returns-2
-returns-2 c = diagram-refused (c .before .before .before .before .before .before .before .before .before .before .before .before .before .before .before .args .words .now) _ _ _ _ (c .before .before .before .before .before .before .before .before .before .before .count-and-weights .ensures) (length-replicate {A = ℕ} weightsLent 0) (length-replicate {A = ℕ} roomLent 0) (c .before .before .before .before .before .verdict .given .1) (c .before .before .write-refusal .ensures)
+returns c = c .before .before .before .before .report-in .ensures
 
 pub report-diagram-spec : {M : Type 1} → statement M
 report-diagram-spec =
     tie.close
     (tie.spec
-    slice-aggregate-count-and-weights
-    slice-aggregate-count-and-weights-2
-    count-and-weights-requires
-    enum-told
-    slice-aggregate-write-lines
-    write-lines-requires
-    enum-known-verdict
-    write-refusal-requires
+    slice-aggregate-report-in
+    slice-aggregate-report-in-2
+    report-in-requires
     same-length
-    returns
-    same-length-2
-    returns-2)
+    returns)
