@@ -14,6 +14,7 @@ use libc::STDOUT_FILENO;
 use node_file::layout::NODE_INPUT;
 ghost use Prim.Native.Nat.{_≤_};
 ghost use lib.ListN.{length};
+ghost use Rattle.differ.specs.Program.{Words, Answered, Ran};
 
 // What was read of a file: whether all reads went well, and how many bytes there are.
 struct Input {
@@ -58,7 +59,10 @@ fn run(
     old: &[u8],
     new_found: bool,
     new: &[u8],
-) -> Ends {
+) -> Ends
+    requires { ⌜ Words (now first) (now second) (now third) ⌝ }
+    ensures { λ r. ⌜ Answered count (now (first .entry)) (now (second .entry)) (now (third .entry)) «old_found» (now (old .entry)) «new_found» (now (new .entry)) (r .lines) (r .text) ⌝ }
+{
     let mut lines = [0u8; LINES];
     let mut text = [0u8; TEXT];
     let ends = answer(
@@ -135,7 +139,10 @@ fn read_and_run(
     third: &[u8],
     old_name: &[u8],
     new_name: &[u8],
-) -> Ends {
+) -> Ends
+    requires { ⌜ Words (now first) (now second) (now third) ⌝ }
+    ensures { λ r. ⌜ Ran (r .lines) (r .text) ⌝ }
+{
     let mut old = blank_input();
     let mut new = blank_input();
     let a = read_file(old_name, &mut old);
@@ -155,7 +162,10 @@ fn read_and_run(
 }
 
 // No file is opened where the words ask for no comparison.
-fn obey(count: usize, first: &[u8], second: &[u8], third: &[u8]) -> Ends {
+fn obey(count: usize, first: &[u8], second: &[u8], third: &[u8]) -> Ends
+    requires { ⌜ Words (now first) (now second) (now third) ⌝ }
+    ensures { λ r. ⌜ Ran (r .lines) (r .text) ⌝ }
+{
     let asked = asked_of(count, first);
     match asked {
         Asked::Help => run(count, first, second, third, false, b"", false, b""),
