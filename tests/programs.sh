@@ -1,5 +1,5 @@
 #!/usr/bin/env bash
-# Runs the built programs weigh, shrink and convert on the cases of tests/programs (made by tests/program_cases.py) and compares
+# Runs the built programs weigh, shrink, convert and differ on the cases of tests/programs (made by tests/program_cases.py) and compares
 # standard output and standard error, byte by byte. Argument: the folder of the programs.
 set -u
 programs=$(cd "${1:-target/bin}" && pwd) || exit 2
@@ -55,7 +55,7 @@ else
 fi
 # Words that ask for nothing are answered without waiting for an input: here none ever comes.
 mkfifo "$made/never" || exit 2
-for call in 'shrink' 'shrink keep count 6' 'shrink keep' 'shrink nodes' 'shrink nodes keep count 6' 'shrink keep nodes size 4' 'weigh blocks' 'weigh nodes nodes' 'convert' 'convert blocks'; do
+for call in 'shrink' 'shrink keep count 6' 'shrink keep' 'shrink nodes' 'shrink nodes keep count 6' 'shrink keep nodes size 4' 'weigh blocks' 'weigh nodes nodes' 'convert' 'convert blocks' 'differ' 'differ nodes'; do
     # shellcheck disable=SC2086
     timeout 5 "$programs/"$call <> "$made/never" > "$made/out" 2> "$made/err"
     if [ ! -s "$made/out" ] && [ -s "$made/err" ]; then
@@ -78,9 +78,38 @@ if [ -r /dev/zero ]; then
         fi
     done
 fi
+# Files that are no plain files: in pieces, without an end, and a folder.
+{ head -c 7 D.nodes; sleep 0.1; tail -c +8 D.nodes; } | "$programs/differ" nodes /dev/stdin cut.nodes > "$made/out" 2> "$made/err"
+"$programs/differ" nodes D.nodes cut.nodes > "$made/whole" 2>> "$made/err"
+if [ -s "$made/out" ] && [ ! -s "$made/err" ] && cmp -s "$made/out" "$made/whole"; then
+    passed=$((passed + 1))
+else
+    failed=$((failed + 1))
+    echo "programs: differ: a file that comes in pieces is not the same as in one"
+fi
+if [ -r /dev/zero ]; then
+    for names in '/dev/zero D.nodes' 'D.nodes /dev/zero'; do
+        # shellcheck disable=SC2086
+        timeout 5 "$programs/differ" nodes $names > "$made/out" 2>&1
+        if grep -q '^/dev/zero: refused 53 at 0' "$made/out"; then
+            passed=$((passed + 1))
+        else
+            failed=$((failed + 1))
+            echo "programs: differ nodes $names: it is not refused 53 at 0"
+        fi
+    done
+fi
+# Room and table fit the stack that programs are given.
+(ulimit -s 8192; "$programs/differ" nodes crowd-first.nodes crowd-second.nodes) > "$made/out" 2> "$made/err"
+if grep -q '^smallest difference ' "$made/out" && [ ! -s "$made/err" ]; then
+    passed=$((passed + 1))
+else
+    failed=$((failed + 1))
+    echo "programs: differ: it takes more than 8 MiB of stack"
+fi
 # Where standard output takes nothing, the one line that says so.
 if [ -w /dev/full ]; then
-    for case in 'D.block weigh' 'D.block shrink keep size 4' 'D.block convert blocks to nodes' 'D.bdd weigh nodes' 'D.bdd shrink nodes keep size 4' 'D.bdd convert nodes to blocks'; do
+    for case in 'D.block weigh' 'D.block shrink keep size 4' 'D.block convert blocks to nodes' 'D.bdd weigh nodes' 'D.bdd shrink nodes keep size 4' 'D.bdd convert nodes to blocks' 'D.block differ D.block cut.block' 'D.bdd differ nodes D.nodes cut.nodes'; do
         call=${case#* }
         # shellcheck disable=SC2086
         "$programs/"$call < "../../examples/${case%% *}" > /dev/full 2> "$made/err"

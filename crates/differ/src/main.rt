@@ -12,10 +12,12 @@ use forms::Form;
 use libc::STDERR_FILENO;
 use libc::STDOUT_FILENO;
 use node_file::layout::NODE_INPUT;
+ghost use mathlib.Core.Path.{_≡_};
 ghost use Prim.Native.Nat.{_≤_};
 ghost use lib.ListN.{length};
+ghost use Rattle.differ.specs.Program.{Words, Answered, Ran};
 
-// What was read of a file: whether all reads went well, and how many bytes there are.
+// What was read of a file: whether it could be, and how many bytes there are.
 struct Input {
     pub found: bool,
     pub length: usize,
@@ -58,7 +60,10 @@ fn run(
     old: &[u8],
     new_found: bool,
     new: &[u8],
-) -> Ends {
+) -> Ends
+    requires { ⌜ Words (now first) (now second) (now third) ⌝ }
+    ensures { λ r. ⌜ Answered count (now (first .entry)) (now (second .entry)) (now (third .entry)) «old_found» (now (old .entry)) «new_found» (now (new .entry)) (r .lines) (r .text) ⌝ }
+{
     let mut lines = [0u8; LINES];
     let mut text = [0u8; TEXT];
     let ends = answer(
@@ -77,46 +82,34 @@ fn run(
     ends
 }
 
-// Reads until the buffer is full, the file ends or a read fails.
-fn read_all(file: i32, bytes: &mut [u8]) -> Input
-    ensures { λ r. ⌜ r .length ≤ length (now (bytes .exit)) ⌝ }
+fn nothing() -> Input
+    ensures { λ r. ⌜ r .length ≡ 0 ⌝ }
 {
-    let mut length = 0;
-    while length < bytes.len() {
-        let got = libc::read(file, &mut bytes[length..]);
-        if got < 0 {
-            return Input {
-                found: false,
-                length: 0,
-            };
-        }
-        if got == 0 {
-            return Input {
-                found: true,
-                length,
-            };
-        }
-        length += io::count(got, &bytes[length..]);
-    }
     Input {
-        found: true,
-        length,
+        found: false,
+        length: 0,
     }
 }
 
+// A read that fails looks like the end of the file, so one more is made: at the end it finds nothing, and a failure it meets again.
 fn read_file(name: &[u8], bytes: &mut [u8]) -> Input
     ensures { λ r. ⌜ r .length ≤ length (now (bytes .exit)) ⌝ }
 {
     let file = os::open_read(name);
     if file < 0 {
-        return Input {
-            found: false,
-            length: 0,
-        };
+        return nothing();
     }
-    let input = read_all(file, bytes);
+    let length = io::read_full(file, bytes);
+    let mut spare = [0u8; 1];
+    let after = libc::read(file, &mut spare);
     libc::close(file);
-    input
+    if after < 0 {
+        return nothing();
+    }
+    Input {
+        found: true,
+        length,
+    }
 }
 
 // The words after the program's own name.
@@ -135,7 +128,10 @@ fn read_and_run(
     third: &[u8],
     old_name: &[u8],
     new_name: &[u8],
-) -> Ends {
+) -> Ends
+    requires { ⌜ Words (now first) (now second) (now third) ⌝ }
+    ensures { λ r. ⌜ Ran (r .lines) (r .text) ⌝ }
+{
     let mut old = blank_input();
     let mut new = blank_input();
     let a = read_file(old_name, &mut old);
@@ -155,7 +151,10 @@ fn read_and_run(
 }
 
 // No file is opened where the words ask for no comparison.
-fn obey(count: usize, first: &[u8], second: &[u8], third: &[u8]) -> Ends {
+fn obey(count: usize, first: &[u8], second: &[u8], third: &[u8]) -> Ends
+    requires { ⌜ Words (now first) (now second) (now third) ⌝ }
+    ensures { λ r. ⌜ Ran (r .lines) (r .text) ⌝ }
+{
     let asked = asked_of(count, first);
     match asked {
         Asked::Help => run(count, first, second, third, false, b"", false, b""),

@@ -2,7 +2,7 @@
 -- `old` and `new` their names as they were given.
 use Prim.Native.Nat.{ℕ, _*_, _≤_}
 use mathlib.Core.Path.{_≡_}
-use mathlib.Core.Bool.{Bool, cond}
+use mathlib.Core.Bool.{Bool, true, false, cond}
 use mathlib.Core.List.{List, [], _∷_, _++_}
 use lib.ListN.{take}
 use lib.Dec.{eqb}
@@ -38,6 +38,12 @@ askedOf count first =
     (cond (eqb count 2) (Compare Blocks)
     (cond (eqb count 3) (cond (isNodes first) (Compare Nodes) Unknown)
     Unknown))
+
+-- Whether files are looked at: only for a comparison.
+abbrev pub looks : Asked → Bool
+looks Help = false
+looks Unknown = false
+looks (Compare form) = true
 
 -- Which of the words are the two names.
 abbrev pub oldName : Form → List ℕ → List ℕ → List ℕ

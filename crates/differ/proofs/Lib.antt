@@ -1,0 +1,3 @@
+-- Laws that belong to no one function.
+--     Running  the buffers hold the whole of both answers
+pub mod Running

@@ -1,0 +1,2 @@
+-- What a reader must believe of the program `differ`.
+pub mod Program
