@@ -5,7 +5,6 @@ MAX_NODES = 4096        # the most nodes of a diagram
 MAX_VARS = 511          # the most variables
 ROOM = 128              # words of working room for each node
 COUNT = 16              # words of a count
-PAIR = 64               # words of a pair of nodes in the table of a comparison
 BLOCK = 512             # bytes of a block
 BLOCK_NODES = 50        # nodes of a whole block
 FILE_NODES = 120        # the most nodes of a block file

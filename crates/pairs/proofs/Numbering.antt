@@ -8,14 +8,13 @@ use native.Mathlib.Omega.{arith}
 use lib.ListN.{length}
 use lib.Dec.{eqb}
 use borrow.Author.Tests.{eqb-true, eq-eqb, ne-eqb}
-use Rattle.diagram.specs.Limits.{maxNodes}
 use Rattle.diagram.specs.Diagram.{vars}
 use Rattle.diagram.specs.Marking.{count}
 use Rattle.diagram.proofs.Tests.{by-test, not-both, or-cases, or-left}
 use Rattle.diagram.proofs.Count.{count-most, count-less}
 use Rattle.counts.specs.Counting.{In, here, there, Once, none, more}
 use Rattle.counts.proofs.Turns.{not-in, in-one, in-append, in-left, in-right, once-append}
-use Rattle.pairs.specs.Pairs.{maxPairs, Pair, levelOf, next, ended, roots, Reached, start, step, met, meet, allOf}
+use Rattle.pairs.specs.Pairs.{maxPairs, Pair, levelOf, next, ended, roots, Reached, start, step, met, meet, allOf, pairsOf}
 use Rattle.pairs.specs.Table.{keyOf, Alike}
 use Rattle.pairs.specs.Walks.{Walks}
 use Rattle.pairs.proofs.Levels.{Inside, going, goes, roots-in, level-most, next-in, next-above}
@@ -153,48 +152,62 @@ module _ (a b : List ℕ) (alike : Alike a b) where
   pub all-in : (y : Pair) → In y (allOf a b) → Inside a b y
   all-in y i = reached-in (all-right y i)
 
--- ---- how many there can be: their words are different, and small
+-- ---- how many there can be: no more than there are numbers below n, where each has a number of its own below n
 
-has-key : List Pair → ℕ → Bool
-has-key [] k = false
-has-key (x ∷ s) k = eqb (keyOf x) k || has-key s k
+module _ (key : Pair → ℕ) where
+  has-key : List Pair → ℕ → Bool
+  has-key [] k = false
+  has-key (x ∷ s) k = eqb (key x) k || has-key s k
 
-has-told : (s : List Pair) (k : ℕ) → has-key s k ≡ true → (x : Pair) × In x s × (keyOf x ≡ k)
-unfolding has-key
-has-told [] k e = absurd (not-both false e refl)
-has-told (x ∷ s) k e = or-cases (eqb (keyOf x) k) (has-key s k) e
-    (λ t. (x, here, eqb-true (keyOf x) k t))
-    (λ t. let r = has-told s k t in (r .0, there (r .1), r .2))
-
-none-has : (n : ℕ) → count n (has-key []) ≡ 0
-unfolding count has-key
-none-has zero = refl
-none-has (suc n) = none-has n
-
-module _ (x : Pair) (s : List Pair) (new : In x s → ⊥) (small : (y : Pair) → In y (x ∷ s) → y .second < maxNodes) where
-  has-front : has-key (x ∷ s) (keyOf x) ≡ true
+  has-told : (s : List Pair) (k : ℕ) → has-key s k ≡ true → (x : Pair) × In x s × (key x ≡ k)
   unfolding has-key
-  has-front = or-left (eqb (keyOf x) (keyOf x)) (has-key s (keyOf x)) (eq-eqb (keyOf x) (keyOf x) refl)
+  has-told [] k e = absurd (not-both false e refl)
+  has-told (x ∷ s) k e = or-cases (eqb (key x) k) (has-key s k) e
+      (λ t. (x, here, eqb-true (key x) k t))
+      (λ t. let r = has-told s k t in (r .0, there (r .1), r .2))
 
-  has-not : has-key s (keyOf x) ≡ false
-  has-not = by-test (has-key s (keyOf x))
-      (λ e.
-      let r = has-told s (keyOf x) e in
-      let same = key-tells (r .0) x (small (r .0) (there (r .1))) (small x here) (r .2) in
-      absurd (new (subst (λ (z : Pair). In z s) same (r .1))))
-      (λ e. e)
+  none-has : (n : ℕ) → count n (has-key []) ≡ 0
+  unfolding count has-key
+  none-has zero = refl
+  none-has (suc n) = none-has n
 
-  has-other : (k : ℕ) → (k ≡ keyOf x → ⊥) → has-key (x ∷ s) k ≡ has-key s k
-  unfolding has-key
-  has-other k ne = rw (ne-eqb (keyOf x) k (λ e. ne (sym e))) refl
+  -- pairs of a list have numbers of their own
+  Own : List Pair → Type 0
+  Own s = (x y : Pair) → In x s → In y s → key x ≡ key y → x ≡ y
 
-few-pairs : (n : ℕ) (s : List Pair) → Once s → ((x : Pair) → In x s → keyOf x < n) → ((x : Pair) → In x s → x .second < maxNodes)
-    → length s ≡ count n (has-key s)
-few-pairs n [] o small narrow = sym (none-has n)
-few-pairs n (x ∷ s) (more new o) small narrow =
-    let rest = few-pairs n s o (λ y i. small y (there i)) (λ y i. narrow y (there i)) in
-    let one = count-less n (has-key (x ∷ s)) (has-key s) (keyOf x) (small x here) (has-front x s new narrow) (has-not x s new narrow) (λ k l. has-other x s new narrow k) in
-    omega arith
+  module _ (x : Pair) (s : List Pair) (new : In x s → ⊥) (own : Own (x ∷ s)) where
+    has-front : has-key (x ∷ s) (key x) ≡ true
+    unfolding has-key
+    has-front = or-left (eqb (key x) (key x)) (has-key s (key x)) (eq-eqb (key x) (key x) refl)
+
+    has-not : has-key s (key x) ≡ false
+    unfolding Own
+    has-not = by-test (has-key s (key x))
+        (λ e.
+        let r = has-told s (key x) e in
+        let same = own (r .0) x (there (r .1)) here (r .2) in
+        absurd (new (subst (λ (z : Pair). In z s) same (r .1))))
+        (λ e. e)
+
+    has-other : (k : ℕ) → (k ≡ key x → ⊥) → has-key (x ∷ s) k ≡ has-key s k
+    unfolding has-key
+    has-other k ne = rw (ne-eqb (key x) k (λ e. ne (sym e))) refl
+
+  few-pairs : (n : ℕ) (s : List Pair) → Once s → ((x : Pair) → In x s → key x < n) → Own s → length s ≡ count n (has-key s)
+  unfolding Own
+  few-pairs n [] o small own = sym (none-has n)
+  few-pairs n (x ∷ s) (more new o) small own =
+      let rest = few-pairs n s o (λ y i. small y (there i)) (λ y z i j. own y z (there i) (there j)) in
+      let one = count-less n (has-key (x ∷ s)) (has-key s) (key x) (small x here) (has-front x s new own) (has-not x s new own) (λ k l. has-other x s new own k) in
+      omega arith
+
+  pub few-by : (n : ℕ) (a b : List ℕ) → Alike a b → ((x : Pair) → Inside a b x → key x < n)
+      → ((x y : Pair) → Inside a b x → Inside a b y → key x ≡ key y → x ≡ y) → pairsOf a b ≤ n
+  unfolding Own
+  few-by n a b alike small own =
+      let is = few-pairs n (allOf a b) (all-once a b alike) (λ x i. small x (all-in a b alike x i)) (λ x y i j. own x y (all-in a b alike x i) (all-in a b alike y j)) in
+      let most = count-most n (has-key (allOf a b)) in
+      omega arith
 
 pub walks : Walks
 walks = record {
@@ -208,11 +221,7 @@ walks = record {
         all = all-met a b alike;
       };
   few = λ a b first second same.
-      let alike : Alike a b = record { first = first; second = second; variables = same } in
-      let is = few-pairs maxPairs (allOf a b) (all-once a b alike)
-      (λ x i. let h = all-in a b alike x i in omega (arith, h .first, h .second, first .formed .few, second .formed .few))
-      (λ x i. let h = all-in a b alike x i in omega (arith, h .second, second .formed .few))
-      in
-      let most = count-most maxPairs (has-key (allOf a b)) in
-      omega arith;
+      few-by keyOf maxPairs a b (record { first = first; second = second; variables = same })
+      (λ x h. omega (arith, h .first, h .second, first .formed .few, second .formed .few))
+      (λ x y h g. key-tells x y (omega (arith, h .second, second .formed .few)) (omega (arith, g .second, second .formed .few)));
 }
