@@ -5,8 +5,9 @@
  *           difference, and the clearing of room and table. The table is as long as the pairs need, not a word longer.
  *   BuDDy   bdd_apply(.., bddop_xor) and bdd_satcountset of what it gives: how many valuations differ, as a double. The two functions are
  *           built before, from the reduced arrays. Before each call, outside the time, the last result is let go and bdd_gbc frees its nodes
- *           and empties all caches. Tables of other sizes than those below (as many nodes, four and eight times as many, caches of two to
- *           eight entries a pair) were tried and serve it no better.
+ *           and empties all caches. As many nodes, or four times as many, in place of twice make no clear difference; larger caches make it
+ *           slower where pairs are many.
+ *   three   the same for the counts that ours gives: bddop_diff one way and the other, bddop_and, and bdd_satcountset of each.
  *
  *     bash bench/buddy/run.sh [SEED] */
 #include "../../include/houayletan.h"
@@ -159,6 +160,23 @@ static void hold(const HouayletanComparison *r, double theirs) {
     if (fabs(ours - theirs) > 1e-9 * ours) stop("the two don't agree");
 }
 
+/* How many valuations hold in one only, in the other only and in both: the time in ns. */
+static double three_counts(BDD x, BDD y, BDD all, const HouayletanComparison *r) {
+    const struct { BDD first, second; int op; const uint32_t *count; } asked[] = {
+        {x, y, bddop_diff, r->first}, {y, x, bddop_diff, r->second}, {x, y, bddop_and, r->both}};
+    double time = 0;
+    for (int i = 0; i < 3; i++) {
+        bdd_gbc();
+        double start = now();
+        BDD z = bdd_addref(bdd_apply(asked[i].first, asked[i].second, asked[i].op));
+        double count = bdd_satcountset(z, all), ours = as_double(asked[i].count);
+        time += now() - start;
+        if (fabs(ours - count) > 1e-9 * ours) stop("the two don't agree on a count");
+        bdd_delref(z);
+    }
+    return time;
+}
+
 static void row(const char *family, const Diagram *a, const Diagram *b) {
     HouayletanComparison r = compare(a, b, PAIRS_MOST);
     if (r.verdict.number) stop("a comparison is refused");
@@ -171,7 +189,7 @@ static void row(const char *family, const Diagram *a, const Diagram *b) {
     if (bdd_setvarnum(vars) < 0) stop("too many variables for BuDDy");
     BDD x = build(a), y = build(b), all = bddtrue;
     for (int v = vars; v-- > 0;) all = bdd_addref(bdd_and(all, bdd_ithvar(v)));
-    double ours[ROUNDS], apply[ROUNDS], count[ROUNDS], both[ROUNDS];
+    double ours[ROUNDS], apply[ROUNDS], count[ROUNDS], both[ROUNDS], three[ROUNDS];
     int made = 0;
     for (int i = 0; i < ROUNDS; i++) {
         double start = now();
@@ -187,11 +205,14 @@ static void row(const char *family, const Diagram *a, const Diagram *b) {
         made = bdd_nodecount(z);
         hold(&r, valuations);
         bdd_delref(z);
+        three[i] = three_counts(x, y, all, &r);
     }
     bdd_done();
     double ns = median(ours, ROUNDS), theirs = median(both, ROUNDS);
-    printf("| %s | %d | %zu, %zu | %zu | %.1f | %.1f | %.0f | %.0f | %d | %.1f | %.0f | %.2f |\n", family, vars, a->len / 3, b->len / 3, pairs, ns / 1000, theirs / 1000,
-           ns / (double)pairs, theirs / (double)pairs, made, median(apply, ROUNDS) / 1000, median(count, ROUNDS) / 1000, ns / theirs);
+    double of_pair = 1 / (double)pairs;
+    printf("| %s (%d) | %zu, %zu | %zu | %.1f | %.1f | %.0f | %.0f (%.0f, %.0f) | %.0f | %d | %.2f |\n", family, vars, a->len / 3, b->len / 3, pairs,
+           ns / 1000, theirs / 1000, ns * of_pair, theirs * of_pair, median(apply, ROUNDS) * of_pair, median(count, ROUNDS) * of_pair,
+           median(three, ROUNDS) * of_pair, made, ns / theirs);
     fflush(stdout);
 }
 
@@ -201,7 +222,8 @@ int main(int argc, char **argv) {
     table = calloc(HOUAYLETAN_TABLE(PAIRS_MOST), 4);
     if (!table) stop("no memory");
     printf("seed %llu, BuDDy %d.%d; times are medians of %d rounds\n\n", (unsigned long long)seed, bdd_versionnum() / 10, bdd_versionnum() % 10, ROUNDS);
-    printf("| family | variables | nodes | pairs | ours, µs | BuDDy, µs | ours, ns a pair | BuDDy, ns a pair | nodes of the xor | its apply, µs | its count, µs | ours / BuDDy |\n|---|--:|--:|--:|--:|--:|--:|--:|--:|--:|--:|--:|\n");
+    printf("| family (variables) | nodes | pairs | ours, µs | BuDDy, µs | ours, ns a pair | BuDDy (xor, count) | BuDDy, three counts | nodes of the xor | ours / BuDDy |\n"
+           "|---|--:|--:|--:|--:|--:|--:|--:|--:|--:|\n");
     const struct { uint32_t vars; size_t width; } shapes[] = {{48, 4}, {48, 16}, {48, 57}, {255, 2}, {255, 5}, {255, 15}, {511, 2}, {511, 3}, {511, 7}};
     for (size_t i = 0; i < sizeof shapes / sizeof *shapes; i++) {
         state = seed + i;
