@@ -1,5 +1,5 @@
 -- What is promised of comparing files, from bytes to bytes.
-use Prim.Native.Nat.{ℕ, _+_, _≤_}
+use Prim.Native.Nat.{ℕ, _+_, _*_, _≤_}
 use mathlib.Core.Path.{_≡_, refl, sym, ap, _∙_}
 use mathlib.Core.Bool.{Bool, false, cond}
 use mathlib.Core.Logic.{_⊎_, inl, inr}
@@ -7,7 +7,13 @@ use mathlib.Core.List.{List, []}
 use native.Mathlib.Omega.{arith}
 use lib.ListN.{length, take, drop}
 use Rattle.diagram.specs.Limits.{maxVariables}
-use Rattle.diagram.specs.Diagram.{vars}
+use Rattle.diagram.specs.Diagram.{size, vars, Accepted}
+use Rattle.diagram.proofs.Reading.{accepted-ordered}
+use Rattle.pairs.specs.Pairs.{pairsOf}
+use Rattle.pairs.proofs.Meeting.{pair-ext}
+use Rattle.pairs.proofs.Numbering.{few-by}
+use Rattle.blocks.specs.Block.{maxStored}
+use Rattle.messages.specs.Texts.{lentPairs}
 use Rattle.diagram.specs.Verdict.{Outcome, accepted, refused as rejected}
 use Rattle.block_file.specs.File.{Reading}
 use Rattle.node_file.specs.NodeFile.{nodeInputBytes}
@@ -107,6 +113,15 @@ front-is-enough Help a b c s t f g k h = refl
 front-is-enough Unknown a b c s t f g k h = refl
 front-is-enough (Compare form) a b c s t f g k h = rw (file-front form f s k h, file-front form g t k h) refl
 
+-- ---- the table: the places of a block file's nodes number the pairs
+
+blocks-enough : (a b : List ℕ) → Accepted a → Accepted b → vars a ≡ vars b → size a ≤ maxStored → size b ≤ maxStored → pairsOf a b ≤ lentPairs
+blocks-enough a b first second same small narrow =
+    few-by (λ x. x .first * maxStored + x .second) lentPairs a b
+    (record { first = accepted-ordered a first; second = accepted-ordered b second; variables = same })
+    (λ x h. omega (arith, h .first, h .second))
+    (λ x y h g e. pair-ext x y (omega (arith, h .second, g .second)) (omega (arith, h .second, g .second)))
+
 pub differed : Differed
 differed =
     record {
@@ -115,6 +130,7 @@ differed =
       lines-fit = lines-fit-all;
       text-fits = text-fits-all;
       front-enough = front-is-enough;
+      blocks-enough = blocks-enough;
     }
 
 -- ---- what stands in the buffers up to the ends is the whole of both answers
