@@ -214,8 +214,7 @@ ROW, CONSTANT = r"^\| (\d+) \| ", r"^pub const \w+: u32 = (\d+);$"
 ruled, compared, stored, filed = (numbers(ROW, section(text_of(RULES), heading)) for heading in ("Refusals", "Two diagrams compared", "Refusals of block files", "Refusals of node files"))
 own = ruled[:ruled.index(12) + 1]
 for path, found, said in [
-    ("crates/diagram/src/refusal.rt", sorted(numbers(CONSTANT, text_of("crates/diagram/src/refusal.rt"))), sorted(ruled)),
-    ("crates/comparison/src/compare.rt", numbers(CONSTANT, text_of("crates/comparison/src/compare.rt")), compared),
+    ("crates/diagram/src/refusal.rt", sorted(numbers(CONSTANT, text_of("crates/diagram/src/refusal.rt"))), sorted(ruled + compared)),
     ("crates/diagram/specs/Verdict.antt", numbers(r"\brow (\d+) ", text_of("crates/diagram/specs/Verdict.antt")), own),
     ("crates/comparison/specs/Comparison.antt", numbers(r"\brow (\d+) ", text_of("crates/comparison/specs/Comparison.antt")), compared),
     ("include/houayletan.h", numbers(r"^ \*   {,2}(\d+)   ", text_of("include/houayletan.h")), ruled + compared + filed),

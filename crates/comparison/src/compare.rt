@@ -2,6 +2,8 @@
 use crate::work::Found;
 use crate::work::work;
 use counts::exact_cardinality;
+use diagram::refusal::OTHER_VARIABLES;
+use diagram::refusal::TOO_MANY_PAIRS;
 use diagram::room::clear;
 use diagram::verdict::Verdict;
 use naturals::Natural;
@@ -16,12 +18,6 @@ ghost use Rattle.pairs.specs.Pairs.{pairWords};
 ghost use Rattle.pairs.specs.Table.{Alike};
 ghost use Rattle.comparison.specs.Comparison.{Compare};
 ghost use Rattle.comparison.specs.Work.{Worked, Nothing, Answered, Known, Besides};
-
-// The diagrams have different variable counts.
-pub const OTHER_VARIABLES: u32 = 31;
-
-// More pairs are reached than the table has places for.
-pub const TOO_MANY_PAIRS: u32 = 32;
 
 // A verdict, and which diagram a refusal is about: 0 the first, or none, and 1 the second. Accepted, `nodes` are the pairs reached. How
 // many valuations hold in the first only, in the second only and in both; whether there is one in which they differ, and the smallest

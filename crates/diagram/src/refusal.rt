@@ -50,3 +50,9 @@ pub const SIZE_TOO_SMALL: u32 = 18;
 
 // The target count lies strictly between 0 and 2^v, and the diagram is a constant that can't be cut to it.
 pub const NOTHING_TO_CUT: u32 = 19;
+
+// Two diagrams have different variable counts.
+pub const OTHER_VARIABLES: u32 = 31;
+
+// Two diagrams reach more pairs of nodes than the table has places for.
+pub const TOO_MANY_PAIRS: u32 = 32;

@@ -1,4 +1,6 @@
 // What is said on standard error.
+use diagram::refusal::OTHER_VARIABLES;
+use diagram::refusal::TOO_MANY_PAIRS;
 use messages::refusal::write_refusal;
 use text::print::DECIMAL;
 use writing::write;
@@ -13,11 +15,6 @@ pub const NAME: usize = 4096;
 const REFUSAL_WORDS: usize = 103;
 
 pub const TEXT: usize = NAME + REFUSAL_WORDS + 4 * DECIMAL;
-
-// Refusals that are about both diagrams.
-const OTHER_VARIABLES: u32 = 31;
-
-const TOO_MANY_PAIRS: u32 = 32;
 
 pub fn write_help(out: &mut [u8]) -> usize
     ensures { λ r. ⌜ Wrote helpText (now (out .entry)) 0 (now (out .exit)) r ⌝ }
