@@ -63,7 +63,7 @@ pub(crate) fn mark(words: &[u32], room: &mut [u32], nodes: usize)
 }
 
 // Whether both children of a node stand at a larger variable.
-pub(crate) fn is_above(words: &[u32], node: BddPointer) -> bool
+pub fn is_above(words: &[u32], node: BddPointer) -> bool
     ensures { λ r. ⌜ r ≡ isAbove (now (words .entry)) (node .0) ⌝ }
 {
     let var = var_of(words, node);

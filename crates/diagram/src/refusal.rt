@@ -56,3 +56,18 @@ pub const OTHER_VARIABLES: u32 = 31;
 
 // Two diagrams reach more pairs of nodes than the table has places for.
 pub const TOO_MANY_PAIRS: u32 = 32;
+
+// A pool has no slot of that number.
+pub const NO_SUCH_SLOT: u32 = 33;
+
+// The slot is taken where a condition is to be added, or empty where one is to be read or dropped.
+pub const WRONG_SLOT: u32 = 34;
+
+// The pool has another variable count than the diagram.
+pub const OTHER_POOL: u32 = 35;
+
+// The pool's table has no room for the condition.
+pub const POOL_FULL: u32 = 36;
+
+// The table and the slots are no well-formed pool.
+pub const NO_POOL: u32 = 46;

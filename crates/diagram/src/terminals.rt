@@ -15,7 +15,7 @@ ghost use Rattle.diagram.specs.Diagram.{size};
 ghost use Rattle.diagram.specs.Verdict.{said, isTerminal, terminalsOf};
 
 // Whether a node has the variable count for its variable, and both links to itself.
-fn is_terminal_node(words: &[u32], node: BddPointer) -> bool
+pub fn is_terminal_node(words: &[u32], node: BddPointer) -> bool
     ensures { λ r. ⌜ r ≡ isTerminal (now (words .entry)) (node .0) ⌝ }
 {
     let var = var_of(words, node);

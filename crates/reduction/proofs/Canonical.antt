@@ -30,10 +30,10 @@ use Rattle.reduction.proofs.Fewest.{Closed, own-fits, store-fits}
 -- ---- a sound store whose last node is the root and reaches all is an accepted diagram
 
 module _ (v : ℕ) (o : List Node) (s : Sound v o) where
-  vars-words : vars (words o) ≡ v
+  pub vars-words : vars (words o) ≡ v
   vars-words = var-words o 0 ∙ ap (λ (n : Node). n .var) (s .zero-node)
 
-  terminal-words : (p : ℕ) → p < 2 → Terminal (words o) p
+  pub terminal-words : (p : ℕ) → p < 2 → Terminal (words o) p
   terminal-words p h =
       let e = terminal-at v o s p h in
       record {
@@ -67,7 +67,7 @@ module _ (v : ℕ) (o : List Node) (s : Sound v o) where
       record { low = a .above-low; high = a .above-high }
 
 -- No two nodes of a sound store are equal.
-sound-once : (v : ℕ) (o : List Node) → Sound v o → (p q : ℕ) → p < length o → q < length o → at o p ≡ at o q → p ≡ q
+pub sound-once : (v : ℕ) (o : List Node) → Sound v o → (p q : ℕ) → p < length o → q < length o → at o p ≡ at o q → p ≡ q
 sound-once v o s p q in-p in-q e =
     let var = ap (λ (n : Node). n .var) e in
     let low = ap (λ (n : Node). n .low) e in

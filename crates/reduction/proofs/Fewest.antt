@@ -26,11 +26,11 @@ pub record Closed (w : List ℕ) (n : ℕ) (live : ℕ → Bool) : Type 0 where
   pub high : (p : ℕ) → p < n → live p ≡ true → 2 ≤ highOf w p → live (highOf w p) ≡ true
 
 module _ (w : List ℕ) (v n : ℕ) (g : Layered w v n) (live : ℕ → Bool) (closed : Closed w n live) where
-  record Marks (o : List Node) : Type 0 where
-    mark : ℕ → Bool
-    alive : (q : ℕ) → mark q ≡ true → live q ≡ true
-    done : (q : ℕ) → mark q ≡ true → own w v q o .store ≡ o
-    bound : length o ≤ 2 + count n mark
+  pub record Marks (o : List Node) : Type 0 where
+    pub mark : ℕ → Bool
+    pub alive : (q : ℕ) → mark q ≡ true → live q ≡ true
+    pub done : (q : ℕ) → mark q ≡ true → own w v q o .store ≡ o
+    pub bound : length o ≤ 2 + count n mark
 
   again : (q : ℕ) (o o′ : List Node) → own w v q o .store ≡ o → Extends o o′ → own w v q o′ .store ≡ o′
   again q o o′ e x = ap (λ (b : Built). b .store) (own-again w v q o o′ (rw e x))
@@ -75,7 +75,7 @@ module _ (w : List ℕ) (v n : ℕ) (g : Layered w v n) (live : ℕ → Bool) (c
       (λ e. omega arith) (λ ne t. omega arith) (λ ne e. let k = length-add o (node i l h) in omega arith)
 
   -- The walk, with fuel for the variables left.
-  abbrev Walks : ℕ → Type 0
+  abbrev pub Walks : ℕ → Type 0
   Walks k = (p : ℕ) → p < n → v ≤ varOf w p + k → (2 ≤ p → live p ≡ true) → (o : List Node) → Marks o → Marks (own w v p o .store)
 
   walk-terminal : (p : ℕ) → p < 2 → p < n → (o : List Node) → Marks o → Marks (own w v p o .store)
@@ -94,7 +94,7 @@ module _ (w : List ℕ) (v n : ℕ) (g : Layered w v n) (live : ℕ → Bool) (c
       rw (same, own-node w v n g p two h o) (join-more (varOf w p) (low .pointer) (high .pointer) (high .store)) in
       subst (λ (b : Built). Marks (b .store)) same (mark-node p two h l (high .store) more after-high)
 
-  walk-marks : (k : ℕ) → Walks k
+  pub walk-marks : (k : ℕ) → Walks k
   walk-marks zero p h fuel l o m = by-two p
       (λ t. walk-terminal p t h o m)
       (λ two. let a = g .node p two h in absurd (omega arith))
@@ -102,7 +102,7 @@ module _ (w : List ℕ) (v n : ℕ) (g : Layered w v n) (live : ℕ → Bool) (c
       (λ t. walk-terminal p t h o m)
       (λ two. walk-node k (walk-marks k) p two h fuel (l two) o m)
 
-  unmarked : Marks (terminals v)
+  pub unmarked : Marks (terminals v)
   unmarked = record {
     mark = λ q. false;
     alive = λ q e. absurd (true≢false (sym e));
@@ -119,7 +119,7 @@ module _ (w : List ℕ) (v n : ℕ) (g : Layered w v n) (live : ℕ → Bool) (c
       omega arith
 
 -- The whole diagram: all nodes but the terminals are live.
-all-closed : (w : List ℕ) (n : ℕ) → Closed w n (leb 2)
+pub all-closed : (w : List ℕ) (n : ℕ) → Closed w n (leb 2)
 all-closed w n = record {
   low = λ p h l. le-leb 2 (lowOf w p);
   high = λ p h l. le-leb 2 (highOf w p);

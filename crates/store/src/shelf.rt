@@ -53,7 +53,7 @@ pub fn start(room: &mut [u32], base: usize, capacity: usize, vars: u32)
 }
 
 // The number below the capacity that a node is looked up by: its words mixed to 32 bits, and these scaled.
-fn key(capacity: usize, var: BddVariable, low: BddPointer, high: BddPointer) -> usize
+pub fn key(capacity: usize, var: BddVariable, low: BddPointer, high: BddPointer) -> usize
     requires { ⌜ capacity ≤ maxNodes ⌝ }
     ensures { λ r. ⌜ r ≡ keyOf capacity (node (var .0) (low .0) (high .0)) ⌝ }
 {
@@ -64,7 +64,7 @@ fn key(capacity: usize, var: BddVariable, low: BddPointer, high: BddPointer) -> 
 }
 
 // Whether a node's three words stand at a place.
-fn is_node(room: &[u32], at: usize, var: BddVariable, low: BddPointer, high: BddPointer) -> bool
+pub fn is_node(room: &[u32], at: usize, var: BddVariable, low: BddPointer, high: BddPointer) -> bool
     requires { ⌜ at ≤ storeTo farthest maxNodes ⌝ }
     ensures { λ r. ⌜ r ≡ same (node (getD (now (room .entry)) at 0) (getD (now (room .entry)) (at + 1) 0) (getD (now (room .entry)) (at + 2) 0)) (node (var .0) (low .0) (high .0)) ⌝ }
 {
