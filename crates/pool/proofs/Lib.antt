@@ -1,0 +1,5 @@
+-- Laws that belong to no one function.
+--     Walked     the part of the table that is walked is an ordered array; building from it is building from its nodes
+--     Gathered   the conditions of the slots, and building them one after the other
+pub mod Walked
+pub mod Gathered
