@@ -63,7 +63,7 @@ Slotted w c count k n r =
 abbrev pub Gathered : (w : List ℕ) (c count from to : ℕ) (n r n′ r′ : List ℕ) (count′ : ℕ) → Type 0
 Gathered w c count from to n r =
     Onward w c (gather (vars w) (held w (slice from to n)) (built r count))
-    (take from n ++ namesOf (vars w) (held w (slice from to n)) (built r count) ++ drop to n)
+    (take from n ++ (namesOf (vars w) (held w (slice from to n)) (built r count) ++ drop to n))
 
 -- A diagram d is built among them for slot k: its memo is empty.
 pub record Adding (w : List ℕ) (c count : ℕ) (r d : List ℕ) : Type 0 where

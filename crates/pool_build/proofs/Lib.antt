@@ -1,0 +1,3 @@
+-- Laws that belong to no one function.
+--     Gathering  the conditions of the slots, one after the other
+pub mod Gathering
