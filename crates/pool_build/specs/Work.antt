@@ -1,9 +1,9 @@
 -- Where the conditions of a pool are built anew, and what the functions ask and promise. No promise to a caller names this file. A store with as
 -- many places as the table has stands in the first of the local words; behind all that it may need stand two memos.
-use Prim.Native.Nat.{ℕ, suc, _+_, _*_, _≤_, _<_, min}
+use Prim.Native.Nat.{ℕ, suc, _+_, _-_, _*_, _≤_, _<_, min}
 use mathlib.Core.Path.{_≡_}
 use mathlib.Core.List.{List, _++_}
-use lib.ListN.{length, getD, set, take, drop}
+use lib.ListN.{length, getD, set, take, drop, replicate}
 use lib.Seq.{slice}
 use lib.Dec.{ltb}
 use Rattle.diagram.specs.Limits.{maxNodes}
@@ -94,6 +94,24 @@ pub record Composed (w : List ℕ) (cs : List Slot) (c : ℕ) (n′ r′ : List 
   pub is-count : count ≡ min (needs (vars w) cs) (suc c)
   pub standing : count ≤ c → Standing w c (gather (vars w) cs (terminals (vars w))) r′
   pub slots : count ≤ c → n′ ≡ slotsOf (vars w) cs
+
+-- What was built is put in the place of what was there: the nodes' words, and zeros behind them.
+pub record Handing (r n t s : List ℕ) (count : ℕ) : Type 0 where
+  pub store : 3 * count ≤ length r
+  pub fits : 3 * count ≤ length t
+  pub few : count ≤ maxNodes
+  pub names : length n ≡ slotCount
+  pub slots : length s ≡ slotCount
+
+pub record HandedBack (r n t t′ s′ : List ℕ) (count : ℕ) : Type 0 where
+  pub table : t′ ≡ take (3 * count) r ++ replicate (length t - 3 * count) 0
+  pub slots : s′ ≡ n
+
+-- Local words that are empty.
+pub record Blank (n r : List ℕ) : Type 0 where
+  pub slots : length n ≡ slotCount
+  pub long : length r ≡ workWords
+  pub zero : (j : ℕ) → getD r j 0 ≡ 0
 
 -- They have taken the place of what was in table and slots; or nothing is changed.
 pub record Replaced (t s : List ℕ) (cs : List Slot) (t′ s′ : List ℕ) (count : ℕ) : Type 0 where

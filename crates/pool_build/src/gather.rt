@@ -6,13 +6,16 @@
 use diagram::limits::MAX_NODES;
 use diagram::node::BddPointer;
 use diagram::node::word;
+use diagram::room::clear;
 use diagram::room::put;
+use pool::SLOTS;
+use reduction::answer::copy;
 use store::shelf::END;
 use store::walk::build;
 ghost use mathlib.Core.Path.{_≡_};
 ghost use Prim.Native.Nat.{suc};
 ghost use Rattle.pool.specs.Walked.{walkedWords};
-ghost use Rattle.pool_build.specs.Work.{built, Standing, Behind, Naming, Slotted, Gathered};
+ghost use Rattle.pool_build.specs.Work.{built, Standing, Behind, Naming, Slotted, Gathered, Handing, HandedBack};
 
 pub(crate) const STORE: usize = 0;
 
@@ -88,4 +91,21 @@ pub(crate) fn gather(
         k += 1;
     }
     made
+}
+
+// Puts what was built in the place of what was there: so many nodes, and behind them zeros.
+pub(crate) fn hand_back(
+    work: &[u32],
+    names: &[u32],
+    table: &mut [u32],
+    slots: &mut [u32],
+    count: usize,
+)
+    requires { ⌜ Handing (now work) (now names) (now table) (now slots) count ⌝ }
+    ensures { λ _. ⌜ HandedBack (now (work .entry)) (now (names .entry)) (now (table .entry)) (now (table .exit)) (now (slots .exit)) count ⌝ }
+{
+    let all = table.len();
+    clear(table, all);
+    copy(work, STORE, table, 3 * count);
+    copy(names, 0, slots, SLOTS);
 }

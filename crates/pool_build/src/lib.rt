@@ -2,3 +2,5 @@
 // local words, and then put it in the place of the old one; so nothing is changed where there is no room, and what no slot reaches any more is
 // gone.
 mod gather;
+pub mod place;
+pub mod remove;

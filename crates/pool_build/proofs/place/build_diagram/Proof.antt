@@ -1,0 +1,53 @@
+use native.Mathlib.Omega.{arith}
+use borrow.Author.Needs.{needs}
+use Rattle.pool_build.proofs.place.build_diagram.Statement.{statement}
+use Rattle.pool_build.proofs.place.build_diagram.Tie as tie
+use Rattle.pool_build.proofs.place.build_diagram.Reads as reads
+use Rattle.pool_build.proofs.place.build_diagram.Lts as lts
+use Rattle.diagram.proofs.room.put.Reads as put-reads
+use Rattle.store.proofs.walk.build.Reads as build-reads
+
+-- src/place.rt:36:28
+sub-put : tie.Need-sub-put
+sub-put c = search needs
+
+-- src/place.rt:36:27
+cast-put : tie.Need-cast-put
+cast-put c = search needs
+
+-- src/place.rt:37:9
+build-requires : tie.Need-build-requires
+build-requires c κs = search needs
+
+-- src/place.rt:38:22
+add-put : tie.Need-add-put
+add-put c = search needs
+
+-- src/place.rt:38:5
+put-requires : tie.Need-put-requires
+put-requires c κs = search needs
+
+-- src/place.rt:24:1
+same-length : tie.Need-same-length
+same-length c = search needs
+
+-- src/place.rt:24:1
+same-length-2 : tie.Need-same-length-2
+same-length-2 c = search needs
+
+-- src/place.rt:24:1
+returns : tie.Need-returns
+returns c = ?
+
+pub build-diagram-spec : {M : Type 1} → statement M
+build-diagram-spec =
+    tie.close
+    (tie.spec
+    sub-put
+    cast-put
+    build-requires
+    add-put
+    put-requires
+    same-length
+    same-length-2
+    returns)
