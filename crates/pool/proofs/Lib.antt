@@ -1,5 +1,7 @@
 -- Laws that belong to no one function.
 --     Walked     the part of the table that is walked is an ordered array; building from it is building from its nodes
 --     Gathered   the conditions of the slots, and building them one after the other
+--     Fewest     no ordered array with a node for each condition has fewer nodes than the table
 pub mod Walked
 pub mod Gathered
+pub mod Fewest
