@@ -5,9 +5,15 @@
 --     Alike      the table goes by what the conditions hold for, and by nothing else
 --     Tables     the table as a store with free places behind, and what its slots hold
 --     Closed     the table of conditions is a well-formed pool
+--     Rows       the verdicts, row by row
+--     Verdicts   when a verdict is given
+--     Promised   what is promised of a pool
 pub mod Walked
 pub mod Gathered
 pub mod Fewest
 pub mod Alike
 pub mod Tables
 pub mod Closed
+pub mod Rows
+pub mod Verdicts
+pub mod Promised
