@@ -1,13 +1,14 @@
 -- The one table of conditions goes by what these hold for, and by nothing else.
 use Prim.Native.Nat.{ℕ, zero, suc}
 use mathlib.Core.Path.{_≡_, refl, sym, ap, _∙_}
-use mathlib.Core.Bool.{Bool}
+use mathlib.Core.Bool.{Bool, true, false}
 use mathlib.Core.List.{List, [], _∷_}
 use lib.ListN.{length, getD, set}
+use Rattle.diagram.proofs.Tests.{not-both}
 use Rattle.store.specs.Store.{Node, Built, canon, terminals}
 use Rattle.store.proofs.Canon.{canon-cong}
 use Rattle.reduction.specs.Reduce.{reduced}
-use Rattle.pool.specs.Pool.{Slot, empty, live, placed, named, gather, names, needs, tableOf, slotsOf, arrayOf}
+use Rattle.pool.specs.Pool.{Slot, empty, live, slotOf, placed, named, gather, names, needs, tableOf, slotsOf, arrayOf}
 use Rattle.pool.specs.Pools.{Alike, both-empty, both-live, AllAlike, none, more}
 
 -- ---- slots that hold the same
@@ -75,3 +76,19 @@ alike-need v cs ds a = ap length (alike-gather v a (terminals v))
 pub alike-table : (n v : ℕ) (cs ds : List Slot) → AllAlike v cs ds → (tableOf n v cs ≡ tableOf n v ds) × (slotsOf v cs ≡ slotsOf v ds)
 unfolding tableOf slotsOf needs
 alike-table n v cs ds a = (rw (alike-gather v a (terminals v)) refl, alike-names v a (terminals v))
+
+-- ---- an empty slot is like an empty one only
+
+isEmpty : Slot → Bool
+isEmpty empty = true
+isEmpty (live f) = false
+
+alike-kind : {v : ℕ} {c d : Slot} → Alike v c d → isEmpty c ≡ isEmpty d
+unfolding isEmpty
+alike-kind both-empty = refl
+alike-kind (both-live same) = refl
+
+pub alike-empty : {v : ℕ} (t : List ℕ) (x : ℕ) → Alike v (slotOf t x) empty → x ≡ 0
+unfolding slotOf isEmpty
+alike-empty t zero a = refl
+alike-empty t (suc p) a = absurd (not-both false (alike-kind a) refl)

@@ -8,6 +8,7 @@
 --     Rows       the verdicts, row by row
 --     Verdicts   when a verdict is given
 --     Promised   what is promised of a pool
+--     Histories  what is promised of any list of calls
 pub mod Walked
 pub mod Gathered
 pub mod Fewest
@@ -17,3 +18,4 @@ pub mod Closed
 pub mod Rows
 pub mod Verdicts
 pub mod Promised
+pub mod Histories

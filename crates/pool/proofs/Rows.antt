@@ -1,17 +1,18 @@
 -- The verdicts of the operations, row by row: what each answer comes to, and which numbers a refusal may have.
 use Prim.Native.Nat.{ℕ, _≤_, _<_}
-use mathlib.Core.Path.{_≡_, refl, ap, _∙_}
+use mathlib.Core.Path.{_≡_, refl, sym, ap, _∙_}
 use mathlib.Core.Logic.{_≢_, ⊎-elim}
 use mathlib.Core.Bool.{Bool, true, false, not}
 use mathlib.Core.List.{List}
 use native.Mathlib.Omega.{arith}
 use lib.ListN.{getD}
 use lib.Dec.{leb, ltb, eqb}
-use borrow.Author.Tests.{le-leb, lt-leb, lt-ltb, le-ltb, eq-eqb, ne-eqb}
+use borrow.Author.Tests.{le-leb, lt-leb, lt-ltb, le-ltb, ltb-false, eq-eqb, ne-eqb}
 use Rattle.diagram.specs.Diagram.{size, vars}
 use Rattle.diagram.specs.Verdict.{Outcome, accepted, refused, row, andThen, verdictOf}
 use Rattle.diagram.specs.declared.verdict.Output.the-variants.{Nothing}
 use Rattle.diagram.proofs.Outcomes.{never-both}
+use Rattle.diagram.proofs.Meaning.{both-accept}
 use Rattle.diagram.proofs.Promised.{demand1}
 use Rattle.pool.specs.Pool.{slotCount, isPool, needs}
 use Rattle.pool.specs.Answers.{withAdded, withDropped, addOf, liveOf, dropOf, roomedOf, readOf}
@@ -201,3 +202,22 @@ unfolding readOf roomedOf
 read-first t s k room out =
     then-first t s _ (row-below 46 4 _ 0 (omega arith) (accepted-below 46 _ _))
     (then-first t s _ (row-below 46 5 _ 0 (omega arith) (accepted-below 46 _ _)) (live-first t s k (size t)))
+
+-- ---- what an acceptance tells
+
+row-passed : (number : ℕ) (test : Bool) (place : ℕ) (below : Outcome) {n v : ℕ} → row number test place below ≡ accepted n v
+    → (test ≡ false) × (below ≡ accepted n v)
+unfolding row
+row-passed number true place below e = absurd (never-both refl e)
+row-passed number false place below e = (refl, e)
+
+-- An addition that is answered fits, whatever table and slots are.
+pub added-fits : (t s w : List ℕ) (room k : ℕ) {n v : ℕ} → addOf t s w room k ≡ accepted n v → needs (vars t) (withAdded t s w k) ≤ size t
+unfolding slotVerdict
+added-fits t s w room k {n} {v} e =
+    let pool = row-passed 46 (not (isPool t s)) 0 (andThen (verdictOf w Nothing room) (slotVerdict t s w k)) (sym (add-rows t s w k room) ∙ e) .1 in
+    let own = both-accept (verdictOf w Nothing room) (slotVerdict t s w k) n v pool .1 in
+    let slot = row-passed 33 (leb slotCount k) 0 _ own .1 in
+    let free = row-passed 34 (not (eqb (getD s k 0) 0)) 0 _ slot .1 in
+    let same = row-passed 35 (not (eqb (vars w) (vars t))) 0 _ free .1 in
+    ltb-false (size t) (needs (vars t) (withAdded t s w k)) (row-passed 36 (ltb (size t) (needs (vars t) (withAdded t s w k))) 0 _ same .0)
