@@ -1,11 +1,11 @@
 -- The one table of conditions goes by what these hold for, and by nothing else.
 use Prim.Native.Nat.{ℕ, zero, suc}
-use mathlib.Core.Path.{_≡_, refl, sym, ap, _∙_}
+use mathlib.Core.Path.{_≡_, refl, ap, _∙_}
 use mathlib.Core.Bool.{Bool, true, false}
-use mathlib.Core.List.{List, [], _∷_}
+use mathlib.Core.List.{List}
 use lib.ListN.{length, getD, set}
 use Rattle.diagram.proofs.Tests.{not-both}
-use Rattle.store.specs.Store.{Node, Built, canon, terminals}
+use Rattle.store.specs.Store.{Node, Built, terminals}
 use Rattle.store.proofs.Canon.{canon-cong}
 use Rattle.reduction.specs.Reduce.{reduced}
 use Rattle.pool.specs.Pool.{Slot, empty, live, slotOf, placed, named, gather, names, needs, tableOf, slotsOf, arrayOf}
@@ -17,17 +17,9 @@ pub alike-refl : {v : ℕ} (c : Slot) → Alike v c c
 alike-refl empty = both-empty
 alike-refl (live f) = both-live (λ bs l. refl)
 
-pub alike-sym : {v : ℕ} {c d : Slot} → Alike v c d → Alike v d c
-alike-sym both-empty = both-empty
-alike-sym (both-live same) = both-live (λ bs l. sym (same bs l))
-
 pub alike-trans : {v : ℕ} {c d e : Slot} → Alike v c d → Alike v d e → Alike v c e
 alike-trans both-empty both-empty = both-empty
 alike-trans (both-live same) (both-live same′) = both-live (λ bs l. same bs l ∙ same′ bs l)
-
-pub all-refl : {v : ℕ} (cs : List Slot) → AllAlike v cs cs
-all-refl [] = none
-all-refl (c ∷ cs) = more (alike-refl c) (all-refl cs)
 
 pub all-at : {v : ℕ} {cs ds : List Slot} → AllAlike v cs ds → (k : ℕ) → Alike v (getD cs k empty) (getD ds k empty)
 all-at none k = both-empty
@@ -40,9 +32,6 @@ all-set (more a rest) zero b = more b rest
 all-set (more a rest) (suc k) b = more a (all-set rest k b)
 
 -- ---- what is built of them is the same
-
-pub alike-canon : (v : ℕ) {f g : List Bool → Bool} → Alike v (live f) (live g) → (o : List Node) → canon v 0 f o ≡ canon v 0 g o
-alike-canon v (both-live {f = f} {g = g} same) o = canon-cong v 0 f g same o
 
 pub alike-placed : (v : ℕ) {c d : Slot} → Alike v c d → (o : List Node) → placed v c o ≡ placed v d o
 unfolding placed

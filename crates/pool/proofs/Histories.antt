@@ -108,9 +108,9 @@ module _ (n v : ℕ) (p : Lent) (says : ℕ → Slot) (a : Agrees n v p says) wh
           (λ here. rw (eq-eqb j k here, ← here, getD-set-same was j c empty (let l = count in omega arith)) (alike-refl c))
           (λ other. rw (ne-eqb j k other, getD-set-other was j k c empty (λ e. other (sym e)), held-at (p .table) (p .slots) k) (a .alike k h))
 
-  -- What is said of a slot after an outcome.
-  put-refused : (o : Outcome) {number place : ℕ} → o ≡ refused number place → (j k : ℕ) (c : Slot) → cond (eqb j k) (ifAccepted o c (says k)) (says k) ≡ says k
-  put-refused o e j k c = by-eq j k (λ here. rw (e, eq-eqb j k here) refl) (λ other. rw (ne-eqb j k other) refl)
+  -- A refusal leaves what was said, of this slot and of the others.
+  said-before : (j k : ℕ) → cond (eqb j k) (says k) (says k) ≡ says k
+  said-before j k = by-eq j k (λ here. rw (eq-eqb j k here) refl) (λ other. rw (ne-eqb j k other) refl)
 
   agrees-put : (o : Outcome) (j : ℕ) (c : Slot) → ((m u : ℕ) → o ≡ accepted m u → needs (vars (p .table)) (set was j c) ≤ size (p .table))
       → Agrees n v (ifAccepted o (poolOf (size (p .table)) (vars (p .table)) (set was j c)) p) (λ k. cond (eqb j k) (ifAccepted o c (says k)) (says k))
@@ -119,7 +119,7 @@ module _ (n v : ℕ) (p : Lent) (says : ℕ → Slot) (a : Agrees n v p says) wh
     formed = a .formed;
     places = a .places;
     variables = a .variables;
-    alike = λ k h. subst (Alike v (slotOf (p .table) (getD (p .slots) k 0))) (sym (put-refused (refused number place) refl j k c)) (a .alike k h);
+    alike = λ k h. subst (Alike v (slotOf (p .table) (getD (p .slots) k 0))) (sym (said-before j k)) (a .alike k h);
   }
 
   agrees-after : (c : Call) → Agrees n v (after c p) (λ k. put c p k (says k))
