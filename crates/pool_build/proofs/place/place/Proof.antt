@@ -1,3 +1,4 @@
+use Rattle.pool_build.proofs.Replacing.{blank-lent}
 use native.Mathlib.Omega.{arith}
 use borrow.Author.Needs.{needs}
 use Rattle.pool_build.proofs.place.place.Statement.{statement}
@@ -16,7 +17,7 @@ slice-aggregate-place-in-2 c = search needs
 
 -- src/place.rt:95:5
 place-in-requires : tie.Need-place-in-requires
-place-in-requires c κs = search needs
+place-in-requires c κs = (c .before .before .before .before .before .before .before .pre, blank-lent)
 
 -- src/place.rt:89:1
 same-length : tie.Need-same-length

@@ -1,3 +1,4 @@
+use Rattle.pool_build.proofs.Replacing.{blank-lent}
 use native.Mathlib.Omega.{arith}
 use borrow.Author.Needs.{needs}
 use Rattle.pool_build.proofs.remove.remove.Statement.{statement}
@@ -16,7 +17,7 @@ slice-aggregate-remove-in-2 c = search needs
 
 -- src/remove.rt:50:5
 remove-in-requires : tie.Need-remove-in-requires
-remove-in-requires c κs = search needs
+remove-in-requires c κs = (c .before .before .before .before .before .before .pre, blank-lent)
 
 -- src/remove.rt:44:1
 same-length : tie.Need-same-length

@@ -1,3 +1,7 @@
+use denote.Ref.{now}
+use lib.Seq.{length-take-le}
+use mathlib.Core.Path.{refl, sym, _∙_}
+use Rattle.pool_build.proofs.Replacing.{part-fits, left-begun, left-composed, left-fits, handing, replaced}
 use native.Mathlib.Omega.{arith}
 use borrow.Author.Needs.{needs}
 use Rattle.pool_build.proofs.remove.remove_in.Statement.{statement}
@@ -16,7 +20,7 @@ walked-requires c κs = search needs
 
 -- src/remove.rt:36:5
 copy-requires : tie.Need-copy-requires
-copy-requires c κs = search needs
+copy-requires c κs = (omega (arith, c .before .before .before .before .before .before .before .before .pre .0 .slots), omega (arith, c .before .before .before .before .before .before .before .before .pre .1 .slots))
 
 -- src/remove.rt:37:5
 put-requires : tie.Need-put-requires
@@ -24,19 +28,22 @@ put-requires c κs = search needs
 
 -- src/remove.rt:38:31
 slice-reshare-prefix-compose-named : tie.Need-slice-reshare-prefix-compose-named
-slice-reshare-prefix-compose-named c = search needs
+slice-reshare-prefix-compose-named c = part-fits (c .before .before .before .before .before .before .before .before .before .before .before .before .before .before .before .pre .0) (c .before .before .before .before .before .before .before .before .before .walked .ensures)
 
 -- src/remove.rt:38:31
 slice-aggregate-compose-named : tie.Need-slice-aggregate-compose-named
-slice-aggregate-compose-named c = search needs
+slice-aggregate-compose-named c = sym (length-take-le (c .before .before .before .before .before .before .before .before .before .before .walked .result) (now (c .before .before .before .before .before .before .before .before .before .before .before .before .before .before .before .before .args .table)) (part-fits (c .before .before .before .before .before .before .before .before .before .before .before .before .before .before .before .before .pre .0) (c .before .before .before .before .before .before .before .before .before .before .walked .ensures)))
 
 -- src/remove.rt:38:9
 compose-named-requires : tie.Need-compose-named-requires
-compose-named-requires c κs = search needs
+compose-named-requires c κs = left-begun (c .before .before .before .before .before .before .before .before .before .before .before .before .before .before .before .before .before .before .pre .0) (c .before .before .before .before .before .before .before .before .before .before .before .before .before .before .before .before .before .before .args .slot) (c .before .before .before .before .before .before .before .before .before .before .before .before .before .before .before .before .before .before .pre .1) (c .before .before .before .before .before .before .before .before .before .before .before .before .walked .ensures) refl (c .before .before .before .before .before .before .before .before .before .copy .ensures) (c .before .before .before .before .before .before .before .before .before .copy .kept .1 .1 .0) (c .before .before .before .before .before .put .ensures)
 
 -- src/remove.rt:39:5
 hand-back-requires : tie.Need-hand-back-requires
-hand-back-requires c κs = search needs
+hand-back-requires c κs =
+    let made = left-composed (c .before .before .before .before .before .before .before .before .before .before .before .before .before .before .before .before .before .before .before .before .before .before .before .before .before .before .before .pre .0) (c .before .before .before .before .before .before .before .before .before .before .before .before .before .before .before .before .before .before .before .before .before .before .before .before .before .before .before .args .slot) (c .before .before .before .before .before .before .before .before .before .before .before .before .before .before .before .before .before .before .before .before .before .before .before .before .before .before .before .pre .1) (c .before .before .before .before .before .before .before .before .before .before .before .before .before .before .before .before .before .before .before .before .before .walked .ensures) refl (c .before .before .before .before .before .before .before .before .before .before .before .before .before .before .before .before .before .before .copy .ensures) (c .before .before .before .before .before .before .before .before .before .before .before .before .before .before .before .before .before .before .copy .kept .1 .1 .0) (c .before .before .before .before .before .before .before .before .before .before .before .before .before .before .put .ensures) (c .before .before .before .before .before .before .before .before .compose-named .ensures) in
+    let fits = left-fits (c .before .before .before .before .before .before .before .before .before .before .before .before .before .before .before .before .before .before .before .before .before .before .before .before .before .before .before .pre .0) (c .before .before .before .before .before .before .before .before .before .before .before .before .before .before .before .before .before .before .before .before .before .before .before .before .before .before .before .args .slot) (c .before .before .before .before .before .before .before .before .before .before .before .before .before .before .before .before .before .before .before .before .before .before .before .before .before .before .before .pre .1) (c .before .before .before .before .before .before .before .before .before .before .before .before .before .before .before .before .before .before .before .before .before .walked .ensures) refl (c .before .before .before .before .before .before .before .before .before .before .before .before .before .before .before .before .before .before .copy .ensures) (c .before .before .before .before .before .before .before .before .before .before .before .before .before .before .before .before .before .before .copy .kept .1 .1 .0) (c .before .before .before .before .before .before .before .before .before .before .before .before .before .before .put .ensures) (c .before .before .before .before .before .before .before .before .compose-named .ensures) in
+    handing (c .before .before .before .before .before .before .before .before .before .before .before .before .before .before .before .before .before .before .before .before .before .before .before .before .before .before .before .pre .0) (c .before .before .before .before .before .before .before .before .before .before .before .before .before .before .before .before .before .before .before .before .before .walked .ensures) made fits (c .before .before .before .before .before .before .before .before .compose-named .kept .1 .1 .0 ∙ c .before .before .before .before .before .before .before .before .before .before .before .before .before .before .before .before .before .before .before .before .before .before .before .before .before .before .before .pre .1 .long) (c .before .before .before .before .before .before .before .before .compose-named .kept .1 .0 ∙ c .before .before .before .before .before .before .before .before .before .before .before .before .before .before .put .kept .0 ∙ c .before .before .before .before .before .before .before .before .before .before .before .before .before .before .before .before .before .before .copy .kept .1 .1 .0 ∙ c .before .before .before .before .before .before .before .before .before .before .before .before .before .before .before .before .before .before .before .before .before .before .before .before .before .before .before .pre .1 .slots)
 
 -- src/remove.rt:24:1
 same-length : tie.Need-same-length
@@ -56,7 +63,10 @@ same-length-4 c = search needs
 
 -- src/remove.rt:24:1
 returns : tie.Need-returns
-returns c = ?
+returns c =
+    let made = left-composed (c .before .before .before .before .before .before .before .before .before .before .before .before .before .before .before .before .before .before .before .before .before .before .before .before .before .before .before .before .before .before .before .before .pre .0) (c .before .before .before .before .before .before .before .before .before .before .before .before .before .before .before .before .before .before .before .before .before .before .before .before .before .before .before .before .before .before .before .before .args .slot) (c .before .before .before .before .before .before .before .before .before .before .before .before .before .before .before .before .before .before .before .before .before .before .before .before .before .before .before .before .before .before .before .before .pre .1) (c .before .before .before .before .before .before .before .before .before .before .before .before .before .before .before .before .before .before .before .before .before .before .before .before .before .before .walked .ensures) refl (c .before .before .before .before .before .before .before .before .before .before .before .before .before .before .before .before .before .before .before .before .before .before .before .copy .ensures) (c .before .before .before .before .before .before .before .before .before .before .before .before .before .before .before .before .before .before .before .before .before .before .before .copy .kept .1 .1 .0) (c .before .before .before .before .before .before .before .before .before .before .before .before .before .before .before .before .before .before .before .put .ensures) (c .before .before .before .before .before .before .before .before .before .before .before .before .before .compose-named .ensures) in
+    let fits = left-fits (c .before .before .before .before .before .before .before .before .before .before .before .before .before .before .before .before .before .before .before .before .before .before .before .before .before .before .before .before .before .before .before .before .pre .0) (c .before .before .before .before .before .before .before .before .before .before .before .before .before .before .before .before .before .before .before .before .before .before .before .before .before .before .before .before .before .before .before .before .args .slot) (c .before .before .before .before .before .before .before .before .before .before .before .before .before .before .before .before .before .before .before .before .before .before .before .before .before .before .before .before .before .before .before .before .pre .1) (c .before .before .before .before .before .before .before .before .before .before .before .before .before .before .before .before .before .before .before .before .before .before .before .before .before .before .walked .ensures) refl (c .before .before .before .before .before .before .before .before .before .before .before .before .before .before .before .before .before .before .before .before .before .before .before .copy .ensures) (c .before .before .before .before .before .before .before .before .before .before .before .before .before .before .before .before .before .before .before .before .before .before .before .copy .kept .1 .1 .0) (c .before .before .before .before .before .before .before .before .before .before .before .before .before .before .before .before .before .before .before .put .ensures) (c .before .before .before .before .before .before .before .before .before .before .before .before .before .compose-named .ensures) in
+    replaced (c .before .before .before .before .before .before .before .before .before .before .before .before .before .before .before .before .before .before .before .before .before .before .before .before .before .before .before .before .before .before .before .before .pre .0) (c .before .before .before .before .before .before .before .before .before .before .before .before .before .before .before .before .before .before .before .before .before .before .before .before .before .before .walked .ensures) made fits (c .before .before .before .before .before .before .before .before .before .before .before .before .before .compose-named .kept .1 .1 .0 ∙ c .before .before .before .before .before .before .before .before .before .before .before .before .before .before .before .before .before .before .before .before .before .before .before .before .before .before .before .before .before .before .before .before .pre .1 .long) (c .before .before .before .before .hand-back .ensures)
 
 pub remove-in-spec : {M : Type 1} → statement M
 remove-in-spec =
