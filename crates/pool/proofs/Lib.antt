@@ -1,0 +1,3 @@
+-- Laws that belong to no one function.
+--     Testing    the test `isPool` says `WellFormed`
+pub mod Testing
