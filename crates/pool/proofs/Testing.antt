@@ -347,7 +347,7 @@ module _ (t : List ℕ) (once : (p : ℕ) → Inner t p → not (isAgain t p) �
       (λ m. let x = ltb-false q p l in let y = ltb-false p q m in omega arith))
 
 -- a place with a node's words is a node too
-alike-used : (t : List ℕ) (q p : ℕ) → Alike t q p → (¬ Free t p) → ¬ Free t q
+pub alike-used : (t : List ℕ) (q p : ℕ) → Alike t q p → (¬ Free t p) → ¬ Free t q
 alike-used t q p a used f = used (record { var = sym (a .var) ∙ f .var; low = sym (a .low) ∙ f .low; high = sym (a .high) ∙ f .high })
 
 -- ---- the whole

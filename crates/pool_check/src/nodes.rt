@@ -6,6 +6,7 @@ use diagram::node::var_of;
 use diagram::node::word;
 use diagram::reach::is_above;
 use pool::SLOTS;
+ghost use Prim.Native.Nat.{_≤_};
 ghost use mathlib.Core.Path.{_≡_};
 ghost use mathlib.Core.Bool.{not, _&&_};
 ghost use lib.ListN.{length, getD};

@@ -1,0 +1,61 @@
+use borrow.Author.Needs.{needs}
+use native.Mathlib.Omega.{arith}
+use Rattle.pool_check.proofs.nodes.are_names.Statement.{statement}
+use Rattle.pool_check.proofs.nodes.are_names.Tie as tie
+use Rattle.pool_check.proofs.nodes.are_names.Reads as reads
+use Rattle.pool_check.proofs.nodes.are_names.Lts as lts
+use Rattle.diagram.proofs.node.word.Reads as word-reads
+use Rattle.pool_check.proofs.nodes.is_name.Reads as is-name-reads
+
+abbrev Inv-loop : tie.InvT-loop
+Inv-loop table slots k₀ k = ?
+
+abbrev μ-loop : tie.MeasureT-loop
+μ-loop table slots k₀ k = ?
+
+-- src/nodes.rt:52:5
+loop-holds : tie.Need-loop-holds Inv-loop μ-loop
+loop-holds c = ?
+
+-- src/nodes.rt:53:28
+word-requires : tie.Need-word-requires Inv-loop μ-loop
+word-requires c κs = search needs
+
+-- src/nodes.rt:53:13
+is-name-requires : tie.Need-is-name-requires Inv-loop μ-loop
+is-name-requires c κs = search needs
+
+-- src/nodes.rt:54:13
+returns : tie.Need-returns Inv-loop μ-loop
+returns c = ?
+
+-- src/nodes.rt:56:9
+add-k : tie.Need-add-k Inv-loop μ-loop
+add-k c = search needs
+
+-- src/nodes.rt:52:5
+loop-less : tie.Need-loop-less Inv-loop μ-loop
+loop-less c = search needs
+
+-- src/nodes.rt:52:5
+loop-again : tie.Need-loop-again Inv-loop μ-loop
+loop-again c = ?
+
+-- src/nodes.rt:48:1
+returns-2 : tie.Need-returns-2 Inv-loop μ-loop
+returns-2 c = ?
+
+pub are-names-spec : {M : Type 1} → statement M
+are-names-spec =
+    tie.close
+    (tie.spec
+    Inv-loop
+    μ-loop
+    loop-holds
+    word-requires
+    is-name-requires
+    returns
+    add-k
+    loop-less
+    loop-again
+    returns-2)

@@ -1,0 +1,30 @@
+use native.Mathlib.Omega.{arith}
+use borrow.Author.Needs.{needs}
+use Rattle.pool_check.proofs.nodes.is_name.Statement.{statement}
+use Rattle.pool_check.proofs.nodes.is_name.Tie as tie
+use Rattle.pool_check.proofs.nodes.is_name.Reads as reads
+use Rattle.pool_check.proofs.nodes.is_name.Lts as lts
+use Rattle.pool_check.proofs.nodes.is_free.Reads as is-free-reads
+
+-- src/nodes.rt:40:9
+returns : tie.Need-returns
+returns c = ?
+
+-- src/nodes.rt:43:9
+returns-2 : tie.Need-returns-2
+returns-2 c = ?
+
+-- src/nodes.rt:45:32
+sub-t7 : tie.Need-sub-t7
+sub-t7 c = search needs
+
+-- src/nodes.rt:45:6
+is-free-requires : tie.Need-is-free-requires
+is-free-requires c κs = search needs
+
+-- src/nodes.rt:36:1
+returns-3 : tie.Need-returns-3
+returns-3 c = ?
+
+pub is-name-spec : {M : Type 1} → statement M
+is-name-spec = tie.close (tie.spec returns returns-2 sub-t7 is-free-requires returns-3)
