@@ -190,17 +190,16 @@ module _ {t m : List ℕ} {p : ℕ} (l : Linked t m p) (i : Inner t p) where
           (λ z. omega arith)
           (λ more. let k = last-before .inside (λ z. more (e ∙ z)) in omega arith)
 
-      module _ {var low high : ℕ} (v : var ≡ varOf t p) (lo : low ≡ lowOf t p) (hi : high ≡ highOf t p)
-          {r : Bool} (is : r ≡ same (nodeIn t q) (node var low high)) where
+      module _ {r : Bool} (is : r ≡ same (nodeIn t q) (nodeIn t p)) where
         pub seek-hit : r ≡ true → true ≡ isAgain t p
-        seek-hit yes′ =
-            let e = same-told (nodeIn t q) (node var low high) (sym is ∙ yes′) in
+        seek-hit hit =
+            let e = same-told (nodeIn t q) (nodeIn t p) (sym is ∙ hit) in
             let like = s .like some in
             let below = chain-below t p i in
-            sym (again-tells t p q (s .inside some) (chained-after t q (omega arith)) (record { var = e .0 ∙ v; low = e .1 ∙ lo; high = e .2 ∙ hi }))
+            sym (again-tells t p q (s .inside some) (chained-after t q (omega arith)) (record { var = e .0; low = e .1; high = e .2 }))
 
         pub seek-on : r ≡ false → {x : ℕ} → x ≡ beforeIn m q → Seeking t p x
-        seek-on no′ e =
+        seek-on miss e =
             let last = last-before in
             rw e
             (record {
@@ -209,10 +208,7 @@ module _ {t m : List ℕ} {p : ℕ} (l : Linked t m p) (i : Inner t p) where
               passed = λ j after before two a. elim (decLt j q) [
                 | yes h ↦ last .passed j after h (chain-same t j p two before i a)
                 | no h ↦ by-eq j q
-                    (λ x.
-                    not-both r
-                    (is ∙ same-tells (nodeIn t q) (node var low high) (rw x at (a .var) ∙ sym v) (rw x at (a .low) ∙ sym lo) (rw x at (a .high) ∙ sym hi))
-                    no′)
+                    (λ x. not-both r (is ∙ same-tells (nodeIn t q) (nodeIn t p) (rw x at (a .var)) (rw x at (a .low)) (rw x at (a .high))) miss)
                     (λ ne. s .passed j (omega arith) before two a)
               ];
             })

@@ -1,11 +1,11 @@
 -- Marking what slots and links name.
-use Prim.Native.Nat.{ℕ, zero, suc, _+_, _≤_, _<_}
+use Prim.Native.Nat.{ℕ, zero, suc, _+_, _≤_, _<_, max}
 use mathlib.Core.Path.{_≡_, refl, sym, _∙_, ap}
 use mathlib.Core.Bool.{Bool, true, false, not, _&&_, _||_, or-false, or-assoc, Bool·not-not}
 use mathlib.Core.List.{List}
 use native.Mathlib.Omega.{arith}
 use native.Mathlib.Numerals.{add-one}
-use borrow.Author.Tests.{eq-eqb, ne-eqb, le-leb}
+use borrow.Author.Tests.{eq-eqb, ne-eqb, le-leb, lt-leb}
 use lib.ListN.{length, getD, set, replicate, length-set, length-replicate, getD-replicate}
 use lib.Seq.{getD-set-same, getD-set-other}
 use lib.Dec.{leb, eqb}
@@ -13,7 +13,8 @@ use Rattle.diagram.specs.Limits.{maxNodes}
 use Rattle.diagram.specs.Diagram.{lowOf, highOf, size}
 use Rattle.diagram.specs.Verdict.{any, isChild}
 use Rattle.diagram.proofs.Tests.{by-eq, or-right}
-use Rattle.pool.specs.Pool.{slotCount, isWanted, eachNode}
+use Rattle.pool.specs.Pool.{slotCount, isFree, isWanted, eachNode}
+use Rattle.pool.proofs.Testing.{any-none}
 use Rattle.pool_check.specs.Marks.{isBare, Marks, nowhere, isNamed, isLinked, Links}
 use Rattle.pool_check.proofs.Scans.{each-same}
 
@@ -54,6 +55,9 @@ pub named-on : (s m : List ℕ) (k : ℕ) {name at : ℕ} {m′ : List ℕ} → 
 unfolding any
 named-on s m k a en ea e = rw (e, ea, en, add-one k) (name-marked (isNamed s k) m (getD s k 0) a)
 
+pub named-end : (s : List ℕ) (k : ℕ) {m : List ℕ} → Marks (isNamed s k) m → k ≡ slotCount → Marks (isNamed s slotCount) m
+named-end s k a e = rw e at a
+
 -- ---- links
 
 suc-same : (x p : ℕ) → eqb (suc x) (suc p) ≡ eqb x p
@@ -77,7 +81,6 @@ pub record Linking (t m : List ℕ) (n : ℕ) (m′ : List ℕ) : Type 0 where
   pub two : 2 ≤ n
   pub adds : (test : ℕ → Bool) → Marks test m → Marks (λ p. test p || isLinked t n p) m′
 
--- terminals are nobody's parents
 pub linking-begin : (t m : List ℕ) → Linking t m 2 m
 unfolding any isChild
 linking-begin t m = record { two = omega arith; adds = λ test a. marks-same a (λ p. sym (or-false (test p))) }
@@ -94,15 +97,35 @@ linking-on t m n {m₁} a e =
           (λ p. or-assoc (test p) (isLinked t n p) (isChild t n p)));
     }
 
-pub linking-end : (t m : List ℕ) (n : ℕ) {m′ : List ℕ} → Linking t m n m′ → n ≡ size t → Links t m m′
-linking-end t m n a e = record { adds = rw e at (a .adds) }
+-- terminals are nobody's parents
+linked-early : (t : List ℕ) (n p : ℕ) → n ≤ 2 → isLinked t n p ≡ false
+unfolding isChild
+linked-early t n p few = any-none n (λ q. isChild t q p) (λ q l. rw (lt-leb 2 q (omega arith)))
+
+-- past the last place, and past the terminals where there is no other
+pub linking-end : (t m : List ℕ) (n : ℕ) {m′ : List ℕ} → Linking t m n m′ → size t ≤ n → n ≤ max 2 (size t) → Links t m m′
+linking-end t m n a all most =
+    record { adds = λ test b. marks-same (a .adds test b) (λ p. ap (λ (x : Bool). test p || x) (same p)) }
+  where
+    same : (p : ℕ) → isLinked t n p ≡ isLinked t (size t) p
+    same p = by-eq n (size t)
+        (λ e. ap (λ (k : ℕ). isLinked t k p) e)
+        (λ ne. linked-early t n p (omega arith) ∙ sym (linked-early t (size t) p (omega arith)))
+
+-- ---- the scan for nodes without a mark
+
+abbrev pub isMarked : List ℕ → ℕ → Bool
+isMarked m p = not (isBare m p)
+
+pub lost-is : (t m : List ℕ) (p : ℕ) {r : Bool} → r ≡ (not (isFree t p) && isBare m p) → r ≡ (not (isFree t p) && not (isMarked m p))
+lost-is t m p e = rw (Bool·not-not (isBare m p)) e
 
 -- ---- the whole
 
 pub wanted-by : (t s : List ℕ) {m₁ m₂ : List ℕ} {r : Bool} → size t ≤ maxNodes → Marks (isNamed s slotCount) m₁ → Links t m₁ m₂
-    → r ≡ eachNode t (λ p. not (isBare m₂ p)) → r ≡ eachNode t (isWanted t s)
+    → r ≡ eachNode t (isMarked m₂) → r ≡ eachNode t (isWanted t s)
 unfolding isWanted
 wanted-by t s {m₁} {m₂} few a links e =
     let all = links .adds (isNamed s slotCount) a in
-    e ∙ each-same t (λ p. not (isBare m₂ p)) (isWanted t s)
+    e ∙ each-same t (isMarked m₂) (isWanted t s)
     (λ p l. ap not (all .each p (omega arith)) ∙ Bool·not-not (isNamed s slotCount p || isLinked t (size t) p))

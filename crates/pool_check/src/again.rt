@@ -16,6 +16,7 @@ ghost use Prim.Native.Nat.{_+_, _<_, _≤_};
 ghost use lib.ListN.{set};
 ghost use Rattle.diagram.specs.Limits.{maxNodes};
 ghost use Rattle.diagram.specs.Diagram.{size};
+ghost use Rattle.store.specs.Store.{same};
 ghost use Rattle.store.specs.Room.{keyOf};
 ghost use Rattle.pool.specs.Pool.{Inner, isFree, isAgain, eachNode};
 ghost use Rattle.pool_check.specs.Chains.{headIn, nodeIn, chainOf, Linked, Met};
@@ -35,20 +36,28 @@ fn key_of(table: &[u32], place: BddPointer) -> usize
     key(table.len() / 3, var, low, high)
 }
 
+// Whether two places have the same words.
+fn are_alike(table: &[u32], one: BddPointer, other: BddPointer) -> bool
+    requires { ⌜ one .0 < maxNodes ⌝ }
+    ensures { λ r. ⌜ r ≡ same (nodeIn (now (table .entry)) (one .0)) (nodeIn (now (table .entry)) (other .0)) ⌝ }
+{
+    let var = var_of(table, other);
+    let low = low_link_of(table, other);
+    let high = high_link_of(table, other);
+    is_node(table, 3 * one.to_index(), var, low, high)
+}
+
 // Whether a node equal to the one at a place is in its chain, which begins at `from`.
 fn is_in(table: &[u32], chains: &[u32], place: BddPointer, from: u32) -> bool
     requires { ⌜ Linked (now table) (now chains) (place .0) × Inner (now table) (place .0) × (from ≡ headIn (now chains) (chainOf (now table) (place .0))) ⌝ }
     ensures { λ r. ⌜ r ≡ isAgain (now (table .entry)) (place .0) ⌝ }
 {
-    let var = var_of(table, place);
-    let low = low_link_of(table, place);
-    let high = high_link_of(table, place);
-    let mut q = from as usize;
+    let mut q = from;
     while q != 0 {
-        if is_node(table, 3 * q, var, low, high) {
+        if are_alike(table, BddPointer(q), place) {
             return true;
         }
-        q = word(chains, BEFORE + q) as usize;
+        q = word(chains, BEFORE + q as usize);
     }
     false
 }

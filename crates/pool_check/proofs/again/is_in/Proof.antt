@@ -1,72 +1,56 @@
-use borrow.Author.Needs.{needs}
+-- `pool_check::again::is_in` meets its contract.
+use denote.Ref.{now}
 use native.Mathlib.Omega.{arith}
+use Rattle.pool_check.proofs.Chaining.{Seeking, seek-begin, seek-inside, seek-hit, seek-on, seek-less, seek-end}
+use borrow.Author.Needs.{needs}
 use Rattle.pool_check.proofs.again.is_in.Statement.{statement}
 use Rattle.pool_check.proofs.again.is_in.Tie as tie
 use Rattle.pool_check.proofs.again.is_in.Reads as reads
 use Rattle.pool_check.proofs.again.is_in.Lts as lts
-use Rattle.diagram.proofs.node.high_link_of.Reads as high-link-of-reads
-use Rattle.diagram.proofs.node.low_link_of.Reads as low-link-of-reads
-use Rattle.diagram.proofs.node.var_of.Reads as var-of-reads
 use Rattle.diagram.proofs.node.word.Reads as word-reads
-use Rattle.store.proofs.shelf.is_node.Reads as is-node-reads
+use Rattle.pool_check.proofs.again.are_alike.Reads as are-alike-reads
 
 abbrev Inv-loop : tie.InvT-loop
-Inv-loop table chains from var low high q₀ q = ?
+Inv-loop table chains place from q₀ q = Seeking table (place .0) q
 
 abbrev μ-loop : tie.MeasureT-loop
-μ-loop table chains from var low high q₀ q = ?
+μ-loop table chains place from q₀ q = q
 
--- src/again.rt:43:9
-var-of-requires : tie.Need-var-of-requires Inv-loop μ-loop
-var-of-requires c κs = search needs
-
--- src/again.rt:44:9
-low-link-of-requires : tie.Need-low-link-of-requires Inv-loop μ-loop
-low-link-of-requires c κs = search needs
-
--- src/again.rt:45:9
-high-link-of-requires : tie.Need-high-link-of-requires Inv-loop μ-loop
-high-link-of-requires c κs = search needs
-
--- src/again.rt:47:5
+-- src/again.rt:56:5
 loop-holds : tie.Need-loop-holds Inv-loop μ-loop
-loop-holds c = ?
+loop-holds c = seek-begin (c .before .before .pre .0) (c .before .before .pre .1) (c .before .before .pre .2)
 
--- src/again.rt:48:27
-mul-is-node : tie.Need-mul-is-node Inv-loop μ-loop
-mul-is-node c = search needs
+-- src/again.rt:57:12
+are-alike-requires : tie.Need-are-alike-requires Inv-loop μ-loop
+are-alike-requires c κs = seek-inside (c .before .before .before .before .pre .0) (c .before .before .before .before .pre .1) (c .before .loop .inv)
 
--- src/again.rt:48:12
-is-node-requires : tie.Need-is-node-requires Inv-loop μ-loop
-is-node-requires c κs = search needs
-
--- src/again.rt:49:13
+-- src/again.rt:58:13
 returns : tie.Need-returns Inv-loop μ-loop
-returns c = ?
+returns c = seek-hit (c .before .before .before .before .before .before .pre .0) (c .before .before .before .before .before .before .pre .1) (c .before .before .before .loop .inv) (c .before .before .loop-test .taken) (c .before .are-alike .ensures) (c .if1 .taken)
 
--- src/again.rt:51:26
+-- src/again.rt:60:35
+cast-word : tie.Need-cast-word Inv-loop μ-loop
+cast-word c = omega (arith, seek-inside (c .before .before .before .before .before .before .pre .0) (c .before .before .before .before .before .before .pre .1) (c .before .before .before .loop .inv))
+
+-- src/again.rt:60:26
 add-word : tie.Need-add-word Inv-loop μ-loop
-add-word c = search needs
+add-word c = omega (arith, seek-inside (c .before .before .before .before .before .before .pre .0) (c .before .before .before .before .before .before .pre .1) (c .before .before .before .loop .inv))
 
--- src/again.rt:51:13
+-- src/again.rt:60:9
 word-requires : tie.Need-word-requires Inv-loop μ-loop
 word-requires c κs = search needs
 
--- src/again.rt:51:13
-cast-q : tie.Need-cast-q Inv-loop μ-loop
-cast-q c = search needs
-
--- src/again.rt:47:5
+-- src/again.rt:56:5
 loop-less : tie.Need-loop-less Inv-loop μ-loop
-loop-less c = search needs
+loop-less c = seek-less (c .before .before .before .before .before .before .before .pre .0) (c .before .before .before .before .before .before .before .pre .1) (c .before .before .before .before .loop .inv) (c .before .before .before .loop-test .taken) (c .word .ensures)
 
--- src/again.rt:47:5
+-- src/again.rt:56:5
 loop-again : tie.Need-loop-again Inv-loop μ-loop
-loop-again c = ?
+loop-again c = seek-on (c .before .before .before .before .before .before .before .pre .0) (c .before .before .before .before .before .before .before .pre .1) (c .before .before .before .before .loop .inv) (c .before .before .before .loop-test .taken) (c .before .before .are-alike .ensures) (c .before .if1 .left) (c .word .ensures)
 
--- src/again.rt:39:1
+-- src/again.rt:51:1
 returns-2 : tie.Need-returns-2 Inv-loop μ-loop
-returns-2 c = ?
+returns-2 c = seek-end (c .before .before .before .before .pre .0) (c .before .before .before .before .pre .1) (c .before .loop .inv) (c .loop-test .left)
 
 pub is-in-spec : {M : Type 1} → statement M
 is-in-spec =
@@ -74,16 +58,12 @@ is-in-spec =
     (tie.spec
     Inv-loop
     μ-loop
-    var-of-requires
-    low-link-of-requires
-    high-link-of-requires
     loop-holds
-    mul-is-node
-    is-node-requires
+    are-alike-requires
     returns
+    cast-word
     add-word
     word-requires
-    cast-q
     loop-less
     loop-again
     returns-2)

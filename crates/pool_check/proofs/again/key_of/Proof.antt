@@ -1,3 +1,6 @@
+-- `pool_check::again::key_of` meets its contract.
+use denote.Ref.{now}
+use Rattle.pool_check.proofs.Returns.{key-is}
 use native.Mathlib.Omega.{arith}
 use borrow.Author.Needs.{needs}
 use Rattle.pool_check.proofs.again.key_of.Statement.{statement}
@@ -27,7 +30,7 @@ key-requires c κs = search needs
 
 -- src/again.rt:28:1
 returns : tie.Need-returns
-returns c = ?
+returns c = key-is (now (c .before .before .before .before .before .args .table)) (c .before .before .before .before .before .args .place .0) (c .before .before .before .var-of .ensures) (c .before .before .low-link-of .ensures) (c .before .high-link-of .ensures) (c .key .result) (c .key .ensures)
 
 pub key-of-spec : {M : Type 1} → statement M
 key-of-spec =

@@ -1,3 +1,6 @@
+-- `pool_check::again::link` meets its contract.
+use denote.Ref.{now}
+use Rattle.pool_check.proofs.Returns.{link-is}
 use native.Mathlib.Omega.{arith}
 use borrow.Author.Needs.{needs}
 use Rattle.pool_check.proofs.again.link.Statement.{statement}
@@ -29,7 +32,7 @@ same-length c = search needs
 
 -- src/again.rt:57:1
 returns : tie.Need-returns
-returns c = ?
+returns c = link-is (now (c .before .before .before .before .before .before .before .before .before .before .args .chains)) (c .before .before .before .before .before .before .put .last .0) (c .before .before .put2 .last .0) (c .before .before .before .before .before .before .before .before .before .before .args .place .0) (c .before .before .before .before .before .before .before .before .before .before .args .key) (c .before .before .before .before .before .before .before .before .before .before .args .last) (c .before .before .before .before .before .before .before .to-index .ensures) (c .before .before .before .before .before .before .put .ensures) (c .before .before .put2 .ensures)
 
 pub link-spec : {M : Type 1} → statement M
 link-spec =

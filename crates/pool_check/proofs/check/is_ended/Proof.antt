@@ -1,3 +1,6 @@
+-- `pool_check::check::is_ended` meets its contract.
+use denote.Ref.{now}
+use Rattle.pool_check.proofs.Returns.{ended-not-zero, ended-not-one, ended-by}
 use native.Mathlib.Omega.{arith}
 use borrow.Author.Needs.{needs}
 use Rattle.pool_check.proofs.check.is_ended.Statement.{statement}
@@ -13,7 +16,7 @@ is-terminal-node-requires c κs = search needs
 
 -- src/check.rt:40:9
 returns : tie.Need-returns
-returns c = ?
+returns c = ended-not-zero (now (c .before .before .before .args .table)) (c .before .is-terminal-node .ensures) (c .if1 .taken)
 
 -- src/check.rt:42:9
 is-terminal-node-requires-2 : tie.Need-is-terminal-node-requires-2
@@ -21,7 +24,7 @@ is-terminal-node-requires-2 c κs = search needs
 
 -- src/check.rt:43:9
 returns-2 : tie.Need-returns-2
-returns-2 c = ?
+returns-2 c = ended-not-one (now (c .before .before .before .before .before .args .table)) (c .before .before .before .is-terminal-node .ensures) (c .before .before .if1 .left) (c .before .is-terminal-node2 .ensures) (c .if2 .taken)
 
 -- src/check.rt:45:5
 word-requires : tie.Need-word-requires
@@ -33,7 +36,7 @@ cast-result c = search needs
 
 -- src/check.rt:36:1
 returns-3 : tie.Need-returns-3
-returns-3 c = ?
+returns-3 c = ended-by (now (c .before .before .before .before .before .before .args .table)) (c .before .before .before .before .is-terminal-node .ensures) (c .before .before .before .if1 .left) (c .before .before .is-terminal-node2 .ensures) (c .before .if2 .left) (c .word .ensures)
 
 pub is-ended-spec : {M : Type 1} → statement M
 is-ended-spec =

@@ -1,3 +1,6 @@
+-- `pool_check::nodes::is_free` meets its contract.
+use denote.Ref.{now}
+use Rattle.pool_check.proofs.Returns.{used-by-var, used-by-low, free-by-high}
 use native.Mathlib.Omega.{arith}
 use borrow.Author.Needs.{needs}
 use Rattle.pool_check.proofs.nodes.is_free.Statement.{statement}
@@ -14,7 +17,7 @@ var-of-requires c κs = search needs
 
 -- src/nodes.rt:25:9
 returns : tie.Need-returns
-returns c = ?
+returns c = used-by-var (now (c .before .before .before .before .args .table)) (c .before .before .before .before .args .place .0) (c .before .before .var-of .ensures) (c .if1 .taken)
 
 -- src/nodes.rt:27:9
 low-link-of-requires : tie.Need-low-link-of-requires
@@ -22,7 +25,7 @@ low-link-of-requires c κs = search needs
 
 -- src/nodes.rt:29:9
 returns-2 : tie.Need-returns-2
-returns-2 c = ?
+returns-2 c = used-by-low (now (c .before .before .before .before .before .before .before .args .table)) (c .before .before .before .before .before .before .before .args .place .0) (c .before .before .before .before .before .var-of .ensures) (c .before .before .before .if1 .left) (c .before .before .low-link-of .ensures) (c .if2 .taken)
 
 -- src/nodes.rt:31:9
 high-link-of-requires : tie.Need-high-link-of-requires
@@ -30,7 +33,7 @@ high-link-of-requires c κs = search needs
 
 -- src/nodes.rt:20:1
 returns-3 : tie.Need-returns-3
-returns-3 c = ?
+returns-3 c = free-by-high (now (c .before .before .before .before .before .before .before .before .before .args .table)) (c .before .before .before .before .before .before .before .before .before .args .place .0) (c .before .before .before .before .before .before .before .var-of .ensures) (c .before .before .before .before .before .if1 .left) (c .before .before .before .before .low-link-of .ensures) (c .before .before .if2 .left) (c .before .high-link-of .ensures)
 
 pub is-free-spec : {M : Type 1} → statement M
 is-free-spec =

@@ -1,3 +1,6 @@
+-- `pool_check::nodes::is_name` meets its contract.
+use denote.Ref.{now}
+use Rattle.pool_check.proofs.Returns.{name-early, name-past, name-by}
 use native.Mathlib.Omega.{arith}
 use borrow.Author.Needs.{needs}
 use Rattle.pool_check.proofs.nodes.is_name.Statement.{statement}
@@ -8,11 +11,11 @@ use Rattle.pool_check.proofs.nodes.is_free.Reads as is-free-reads
 
 -- src/nodes.rt:40:9
 returns : tie.Need-returns
-returns c = ?
+returns c = name-early (now (c .before .before .args .table)) (c .before .before .args .name) (c .if1 .taken)
 
 -- src/nodes.rt:43:9
 returns-2 : tie.Need-returns-2
-returns-2 c = ?
+returns-2 c = name-past (now (c .before .before .before .args .table)) (c .before .before .before .args .name) (c .before .if1 .left) (c .if2 .taken)
 
 -- src/nodes.rt:45:32
 sub-t7 : tie.Need-sub-t7
@@ -24,7 +27,7 @@ is-free-requires c κs = search needs
 
 -- src/nodes.rt:36:1
 returns-3 : tie.Need-returns-3
-returns-3 c = ?
+returns-3 c = name-by (now (c .before .before .before .before .args .table)) (c .before .before .before .before .args .name) (c .before .before .if1 .left) (c .before .if2 .left) (c .is-free .ensures)
 
 pub is-name-spec : {M : Type 1} → statement M
 is-name-spec = tie.close (tie.spec returns returns-2 sub-t7 is-free-requires returns-3)

@@ -1,3 +1,6 @@
+-- `pool_check::nodes::is_right` meets its contract.
+use denote.Ref.{now}
+use Rattle.pool_check.proofs.Returns.{right-no-var, right-no-low, right-no-high, right-not-lean, right-by-above}
 use native.Mathlib.Omega.{arith}
 use borrow.Author.Needs.{needs}
 use Rattle.pool_check.proofs.nodes.is_right.Statement.{statement}
@@ -21,7 +24,7 @@ word-requires c κs = search needs
 
 -- src/nodes.rt:68:9
 returns : tie.Need-returns
-returns c = ?
+returns c = right-no-var (now (c .before .before .before .before .before .args .table)) (c .before .before .before .before .before .args .node .0) (c .before .before .before .var-of .ensures) (c .before .before .word .ensures) (c .if1 .taken)
 
 -- src/nodes.rt:70:9
 low-link-of-requires : tie.Need-low-link-of-requires
@@ -33,7 +36,7 @@ to-index-requires c κs = search needs
 
 -- src/nodes.rt:72:9
 returns-2 : tie.Need-returns-2
-returns-2 c = ?
+returns-2 c = right-no-low (now (c .before .before .before .before .before .before .before .before .args .table)) (c .before .before .before .before .before .before .before .before .args .node .0) (c .before .before .before .before .before .before .var-of .ensures) (c .before .before .before .before .before .word .ensures) (c .before .before .before .if1 .left) (c .before .before .low-link-of .ensures) (c .before .to-index .ensures) (c .if2 .taken)
 
 -- src/nodes.rt:74:9
 high-link-of-requires : tie.Need-high-link-of-requires
@@ -45,11 +48,11 @@ to-index-requires-2 c κs = search needs
 
 -- src/nodes.rt:76:9
 returns-3 : tie.Need-returns-3
-returns-3 c = ?
+returns-3 c = right-no-high (now (c .before .before .before .before .before .before .before .before .before .before .before .args .table)) (c .before .before .before .before .before .before .before .before .before .before .before .args .node .0) (c .before .before .before .before .before .before .before .before .before .var-of .ensures) (c .before .before .before .before .before .before .before .before .word .ensures) (c .before .before .before .before .before .before .if1 .left) (c .before .before .before .before .before .low-link-of .ensures) (c .before .before .before .before .to-index .ensures) (c .before .before .before .if2 .left) (c .before .before .high-link-of .ensures) (c .before .to-index2 .ensures) (c .if3 .taken)
 
 -- src/nodes.rt:79:9
 returns-4 : tie.Need-returns-4
-returns-4 c = ?
+returns-4 c = right-not-lean (now (c .before .before .before .before .before .before .before .before .before .before .before .before .before .before .args .table)) (c .before .before .before .before .before .before .before .before .before .before .before .before .before .before .args .node .0) (c .before .before .before .before .before .before .before .before .before .before .before .before .var-of .ensures) (c .before .before .before .before .before .before .before .before .before .before .before .word .ensures) (c .before .before .before .before .before .before .before .before .before .if1 .left) (c .before .before .before .before .before .before .before .before .low-link-of .ensures) (c .before .before .before .before .before .before .before .to-index .ensures) (c .before .before .before .before .before .before .if2 .left) (c .before .before .before .before .before .high-link-of .ensures) (c .before .before .before .before .to-index2 .ensures) (c .before .before .before .if3 .left) (c .if4 .taken)
 
 -- src/nodes.rt:81:5
 is-above-requires : tie.Need-is-above-requires
@@ -57,7 +60,7 @@ is-above-requires c κs = search needs
 
 -- src/nodes.rt:62:1
 returns-5 : tie.Need-returns-5
-returns-5 c = ?
+returns-5 c = right-by-above (now (c .before .before .before .before .before .before .before .before .before .before .before .before .before .before .before .args .table)) (c .before .before .before .before .before .before .before .before .before .before .before .before .before .before .before .args .node .0) (c .before .before .before .before .before .before .before .before .before .before .before .before .before .var-of .ensures) (c .before .before .before .before .before .before .before .before .before .before .before .before .word .ensures) (c .before .before .before .before .before .before .before .before .before .before .if1 .left) (c .before .before .before .before .before .before .before .before .before .low-link-of .ensures) (c .before .before .before .before .before .before .before .before .to-index .ensures) (c .before .before .before .before .before .before .before .if2 .left) (c .before .before .before .before .before .before .high-link-of .ensures) (c .before .before .before .before .before .to-index2 .ensures) (c .before .before .before .before .if3 .left) (c .before .if4 .left) (c .is-above .ensures)
 
 pub is-right-spec : {M : Type 1} → statement M
 is-right-spec =

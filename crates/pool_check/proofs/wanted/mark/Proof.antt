@@ -1,3 +1,6 @@
+-- `pool_check::wanted::mark` meets its contract.
+use denote.Ref.{now}
+use Rattle.pool_check.proofs.Returns.{mark-is}
 use native.Mathlib.Omega.{arith}
 use borrow.Author.Needs.{needs}
 use Rattle.pool_check.proofs.wanted.mark.Statement.{statement}
@@ -25,7 +28,7 @@ same-length c = search needs
 
 -- src/wanted.rt:37:1
 returns : tie.Need-returns
-returns c = ?
+returns c = mark-is (now (c .before .before .before .before .before .before .args .marks)) (c .before .before .put .last .0) (c .before .before .before .before .before .before .args .place .0) (c .before .before .before .to-index .ensures) (c .before .before .put .ensures)
 
 pub mark-spec : {M : Type 1} → statement M
 mark-spec = tie.close (tie.spec to-index-requires add-put put-requires same-length returns)

@@ -1,3 +1,6 @@
+-- `pool_check::wanted::mark_children` meets its contract.
+use denote.Ref.{now}
+use Rattle.pool_check.proofs.Returns.{children-are}
 use native.Mathlib.Omega.{arith}
 use borrow.Author.Needs.{needs}
 use Rattle.pool_check.proofs.wanted.mark_children.Statement.{statement}
@@ -30,7 +33,7 @@ same-length c = search needs
 
 -- src/wanted.rt:43:1
 returns : tie.Need-returns
-returns c = ?
+returns c = children-are (now (c .before .before .before .before .before .before .before .before .before .before .before .before .args .table)) (now (c .before .before .before .before .before .before .before .before .before .before .before .before .args .marks)) (c .before .before .before .before .before .before .before .mark .last .0) (c .before .before .mark2 .last .0) (c .before .before .before .before .before .before .before .before .before .before .before .before .args .node .0) (c .before .before .before .before .before .before .before .before .low-link-of .ensures) (c .before .before .before .before .before .before .before .mark .ensures) (c .before .before .before .high-link-of .ensures) (c .before .before .mark2 .ensures)
 
 pub mark-children-spec : {M : Type 1} → statement M
 mark-children-spec =

@@ -1,3 +1,9 @@
+-- `pool_check::wanted::mark_linked` meets its contract.
+use denote.Ref.{now}
+use Prim.Native.Nat.{_-_, _/_, _≤_, max}
+use mathlib.Core.Path.{_≡_, refl, _∙_}
+use lib.ListN.{length}
+use Rattle.pool_check.proofs.Marking.{Linking, linking-begin, linking-on, linking-end}
 use borrow.Author.Needs.{needs}
 use native.Mathlib.Omega.{arith}
 use Rattle.pool_check.proofs.wanted.mark_linked.Statement.{statement}
@@ -7,14 +13,14 @@ use Rattle.pool_check.proofs.wanted.mark_linked.Lts as lts
 use Rattle.pool_check.proofs.wanted.mark_children.Reads as mark-children-reads
 
 abbrev Inv-loop : tie.InvT-loop
-Inv-loop table marks₀ places p₀ marks p = ?
+Inv-loop table marks₀ places p₀ marks p = Linking table marks₀ p marks × (p ≤ max 2 places) × (length marks ≡ length marks₀)
 
 abbrev μ-loop : tie.MeasureT-loop
-μ-loop table marks₀ places p₀ marks p = ?
+μ-loop table marks₀ places p₀ marks p = places - p
 
 -- src/wanted.rt:57:5
 loop-holds : tie.Need-loop-holds Inv-loop μ-loop
-loop-holds c = ?
+loop-holds c = (linking-begin (now (c .before .before .args .table)) (now (c .before .before .args .marks)), omega arith, refl)
 
 -- src/wanted.rt:58:48
 cast-t10 : tie.Need-cast-t10 Inv-loop μ-loop
@@ -30,19 +36,19 @@ add-p c = search needs
 
 -- src/wanted.rt:57:5
 loop-less : tie.Need-loop-less Inv-loop μ-loop
-loop-less c = search needs
+loop-less c = omega arith
 
 -- src/wanted.rt:57:5
 loop-again : tie.Need-loop-again Inv-loop μ-loop
-loop-again c = ?
+loop-again c = (linking-on (now (c .before .before .before .before .before .before .before .before .args .table)) (now (c .before .before .before .before .before .before .before .before .args .marks)) (c .before .before .before .before .before .loop .p) (c .before .before .before .before .before .loop .inv .0) (c .before .before .mark-children .ensures), omega arith, c .before .before .mark-children .kept .1 .0 ∙ c .before .before .before .before .before .loop .inv .2)
 
 -- src/wanted.rt:51:1
 same-length : tie.Need-same-length Inv-loop μ-loop
-same-length c = search needs
+same-length c = c .before .loop .inv .2
 
 -- src/wanted.rt:51:1
 returns : tie.Need-returns Inv-loop μ-loop
-returns c = ?
+returns c = linking-end (now (c .before .before .before .before .args .table)) (now (c .before .before .before .before .args .marks)) (c .before .loop .p) (c .before .loop .inv .0) (c .loop-test .left) (c .before .loop .inv .1)
 
 pub mark-linked-spec : {M : Type 1} → statement M
 mark-linked-spec =
