@@ -2,7 +2,7 @@
 use Prim.Native.Nat.{ℕ, suc, _+_, _*_, _≤_, _<_}
 use mathlib.Core.Path.{_≡_, refl, sym, ap, _∙_}
 use mathlib.Core.Logic.{_≢_}
-use mathlib.Core.Bool.{Bool, true, false, not, _&&_, and-false}
+use mathlib.Core.Bool.{Bool, true, false, not, _&&_, and-false, Bool·not-not}
 use mathlib.Core.List.{List}
 use native.Mathlib.Omega.{arith}
 use native.Mathlib.Decide.{decLt}
@@ -233,5 +233,13 @@ module _ {t m : List ℕ} {p : ℕ} (l : Linked t m p) where
 pub meet-node : {t : List ℕ} {p : ℕ} {b r : Bool} {m′ : List ℕ} → b ≡ isFree t p → b ≡ false → Met t p (isAgain t p) m′ r → Met t p (not (isFree t p) && isAgain t p) m′ r
 meet-node e miss m = record { says = rw (← e, miss) (m .says); linked = m .linked }
 
-pub is-node : {t : List ℕ} {p : ℕ} {b : Bool} → 2 ≤ p → p < size t → b ≡ isFree t p → b ≡ false → Inner t p
-is-node {t} {p} two inside e miss = record { after = two; inside = inside; used = used-told t p (sym e ∙ miss) }
+pub inner-by : (t : List ℕ) (p : ℕ) {b : Bool} → 2 ≤ p → p < size t → b ≡ isFree t p → b ≡ false → Inner t p
+inner-by t p two inside e miss = record { after = two; inside = inside; used = used-told t p (sym e ∙ miss) }
+
+-- ---- the scan
+
+abbrev pub isFirst : List ℕ → ℕ → Bool
+isFirst t p = not (isAgain t p)
+
+pub again-is : (t : List ℕ) (p : ℕ) {r : Bool} → r ≡ (not (isFree t p) && isAgain t p) → r ≡ (not (isFree t p) && not (isFirst t p))
+again-is t p e = rw (Bool·not-not (isAgain t p)) e
