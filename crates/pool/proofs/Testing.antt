@@ -6,13 +6,13 @@ use mathlib.Core.Bool.{Bool, true, false, not, _&&_, _||_}
 use mathlib.Core.List.{List}
 use mathlib.Core.Logic.{_⊎_, inl, inr, ⊎-elim, _≢_}
 use native.Mathlib.Omega.{arith}
-use borrow.Author.Tests.{ltb-true, ltb-false, leb-true, leb-false, eqb-true, eqb-false, not-true, not-false, lt-ltb, le-ltb, le-leb, eq-eqb, ne-eqb}
+use borrow.Author.Tests.{ltb-true, ltb-false, leb-true, eqb-true, eqb-false, not-true, not-false, lt-ltb, le-leb, eq-eqb, ne-eqb}
 use lib.ListN.{length, getD, List·getD-eq-default}
 use lib.Dec.{leb, ltb, eqb}
 use Rattle.diagram.specs.Limits.{maxNodes, maxVariables}
 use Rattle.diagram.specs.Diagram.{varOf, lowOf, highOf, size, vars, Reach, start, by-low, by-high, Terminal, InRange, Above}
 use Rattle.diagram.specs.Verdict.{any, isTerminal, isChild, isAbove}
-use Rattle.diagram.proofs.Tests.{by-test, by-eq, not-both, or-left, or-right, or-cases, and-both, both-and}
+use Rattle.diagram.proofs.Tests.{by-test, not-both, or-left, or-right, or-cases, and-both, both-and}
 use Rattle.diagram.proofs.Count.{any-intro, any-elim}
 use Rattle.diagram.proofs.Meaning.{above-told, above-tells}
 use Rattle.pool.specs.Pool.{slotCount, terminalWords, Free, Inner, Live, WellFormed, isFree, isMeasured, isEnded, isName, isRight, isWanted, isAgain, eachNode, isPool}

@@ -1,19 +1,19 @@
 -- Chains of nodes with the same key: what one more place does, and the walk along a chain.
-use Prim.Native.Nat.{ℕ, suc, _+_, _*_, _≤_, _<_}
+use Prim.Native.Nat.{ℕ, _+_, _*_, _≤_, _<_}
 use mathlib.Core.Path.{_≡_, refl, sym, ap, _∙_}
 use mathlib.Core.Logic.{_≢_}
 use mathlib.Core.Bool.{Bool, true, false, not, _&&_, and-false, Bool·not-not}
 use mathlib.Core.List.{List}
 use native.Mathlib.Omega.{arith}
 use native.Mathlib.Decide.{decLt}
-use borrow.Author.Tests.{leb-true, le-leb, lt-leb, eqb-true, not-true, eq-eqb}
+use borrow.Author.Tests.{leb-true, le-leb, lt-leb, eqb-true, eq-eqb}
 use lib.ListN.{length, getD, set, replicate, length-set, length-replicate, getD-replicate}
 use lib.Seq.{getD-set-same, getD-set-other}
 use lib.Dec.{leb, eqb}
 use Rattle.diagram.specs.Limits.{maxNodes}
-use Rattle.diagram.specs.Diagram.{varOf, lowOf, highOf, size}
-use Rattle.diagram.proofs.Tests.{by-test, by-eq, not-both, and-both, cond-true, cond-false}
-use Rattle.store.specs.Store.{Node, node, same}
+use Rattle.diagram.specs.Diagram.{size}
+use Rattle.diagram.proofs.Tests.{by-test, by-eq, not-both, and-both}
+use Rattle.store.specs.Store.{Node, same}
 use Rattle.store.specs.Room.{keyOf}
 use Rattle.store.proofs.Zones.{key-below}
 use Rattle.pool.specs.Pool.{Inner, isFree, isAgain}

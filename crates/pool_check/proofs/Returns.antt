@@ -13,7 +13,7 @@ use Rattle.diagram.specs.Limits.{maxNodes, maxVariables}
 use Rattle.diagram.specs.Diagram.{varOf, lowOf, highOf, size, vars}
 use Rattle.diagram.specs.Verdict.{any, isTerminal, isAbove}
 use Rattle.diagram.proofs.Count.{any-intro, Scanned}
-use Rattle.store.specs.Store.{Node, node, same}
+use Rattle.store.specs.Store.{node, same}
 use Rattle.store.specs.Room.{keyOf}
 use Rattle.pool.specs.Pool.{slotCount, terminalWords, isFree, isMeasured, isEnded, isName, isRight, isWanted, isAgain, eachNode, isPool}
 use Rattle.pool.proofs.Testing.{any-none, measured-told}

@@ -7,10 +7,9 @@ use native.Mathlib.Omega.{arith}
 use borrow.Author.Tests.{le-leb, leb-true}
 use lib.Dec.{leb}
 use Rattle.diagram.specs.Diagram.{size}
-use Rattle.diagram.specs.Verdict.{any}
-use Rattle.diagram.proofs.Tests.{by-test, not-both, and-both}
+use Rattle.diagram.proofs.Tests.{by-test, not-both}
 use Rattle.diagram.proofs.Count.{any-intro, Scanned, scan-start, scan-on}
-use Rattle.pool.specs.Pool.{Inner, isFree, eachNode}
+use Rattle.pool.specs.Pool.{isFree, eachNode}
 use Rattle.pool.proofs.Testing.{any-none, fails, each-told, each-tells}
 
 -- What the code finds at a place: a node that fails.

@@ -12,9 +12,6 @@ use borrow.Author.Needs.{needs}
 use native.Mathlib.Omega.{arith}
 use Rattle.pool_check.proofs.again.distinct_in.Statement.{statement}
 use Rattle.pool_check.proofs.again.distinct_in.Tie as tie
-use Rattle.pool_check.proofs.again.distinct_in.Reads as reads
-use Rattle.pool_check.proofs.again.distinct_in.Lts as lts
-use Rattle.pool_check.proofs.again.meet.Reads as meet-reads
 
 abbrev Inv-loop : tie.InvT-loop
 Inv-loop table chains₀ places p₀ chains p = Scanned (fails table (isFirst table)) 2 p × Linked table chains p × (length chains ≡ length chains₀)
@@ -22,35 +19,27 @@ Inv-loop table chains₀ places p₀ chains p = Scanned (fails table (isFirst ta
 abbrev μ-loop : tie.MeasureT-loop
 μ-loop table chains₀ places p₀ chains p = places - p
 
--- src/again.rt:104:5
 loop-holds : tie.Need-loop-holds Inv-loop μ-loop
 loop-holds c = (each-start (now (c .before .before .args .table)) (isFirst (now (c .before .before .args .table))), c .before .before .pre, refl)
 
--- src/again.rt:105:43
 cast-t10 : tie.Need-cast-t10 Inv-loop μ-loop
 cast-t10 c = search needs
 
--- src/again.rt:105:12
 meet-requires : tie.Need-meet-requires Inv-loop μ-loop
 meet-requires c κs = (c .before .before .loop .inv .1, c .before .before .loop .inv .0 .from, c .before .loop-test .taken)
 
--- src/again.rt:106:13
 same-length : tie.Need-same-length Inv-loop μ-loop
 same-length c = c .before .before .before .meet .kept .1 .0 ∙ c .before .before .before .before .before .before .loop .inv .2
 
--- src/again.rt:106:13
 returns : tie.Need-returns Inv-loop μ-loop
 returns c = each-hit (now (c .before .before .before .before .before .before .before .before .before .args .table)) (isFirst (now (c .before .before .before .before .before .before .before .before .before .args .table))) (c .before .before .before .before .before .before .loop .p) (c .before .before .before .before .before .before .loop .inv .0 .from) (c .before .before .before .before .before .loop-test .taken) (again-is (now (c .before .before .before .before .before .before .before .before .before .args .table)) (c .before .before .before .before .before .before .loop .p) (c .before .before .before .meet .ensures .says)) (c .if1 .taken)
 
--- src/again.rt:108:9
 add-p : tie.Need-add-p Inv-loop μ-loop
 add-p c = search needs
 
--- src/again.rt:104:5
 loop-less : tie.Need-loop-less Inv-loop μ-loop
 loop-less c = omega arith
 
--- src/again.rt:104:5
 loop-again : tie.Need-loop-again Inv-loop μ-loop
 loop-again c = (
   each-on (now (c .before .before .before .before .before .before .before .before .before .args .table)) (isFirst (now (c .before .before .before .before .before .before .before .before .before .args .table))) (c .before .before .before .before .before .before .loop .p) (c .before .before .before .before .before .before .loop .inv .0) (again-is (now (c .before .before .before .before .before .before .before .before .before .args .table)) (c .before .before .before .before .before .before .loop .p) (c .before .before .before .meet .ensures .says)) (c .if1 .left),
@@ -58,11 +47,9 @@ loop-again c = (
   c .before .before .before .meet .kept .1 .0 ∙ c .before .before .before .before .before .before .loop .inv .2,
 )
 
--- src/again.rt:98:1
 same-length-2 : tie.Need-same-length-2 Inv-loop μ-loop
 same-length-2 c = c .before .loop .inv .2
 
--- src/again.rt:98:1
 returns-2 : tie.Need-returns-2 Inv-loop μ-loop
 returns-2 c = each-end (now (c .before .before .before .before .args .table)) (isFirst (now (c .before .before .before .before .args .table))) (c .before .loop .p) (c .before .loop .inv .0) (c .loop-test .left)
 

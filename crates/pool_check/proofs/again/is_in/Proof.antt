@@ -1,14 +1,9 @@
 -- `pool_check::again::is_in` meets its contract.
-use denote.Ref.{now}
 use native.Mathlib.Omega.{arith}
 use Rattle.pool_check.proofs.Chaining.{Seeking, seek-begin, seek-inside, seek-hit, seek-on, seek-less, seek-end}
 use borrow.Author.Needs.{needs}
 use Rattle.pool_check.proofs.again.is_in.Statement.{statement}
 use Rattle.pool_check.proofs.again.is_in.Tie as tie
-use Rattle.pool_check.proofs.again.is_in.Reads as reads
-use Rattle.pool_check.proofs.again.is_in.Lts as lts
-use Rattle.diagram.proofs.node.word.Reads as word-reads
-use Rattle.pool_check.proofs.again.are_alike.Reads as are-alike-reads
 
 abbrev Inv-loop : tie.InvT-loop
 Inv-loop table chains place from q₀ q = Seeking table (place .0) q
@@ -16,39 +11,30 @@ Inv-loop table chains place from q₀ q = Seeking table (place .0) q
 abbrev μ-loop : tie.MeasureT-loop
 μ-loop table chains place from q₀ q = q
 
--- src/again.rt:56:5
 loop-holds : tie.Need-loop-holds Inv-loop μ-loop
 loop-holds c = seek-begin (c .before .before .pre .0) (c .before .before .pre .1) (c .before .before .pre .2)
 
--- src/again.rt:57:12
 are-alike-requires : tie.Need-are-alike-requires Inv-loop μ-loop
 are-alike-requires c κs = seek-inside (c .before .before .before .before .pre .0) (c .before .before .before .before .pre .1) (c .before .loop .inv)
 
--- src/again.rt:58:13
 returns : tie.Need-returns Inv-loop μ-loop
 returns c = seek-hit (c .before .before .before .before .before .before .pre .0) (c .before .before .before .before .before .before .pre .1) (c .before .before .before .loop .inv) (c .before .before .loop-test .taken) (c .before .are-alike .ensures) (c .if1 .taken)
 
--- src/again.rt:60:35
 cast-word : tie.Need-cast-word Inv-loop μ-loop
 cast-word c = omega (arith, seek-inside (c .before .before .before .before .before .before .pre .0) (c .before .before .before .before .before .before .pre .1) (c .before .before .before .loop .inv))
 
--- src/again.rt:60:26
 add-word : tie.Need-add-word Inv-loop μ-loop
 add-word c = omega (arith, seek-inside (c .before .before .before .before .before .before .pre .0) (c .before .before .before .before .before .before .pre .1) (c .before .before .before .loop .inv))
 
--- src/again.rt:60:9
 word-requires : tie.Need-word-requires Inv-loop μ-loop
 word-requires c κs = search needs
 
--- src/again.rt:56:5
 loop-less : tie.Need-loop-less Inv-loop μ-loop
 loop-less c = seek-less (c .before .before .before .before .before .before .before .pre .0) (c .before .before .before .before .before .before .before .pre .1) (c .before .before .before .before .loop .inv) (c .before .before .before .loop-test .taken) (c .word .ensures)
 
--- src/again.rt:56:5
 loop-again : tie.Need-loop-again Inv-loop μ-loop
 loop-again c = seek-on (c .before .before .before .before .before .before .before .pre .0) (c .before .before .before .before .before .before .before .pre .1) (c .before .before .before .before .loop .inv) (c .before .before .before .loop-test .taken) (c .before .before .are-alike .ensures) (c .before .if1 .left) (c .word .ensures)
 
--- src/again.rt:51:1
 returns-2 : tie.Need-returns-2 Inv-loop μ-loop
 returns-2 c = seek-end (c .before .before .before .before .pre .0) (c .before .before .before .before .pre .1) (c .before .loop .inv) (c .loop-test .left)
 

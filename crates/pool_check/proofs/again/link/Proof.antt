@@ -1,36 +1,25 @@
 -- `pool_check::again::link` meets its contract.
 use denote.Ref.{now}
 use Rattle.pool_check.proofs.Returns.{link-is}
-use native.Mathlib.Omega.{arith}
 use borrow.Author.Needs.{needs}
 use Rattle.pool_check.proofs.again.link.Statement.{statement}
 use Rattle.pool_check.proofs.again.link.Tie as tie
-use Rattle.pool_check.proofs.again.link.Reads as reads
-use Rattle.pool_check.proofs.again.link.Lts as lts
-use Rattle.diagram.proofs.node.BddPointer.to_index.Reads as to-index-reads
-use Rattle.diagram.proofs.room.put.Reads as put-reads
 
--- src/again.rt:60:26
 to-index-requires : tie.Need-to-index-requires
 to-index-requires c κs = search needs
 
--- src/again.rt:60:17
 add-put : tie.Need-add-put
 add-put c = search needs
 
--- src/again.rt:60:5
 put-requires : tie.Need-put-requires
 put-requires c κs = search needs
 
--- src/again.rt:61:5
 put-requires-2 : tie.Need-put-requires-2
 put-requires-2 c κs = search needs
 
--- src/again.rt:57:1
 same-length : tie.Need-same-length
 same-length c = search needs
 
--- src/again.rt:57:1
 returns : tie.Need-returns
 returns c = link-is (now (c .before .before .before .before .before .before .before .before .before .before .args .chains)) (c .before .before .before .before .before .before .put .last .0) (c .before .before .put2 .last .0) (c .before .before .before .before .before .before .before .before .before .before .args .place .0) (c .before .before .before .before .before .before .before .before .before .before .args .key) (c .before .before .before .before .before .before .before .before .before .before .args .last) (c .before .before .before .before .before .before .before .to-index .ensures) (c .before .before .before .before .before .before .put .ensures) (c .before .before .put2 .ensures)
 

@@ -1,8 +1,6 @@
 -- `pool_check::nodes::are_right` meets its contract.
 use denote.Ref.{now}
-use Prim.Native.Nat.{_-_, _/_}
-use mathlib.Core.Path.{_≡_, refl}
-use lib.ListN.{length}
+use Prim.Native.Nat.{_-_}
 use Rattle.diagram.proofs.Count.{Scanned}
 use Rattle.pool.specs.Pool.{isRight}
 use Rattle.pool.proofs.Testing.{fails}
@@ -11,9 +9,6 @@ use borrow.Author.Needs.{needs}
 use native.Mathlib.Omega.{arith}
 use Rattle.pool_check.proofs.nodes.are_right.Statement.{statement}
 use Rattle.pool_check.proofs.nodes.are_right.Tie as tie
-use Rattle.pool_check.proofs.nodes.are_right.Reads as reads
-use Rattle.pool_check.proofs.nodes.are_right.Lts as lts
-use Rattle.pool_check.proofs.nodes.is_wrong.Reads as is-wrong-reads
 
 abbrev Inv-loop : tie.InvT-loop
 Inv-loop table places p₀ p = Scanned (fails table (isRight table)) 2 p
@@ -21,35 +16,27 @@ Inv-loop table places p₀ p = Scanned (fails table (isRight table)) 2 p
 abbrev μ-loop : tie.MeasureT-loop
 μ-loop table places p₀ p = places - p
 
--- src/nodes.rt:100:5
 loop-holds : tie.Need-loop-holds Inv-loop μ-loop
 loop-holds c = each-start (now (c .before .args .table)) (isRight (now (c .before .args .table)))
 
--- src/nodes.rt:101:39
 cast-t7 : tie.Need-cast-t7 Inv-loop μ-loop
 cast-t7 c = search needs
 
--- src/nodes.rt:101:12
 is-wrong-requires : tie.Need-is-wrong-requires Inv-loop μ-loop
 is-wrong-requires c κs = search needs
 
--- src/nodes.rt:102:13
 returns : tie.Need-returns Inv-loop μ-loop
 returns c = each-hit (now (c .before .before .before .before .before .args .table)) (isRight (now (c .before .before .before .before .before .args .table))) (c .before .before .before .loop .p) (c .before .before .before .loop .inv .from) (c .before .before .loop-test .taken) (c .before .is-wrong .ensures) (c .if1 .taken)
 
--- src/nodes.rt:104:9
 add-p : tie.Need-add-p Inv-loop μ-loop
 add-p c = search needs
 
--- src/nodes.rt:100:5
 loop-less : tie.Need-loop-less Inv-loop μ-loop
 loop-less c = omega arith
 
--- src/nodes.rt:100:5
 loop-again : tie.Need-loop-again Inv-loop μ-loop
 loop-again c = each-on (now (c .before .before .before .before .before .args .table)) (isRight (now (c .before .before .before .before .before .args .table))) (c .before .before .before .loop .p) (c .before .before .before .loop .inv) (c .before .is-wrong .ensures) (c .if1 .left)
 
--- src/nodes.rt:94:1
 returns-2 : tie.Need-returns-2 Inv-loop μ-loop
 returns-2 c = each-end (now (c .before .before .before .args .table)) (isRight (now (c .before .before .before .args .table))) (c .before .loop .p) (c .before .loop .inv) (c .loop-test .left)
 

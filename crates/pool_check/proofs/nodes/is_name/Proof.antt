@@ -1,31 +1,22 @@
 -- `pool_check::nodes::is_name` meets its contract.
 use denote.Ref.{now}
 use Rattle.pool_check.proofs.Returns.{name-early, name-past, name-by}
-use native.Mathlib.Omega.{arith}
 use borrow.Author.Needs.{needs}
 use Rattle.pool_check.proofs.nodes.is_name.Statement.{statement}
 use Rattle.pool_check.proofs.nodes.is_name.Tie as tie
-use Rattle.pool_check.proofs.nodes.is_name.Reads as reads
-use Rattle.pool_check.proofs.nodes.is_name.Lts as lts
-use Rattle.pool_check.proofs.nodes.is_free.Reads as is-free-reads
 
--- src/nodes.rt:40:9
 returns : tie.Need-returns
 returns c = name-early (now (c .before .before .args .table)) (c .before .before .args .name) (c .if1 .taken)
 
--- src/nodes.rt:43:9
 returns-2 : tie.Need-returns-2
 returns-2 c = name-past (now (c .before .before .before .args .table)) (c .before .before .before .args .name) (c .before .if1 .left) (c .if2 .taken)
 
--- src/nodes.rt:45:32
 sub-t7 : tie.Need-sub-t7
 sub-t7 c = search needs
 
--- src/nodes.rt:45:6
 is-free-requires : tie.Need-is-free-requires
 is-free-requires c κs = search needs
 
--- src/nodes.rt:36:1
 returns-3 : tie.Need-returns-3
 returns-3 c = name-by (now (c .before .before .before .before .args .table)) (c .before .before .before .before .args .name) (c .before .before .if1 .left) (c .before .if2 .left) (c .is-free .ensures)
 

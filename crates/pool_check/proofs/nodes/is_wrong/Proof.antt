@@ -4,28 +4,19 @@ use mathlib.Core.Path.{sym, ap, _∙_}
 use mathlib.Core.Bool.{not}
 use Rattle.pool.specs.Pool.{isFree, isRight}
 use Rattle.pool_check.proofs.Returns.{second-fails, second-holds}
-use native.Mathlib.Omega.{arith}
 use borrow.Author.Needs.{needs}
 use Rattle.pool_check.proofs.nodes.is_wrong.Statement.{statement}
 use Rattle.pool_check.proofs.nodes.is_wrong.Tie as tie
-use Rattle.pool_check.proofs.nodes.is_wrong.Reads as reads
-use Rattle.pool_check.proofs.nodes.is_wrong.Lts as lts
-use Rattle.pool_check.proofs.nodes.is_free.Reads as is-free-reads
-use Rattle.pool_check.proofs.nodes.is_right.Reads as is-right-reads
 
--- src/nodes.rt:88:8
 is-right-requires : tie.Need-is-right-requires
 is-right-requires c κs = search needs
 
--- src/nodes.rt:89:9
 returns : tie.Need-returns
 returns c = second-fails (not (isFree (now (c .before .before .before .args .table)) (c .before .before .before .args .place .0))) (not (isRight (now (c .before .before .before .args .table)) (c .before .before .before .args .place .0))) (ap not (sym (c .before .is-right .ensures) ∙ c .if1 .taken))
 
--- src/nodes.rt:91:6
 is-free-requires : tie.Need-is-free-requires
 is-free-requires c κs = search needs
 
--- src/nodes.rt:85:1
 returns-2 : tie.Need-returns-2
 returns-2 c = ap not (c .is-free .ensures)
     ∙ second-holds (not (isFree (now (c .before .before .before .before .args .table)) (c .before .before .before .before .args .place .0))) (not (isRight (now (c .before .before .before .before .args .table)) (c .before .before .before .before .args .place .0))) (ap not (sym (c .before .before .is-right .ensures) ∙ c .before .if1 .left))

@@ -1,21 +1,14 @@
 -- `pool_check::wanted::are_marked` meets its contract.
 use denote.Ref.{now}
-use Prim.Native.Nat.{ℕ, _-_}
-use mathlib.Core.Path.{sym, ap, _∙_}
-use mathlib.Core.Bool.{Bool, not}
-use mathlib.Core.List.{List}
+use Prim.Native.Nat.{_-_}
 use Rattle.diagram.proofs.Count.{Scanned}
 use Rattle.pool.proofs.Testing.{fails}
-use Rattle.pool_check.specs.Marks.{isBare}
 use Rattle.pool_check.proofs.Marking.{isMarked, lost-is}
 use Rattle.pool_check.proofs.Scans.{each-hit, each-start, each-on, each-end}
 use borrow.Author.Needs.{needs}
 use native.Mathlib.Omega.{arith}
 use Rattle.pool_check.proofs.wanted.are_marked.Statement.{statement}
 use Rattle.pool_check.proofs.wanted.are_marked.Tie as tie
-use Rattle.pool_check.proofs.wanted.are_marked.Reads as reads
-use Rattle.pool_check.proofs.wanted.are_marked.Lts as lts
-use Rattle.pool_check.proofs.wanted.is_lost.Reads as is-lost-reads
 
 abbrev Inv-loop : tie.InvT-loop
 Inv-loop table marks places p₀ p = Scanned (fails table (isMarked marks)) 2 p
@@ -23,35 +16,27 @@ Inv-loop table marks places p₀ p = Scanned (fails table (isMarked marks)) 2 p
 abbrev μ-loop : tie.MeasureT-loop
 μ-loop table marks places p₀ p = places - p
 
--- src/wanted.rt:80:5
 loop-holds : tie.Need-loop-holds Inv-loop μ-loop
 loop-holds c = each-start (now (c .before .before .args .table)) (isMarked (now (c .before .before .args .marks)))
 
--- src/wanted.rt:81:45
 cast-t8 : tie.Need-cast-t8 Inv-loop μ-loop
 cast-t8 c = search needs
 
--- src/wanted.rt:81:12
 is-lost-requires : tie.Need-is-lost-requires Inv-loop μ-loop
 is-lost-requires c κs = search needs
 
--- src/wanted.rt:82:13
 returns : tie.Need-returns Inv-loop μ-loop
 returns c = each-hit (now (c .before .before .before .before .before .before .args .table)) (isMarked (now (c .before .before .before .before .before .before .args .marks))) (c .before .before .before .loop .p) (c .before .before .before .loop .inv .from) (c .before .before .loop-test .taken) (lost-is (now (c .before .before .before .before .before .before .args .table)) (now (c .before .before .before .before .before .before .args .marks)) (c .before .before .before .loop .p) (c .before .is-lost .ensures)) (c .if1 .taken)
 
--- src/wanted.rt:84:9
 add-p : tie.Need-add-p Inv-loop μ-loop
 add-p c = search needs
 
--- src/wanted.rt:80:5
 loop-less : tie.Need-loop-less Inv-loop μ-loop
 loop-less c = omega arith
 
--- src/wanted.rt:80:5
 loop-again : tie.Need-loop-again Inv-loop μ-loop
 loop-again c = each-on (now (c .before .before .before .before .before .before .args .table)) (isMarked (now (c .before .before .before .before .before .before .args .marks))) (c .before .before .before .loop .p) (c .before .before .before .loop .inv) (lost-is (now (c .before .before .before .before .before .before .args .table)) (now (c .before .before .before .before .before .before .args .marks)) (c .before .before .before .loop .p) (c .before .is-lost .ensures)) (c .if1 .left)
 
--- src/wanted.rt:74:1
 returns-2 : tie.Need-returns-2 Inv-loop μ-loop
 returns-2 c = each-end (now (c .before .before .before .before .args .table)) (isMarked (now (c .before .before .before .before .args .marks))) (c .before .loop .p) (c .before .loop .inv) (c .loop-test .left)
 

@@ -1,37 +1,25 @@
 -- `pool_check::wanted::mark_children` meets its contract.
 use denote.Ref.{now}
 use Rattle.pool_check.proofs.Returns.{children-are}
-use native.Mathlib.Omega.{arith}
 use borrow.Author.Needs.{needs}
 use Rattle.pool_check.proofs.wanted.mark_children.Statement.{statement}
 use Rattle.pool_check.proofs.wanted.mark_children.Tie as tie
-use Rattle.pool_check.proofs.wanted.mark_children.Reads as reads
-use Rattle.pool_check.proofs.wanted.mark_children.Lts as lts
-use Rattle.diagram.proofs.node.high_link_of.Reads as high-link-of-reads
-use Rattle.diagram.proofs.node.low_link_of.Reads as low-link-of-reads
-use Rattle.pool_check.proofs.wanted.mark.Reads as mark-reads
 
--- src/wanted.rt:46:17
 low-link-of-requires : tie.Need-low-link-of-requires
 low-link-of-requires c κs = search needs
 
--- src/wanted.rt:46:5
 mark-requires : tie.Need-mark-requires
 mark-requires c κs = search needs
 
--- src/wanted.rt:47:17
 high-link-of-requires : tie.Need-high-link-of-requires
 high-link-of-requires c κs = search needs
 
--- src/wanted.rt:47:5
 mark-requires-2 : tie.Need-mark-requires-2
 mark-requires-2 c κs = search needs
 
--- src/wanted.rt:43:1
 same-length : tie.Need-same-length
 same-length c = search needs
 
--- src/wanted.rt:43:1
 returns : tie.Need-returns
 returns c = children-are (now (c .before .before .before .before .before .before .before .before .before .before .before .before .args .table)) (now (c .before .before .before .before .before .before .before .before .before .before .before .before .args .marks)) (c .before .before .before .before .before .before .before .mark .last .0) (c .before .before .mark2 .last .0) (c .before .before .before .before .before .before .before .before .before .before .before .before .args .node .0) (c .before .before .before .before .before .before .before .before .low-link-of .ensures) (c .before .before .before .before .before .before .before .mark .ensures) (c .before .before .before .high-link-of .ensures) (c .before .before .mark2 .ensures)
 

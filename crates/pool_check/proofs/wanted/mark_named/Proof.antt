@@ -10,10 +10,6 @@ use borrow.Author.Needs.{needs}
 use native.Mathlib.Omega.{arith}
 use Rattle.pool_check.proofs.wanted.mark_named.Statement.{statement}
 use Rattle.pool_check.proofs.wanted.mark_named.Tie as tie
-use Rattle.pool_check.proofs.wanted.mark_named.Reads as reads
-use Rattle.pool_check.proofs.wanted.mark_named.Lts as lts
-use Rattle.diagram.proofs.node.word.Reads as word-reads
-use Rattle.diagram.proofs.room.put.Reads as put-reads
 
 abbrev Inv-loop : tie.InvT-loop
 Inv-loop slots marks₀ k₀ marks k = Marks (isNamed slots k) marks × (k ≤ slotCount) × (length marks ≡ length marks₀)
@@ -21,31 +17,24 @@ Inv-loop slots marks₀ k₀ marks k = Marks (isNamed slots k) marks × (k ≤ s
 abbrev μ-loop : tie.MeasureT-loop
 μ-loop slots marks₀ k₀ marks k = slotCount - k
 
--- src/wanted.rt:29:5
 loop-holds : tie.Need-loop-holds Inv-loop μ-loop
 loop-holds c = (named-begin (now (c .before .before .args .slots)) (c .before .before .pre), omega arith, refl)
 
--- src/wanted.rt:30:13
 word-requires : tie.Need-word-requires Inv-loop μ-loop
 word-requires c κs = search needs
 
--- src/wanted.rt:31:20
 cast-put : tie.Need-cast-put Inv-loop μ-loop
 cast-put c = search needs
 
--- src/wanted.rt:31:9
 put-requires : tie.Need-put-requires Inv-loop μ-loop
 put-requires c κs = search needs
 
--- src/wanted.rt:32:9
 add-k : tie.Need-add-k Inv-loop μ-loop
 add-k c = search needs
 
--- src/wanted.rt:29:5
 loop-less : tie.Need-loop-less Inv-loop μ-loop
 loop-less c = omega arith
 
--- src/wanted.rt:29:5
 loop-again : tie.Need-loop-again Inv-loop μ-loop
 loop-again c = (
   named-on (now (c .before .before .before .before .before .before .before .before .before .args .slots)) (c .before .before .before .before .before .before .loop .marks) (c .before .before .before .before .before .before .loop .k) (c .before .before .before .before .before .before .loop .inv .0) (c .before .before .before .before .word .ensures) refl (c .before .before .put .ensures),
@@ -53,11 +42,9 @@ loop-again c = (
   c .before .before .put .kept .0 ∙ c .before .before .before .before .before .before .loop .inv .2,
 )
 
--- src/wanted.rt:24:1
 same-length : tie.Need-same-length Inv-loop μ-loop
 same-length c = c .before .loop .inv .2
 
--- src/wanted.rt:24:1
 returns : tie.Need-returns Inv-loop μ-loop
 returns c = named-end (now (c .before .before .before .before .args .slots)) (c .before .loop .k) (c .before .loop .inv .0) (omega arith)
 
