@@ -46,23 +46,23 @@ module _ (t : List ℕ) (p : ℕ) {var : ℕ} (v : var ≡ varOf t p) where
 
 -- ---- a slot's word
 
--- what names no node after the terminals: nothing, and the two terminals
-abbrev early : ℕ
-early = 3
+-- words below this one name nothing, 0, or a terminal
+abbrev firstNodeName : ℕ
+firstNodeName = 3
 
 module _ (t : List ℕ) (x : ℕ) where
-  pub name-early : x < early → true ≡ isName t x
+  pub name-early : x < firstNodeName → true ≡ isName t x
   unfolding isName
-  name-early l = simp (lt-ltb x early l)
+  name-early l = simp (lt-ltb x firstNodeName l)
 
-  module _ (later : early ≤ x) where
+  module _ (later : firstNodeName ≤ x) where
     pub name-past : size t < x → false ≡ isName t x
     unfolding isName
-    name-past l = simp (le-ltb x early later, lt-leb x (size t) l)
+    name-past l = simp (le-ltb x firstNodeName later, lt-leb x (size t) l)
 
     pub name-by : x ≤ size t → {free : Bool} → free ≡ isFree t (x - 1) → not free ≡ isName t x
     unfolding isName
-    name-by l e = simp (le-ltb x early later, le-leb x (size t) l) (ap not e)
+    name-by l e = simp (le-ltb x firstNodeName later, le-leb x (size t) l) (ap not e)
 
 module _ (t s : List ℕ) where
   abbrev pub isUnnamed : ℕ → Bool

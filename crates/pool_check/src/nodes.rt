@@ -16,6 +16,9 @@ ghost use Rattle.diagram.specs.Diagram.{size};
 ghost use Rattle.diagram.specs.Verdict.{any};
 ghost use Rattle.pool.specs.Pool.{slotCount, isFree, isName, isRight, eachNode};
 
+// A slot's words below this one name nothing, 0, or a terminal.
+const FIRST_NODE_NAME: u32 = 3;
+
 // Whether all words of a place are zero.
 pub(crate) fn is_free(table: &[u32], place: BddPointer) -> bool
     ensures { λ r. ⌜ r ≡ isFree (now (table .entry)) (place .0) ⌝ }
@@ -36,7 +39,7 @@ pub(crate) fn is_free(table: &[u32], place: BddPointer) -> bool
 fn is_name(table: &[u32], name: u32) -> bool
     ensures { λ r. ⌜ r ≡ isName (now (table .entry)) name ⌝ }
 {
-    if name < 3 {
+    if name < FIRST_NODE_NAME {
         return true;
     }
     if table.len() / 3 < name as usize {
