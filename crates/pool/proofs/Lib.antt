@@ -1,4 +1,5 @@
 -- Laws that belong to no one function.
+--     Testing    the test `isPool` says `WellFormed`
 --     Walked     the part of the table that is walked is an ordered array; building from it is building from its nodes
 --     Gathered   the conditions of the slots, and building them one after the other
 --     Fewest     no ordered array with a node for each condition has fewer nodes than the table
@@ -9,6 +10,7 @@
 --     Verdicts   when a verdict is given
 --     Promised   what is promised of a pool
 --     Histories  what is promised of any list of calls
+pub mod Testing
 pub mod Walked
 pub mod Gathered
 pub mod Fewest

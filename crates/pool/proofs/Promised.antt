@@ -13,6 +13,7 @@ use Rattle.pool.proofs.Tables.{table-size, table-vars, table-holds, rea
 use Rattle.pool.proofs.Closed.{table-formed}
 use Rattle.pool.proofs.Rows.{add-first, drop-first, read-first}
 use Rattle.pool.proofs.Verdicts.{Tested, is-46, is-36, is-added, is-dropped}
+use Rattle.pool.proofs.Testing.{pool-told, pool-tells}
 
 -- After a drop the table holds what is left, so an addition to it needs no more than that and the new condition.
 freed : (t s w : List ℕ) (k j : ℕ)
@@ -42,3 +43,6 @@ pools-by test = record {
   alike-tables = alike-table;
   reads = read-is;
 }
+
+pub pools : Pools
+pools = pools-by (λ t s. (pool-told t s, pool-tells t s))

@@ -25,7 +25,7 @@ use Rattle.pool_build.specs.Work.{storeFrom, workWords, Standing, Naming
 
 -- ---- handing back
 
-abbrev zeros : ℕ → List ℕ
+abbrev pub zeros : ℕ → List ℕ
 zeros k = replicate k 0
 
 drop-zeros : (k m : ℕ) → drop k (zeros m) ≡ zeros (m - k)
@@ -54,10 +54,10 @@ module _ {r n t s : List ℕ} {count : ℕ} (h : Handing r n t s count) where
 
 -- ---- a pool's own words to begin with
 
-length-zeros : (k : ℕ) → length (zeros k) ≡ k
+pub length-zeros : (k : ℕ) → length (zeros k) ≡ k
 length-zeros k = length-replicate k 0
 
-zero-words : (k j : ℕ) → getD (zeros k) j 0 ≡ 0
+pub zero-words : (k j : ℕ) → getD (zeros k) j 0 ≡ 0
 zero-words zero j = refl
 zero-words (suc k) zero = refl
 zero-words (suc k) (suc j) = zero-words k j

@@ -2,15 +2,17 @@
 -- many places as the table has stands in the first of the local words; behind all that it may need stand two memos.
 use Prim.Native.Nat.{ℕ, suc, _+_, _-_, _*_, _≤_, _<_, min}
 use mathlib.Core.Path.{_≡_}
+use mathlib.Core.Bool.{cond}
 use mathlib.Core.List.{List, _++_}
 use lib.ListN.{length, getD, set, take, drop, replicate}
 use lib.Seq.{slice}
 use lib.Dec.{ltb}
 use Rattle.diagram.specs.Limits.{maxNodes}
 use Rattle.diagram.specs.Diagram.{size, vars, holds, Ordered}
-use Rattle.diagram.specs.Verdict.{Outcome, accepted, row, roomOf}
+use Rattle.diagram.specs.Verdict.{Outcome, accepted, said, row, roomOf, outputAfter}
+use Rattle.diagram.specs.declared.verdict.Verdict.{Verdict}
 use Rattle.store.specs.Store.{Node, terminals}
-use Rattle.store.specs.Room.{storeWords, storeIn, On}
+use Rattle.store.specs.Room.{storeWords, storeTo, storeIn, On}
 use Rattle.pool.specs.Pool.{slotCount, Live, WellFormed, holdsFrom, Slot, live, slotOf, held, placed, named, gather, names as namesOf, needs, tableOf, slotsOf}
 use Rattle.reduction.specs.Reduce.{reduced}
 
@@ -129,6 +131,31 @@ pub record Puts (t s d : List ℕ) (k : ℕ) : Type 0 where
 
 -- ---- reading
 
+-- The condition of node p of an array.
+abbrev pub answerOf : List ℕ → ℕ → List ℕ
+answerOf t p = reduced (vars t) (holdsFrom t p)
+
+-- Everything is there to build it in a room, with as many places as the table has.
+pub record Making (w : List ℕ) (p n v : ℕ) (r : List ℕ) : Type 0 where
+  pub ordered : Ordered w
+  pub node : p < size w
+  pub is-vars : v ≡ vars w
+  pub two : 2 ≤ n
+  pub most : size w ≤ n
+  pub few : n ≤ maxNodes
+  pub long : storeTo n n ≤ length r
+
+-- It has k nodes and stands in the room behind the memo.
+pub record Made (w : List ℕ) (p n : ℕ) (r′ : List ℕ) (k : ℕ) : Type 0 where
+  pub words : length (answerOf w p) ≡ 3 * k
+  pub fits : k ≤ n
+  pub store : take (3 * k) (drop n r′) ≡ answerOf w p
+
+-- So many nodes' words, from a place of the room on, are copied, or the output is too short for them.
+pub record Given (r out out′ : List ℕ) (n k v : ℕ) (verdict : Verdict) : Type 0 where
+  pub outcome : said verdict ≡ row 4 (ltb (length out) (3 * k)) 0 (accepted k v)
+  pub output : out′ ≡ cond (ltb (length out) (3 * k)) out (take (3 * k) (drop n r) ++ drop (3 * k) out)
+
 -- The condition with root p may be read from a pool.
 pub record Fetching (t : List ℕ) (p n v : ℕ) (r : List ℕ) : Type 0 where
   pub slots : List ℕ
@@ -139,15 +166,11 @@ pub record Fetching (t : List ℕ) (p n v : ℕ) (r : List ℕ) : Type 0 where
   pub is-vars : v ≡ vars t
   pub long : length r ≡ roomOf t
 
--- What it says: 4, or the number of the answer's nodes.
+-- 4, or the number of the answer's nodes, and the answer; the room is zero.
 abbrev pub fetchOf : List ℕ → ℕ → ℕ → Outcome
 fetchOf answer v out = row 4 (ltb out (length answer)) 0 (accepted (size answer) v)
 
-abbrev pub answerOf : List ℕ → ℕ → List ℕ
-answerOf t p = reduced (vars t) (holdsFrom t p)
-
--- The answer has so many nodes and stands in the room behind the memo.
-pub record Made (t : List ℕ) (p n : ℕ) (r′ : List ℕ) (k : ℕ) : Type 0 where
-  pub words : length (answerOf t p) ≡ 3 * k
-  pub fits : k ≤ n
-  pub store : take (3 * k) (drop n r′) ≡ answerOf t p
+pub record Fetched (t : List ℕ) (p v : ℕ) (r r′ out out′ : List ℕ) (verdict : Verdict) : Type 0 where
+  pub outcome : said verdict ≡ fetchOf (answerOf t p) v (length out)
+  pub output : out′ ≡ outputAfter (fetchOf (answerOf t p) v (length out)) (answerOf t p) out
+  pub room : r′ ≡ replicate (length r) 0

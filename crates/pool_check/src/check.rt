@@ -45,6 +45,7 @@ fn is_ended(table: &[u32]) -> bool
     word(table, 0) as usize <= MAX_VARIABLES
 }
 
+// Whether any words are the table and the slots of a well-formed pool.
 pub fn is_pool(table: &[u32], slots: &[u32]) -> bool
     ensures { λ r. ⌜ r ≡ isPool (now (table .entry)) (now (slots .entry)) ⌝ }
 {
