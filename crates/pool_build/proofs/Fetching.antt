@@ -10,7 +10,7 @@ use lib.Dec.{ltb, leb}
 use borrow.Author.Tests.{lt-ltb, le-ltb, le-leb}
 use Rattle.diagram.specs.Limits.{maxNodes}
 use Rattle.diagram.specs.Diagram.{size, vars}
-use Rattle.diagram.specs.Verdict.{accepted, refused, row, outputAfter}
+use Rattle.diagram.specs.Verdict.{Outcome, accepted, row, outputAfter}
 use Rattle.diagram.proofs.Reading.{layered}
 use Rattle.diagram.proofs.Tests.{by-test}
 use Rattle.diagram.proofs.Words.{zeros-whole}
@@ -196,15 +196,27 @@ module _ {t : List ℕ} {p n v : ℕ} {r : List ℕ} (a : Fetching t p n v r) {p
     answer-size : size (answerOf t p) ≡ k
     answer-size = let e = answer-words in omega arith
 
-    pub fetched : {out out′ : List ℕ} {verdict : Verdict} → Given r₁ out out′ n k v verdict → {r₂ : List ℕ}
-        → r₂ ≡ replicate (min (length r₁) (length r₁)) 0 ++ drop (length r₁) r₁ → Fetched t p v r r₂ out out′ verdict
-    unfolding row
-    fetched {out} {out′} g cleared =
-        let front : take (3 * k) (drop n r₁) ≡ answerOf t p = made .store ∙ same-answer in
-        record {
-          outcome = rw (answer-words, answer-size) (g .outcome);
-          output = rw (answer-words, answer-size) (g .output ∙ by-test (ltb (length out) (3 * k))
-              (λ e. simp e)
-              (λ e. rw (e, front) (ap (λ (l : ℕ). answerOf t p ++ drop l out) (sym answer-words))));
-          room = cleared ∙ zeros-whole r₁ r same₁;
-        }
+    module _ (out : List ℕ) where
+      told : Outcome
+      told = row 4 (ltb (length out) (3 * k)) 0 (accepted k v)
+
+      told-is : fetchOf (answerOf t p) v (length out) ≡ told
+      unfolding told
+      told-is =
+          ap (λ (l : ℕ). row 4 (ltb (length out) l) 0 (accepted (size (answerOf t p)) v)) answer-words
+          ∙ ap (λ (s : ℕ). row 4 (ltb (length out) (3 * k)) 0 (accepted s v)) answer-size
+
+      told-output : cond (ltb (length out) (3 * k)) out (take (3 * k) (drop n r₁) ++ drop (3 * k) out) ≡ outputAfter told (answerOf t p) out
+      unfolding told row
+      told-output = by-test (ltb (length out) (3 * k))
+          (λ e. rw e refl)
+          (λ e. rw e (ap (λ (l : List ℕ). l ++ drop (3 * k) out) (made .store ∙ same-answer) ∙ ap (λ (l : ℕ). answerOf t p ++ drop l out) (sym answer-words)))
+
+      pub fetched : {out′ : List ℕ} {verdict : Verdict} → Given r₁ out out′ n k v verdict → {r₂ : List ℕ}
+          → r₂ ≡ replicate (min (length r₁) (length r₁)) 0 ++ drop (length r₁) r₁ → Fetched t p v r r₂ out out′ verdict
+      unfolding told
+      fetched g cleared = record {
+        outcome = g .outcome ∙ sym told-is;
+        output = g .output ∙ told-output ∙ ap (λ (o : Outcome). outputAfter o (answerOf t p) out) (sym told-is);
+        room = cleared ∙ zeros-whole r₁ r same₁;
+      }

@@ -1,3 +1,7 @@
+use denote.Ref.{now}
+use lib.Seq.{length-take-le}
+use mathlib.Core.Path.{sym, _∙_}
+use Rattle.pool_build.proofs.Fetching.{fetch-part, fetch-makes, fetch-gives, fetched}
 use native.Mathlib.Omega.{arith}
 use borrow.Author.Needs.{needs}
 use Rattle.pool_build.proofs.fetch.fetch.Statement.{statement}
@@ -15,15 +19,15 @@ walked-requires c κs = search needs
 
 -- src/fetch.rt:58:22
 slice-aggregate-make : tie.Need-slice-aggregate-make
-slice-aggregate-make c = search needs
+slice-aggregate-make c = sym (length-take-le (c .before .walked .result) (now (c .before .before .before .before .before .args .table)) (fetch-part (c .before .before .before .before .before .pre) (c .before .walked .ensures)))
 
 -- src/fetch.rt:58:9
 make-requires : tie.Need-make-requires
-make-requires c κs = search needs
+make-requires c κs = fetch-makes (c .before .before .before .before .before .before .pre) (c .before .before .walked .ensures)
 
 -- src/fetch.rt:59:9
 give-requires : tie.Need-give-requires
-give-requires c κs = search needs
+give-requires c κs = fetch-gives (c .before .before .before .before .before .before .before .before .before .before .before .pre) (c .before .before .before .before .before .before .before .walked .ensures) (c .before .before .before .before .make .ensures) (c .before .before .before .before .make .kept .1 .0)
 
 -- src/fetch.rt:61:5
 clear-requires : tie.Need-clear-requires
@@ -39,7 +43,7 @@ same-length-2 c = search needs
 
 -- src/fetch.rt:46:1
 returns : tie.Need-returns
-returns c = ?
+returns c = fetched (c .before .before .before .before .before .before .before .before .before .before .before .before .before .before .before .before .before .before .pre) (c .before .before .before .before .before .before .before .before .before .before .before .before .before .before .walked .ensures) (c .before .before .before .before .before .before .before .before .before .before .before .make .ensures) (c .before .before .before .before .before .before .before .before .before .before .before .make .kept .1 .0) (now (c .before .before .before .before .before .before .before .before .before .before .before .before .before .before .before .before .before .before .args .output)) (c .before .before .before .before .before .before .give .ensures) (c .before .before .clear .ensures)
 
 pub fetch-spec : {M : Type 1} → statement M
 fetch-spec =
