@@ -15,7 +15,7 @@ use Rattle.diagram.proofs.Outcomes.{never-both}
 use Rattle.diagram.proofs.Meaning.{both-accept}
 use Rattle.diagram.proofs.Promised.{demand1}
 use Rattle.pool.specs.Pool.{slotCount, isPool, needs}
-use Rattle.pool.specs.Answers.{withAdded, withDropped, addOf, liveOf, dropOf, roomedOf, readOf}
+use Rattle.pool.specs.Answers.{placeOf, withAdded, withDropped, addOf, liveOf, dropOf, roomedOf, readOf}
 
 -- ---- rows
 
@@ -61,42 +61,33 @@ own-below w room k p e = ⊎-elim (λ i. omega (arith, i .1)) (λ i. omega arith
 -- ---- adding
 
 module _ (t s w : List ℕ) (k : ℕ) where
-  -- 33 to 36, behind the pool's check and the diagram's.
-  unfoldable pub slotVerdict : Outcome
-  slotVerdict =
-      row 33 (leb slotCount k) 0
-      (row 34 (not (eqb (getD s k 0) 0)) 0
-      (row 35 (not (eqb (vars w) (vars t))) 0
-      (row 36 (ltb (size t) (needs (vars t) (withAdded t s w k))) 0
-      (accepted (needs (vars t) (withAdded t s w k)) (vars t)))))
-
   -- 36, behind the rest.
   unfoldable pub roomVerdict : Outcome
   roomVerdict =
       row 36 (ltb (size t) (needs (vars t) (withAdded t s w k))) 0
       (accepted (needs (vars t) (withAdded t s w k)) (vars t))
 
-  pub no-slot : slotCount ≤ k → slotVerdict ≡ refused 33 0
-  unfolding slotVerdict
+  pub no-slot : slotCount ≤ k → (placeOf t s w k) ≡ refused 33 0
+  unfolding placeOf
   no-slot h = row-on 33 0 (leb slotCount k) _ (le-leb slotCount k h)
 
   module _ (slot : k < slotCount) where
-    pub slot-taken : getD s k 0 ≢ 0 → slotVerdict ≡ refused 34 0
-    unfolding slotVerdict
+    pub slot-taken : getD s k 0 ≢ 0 → (placeOf t s w k) ≡ refused 34 0
+    unfolding placeOf
     slot-taken taken =
         row-off 33 0 (leb slotCount k) _ (lt-leb slotCount k slot)
         ∙ row-on 34 0 (not (eqb (getD s k 0) 0)) _ (ap not (ne-eqb (getD s k 0) 0 taken))
 
     module _ (free : getD s k 0 ≡ 0) where
-      pub other-vars : vars w ≢ vars t → slotVerdict ≡ refused 35 0
-      unfolding slotVerdict
+      pub other-vars : vars w ≢ vars t → (placeOf t s w k) ≡ refused 35 0
+      unfolding placeOf
       other-vars differ =
           row-off 33 0 (leb slotCount k) _ (lt-leb slotCount k slot)
           ∙ row-off 34 0 (not (eqb (getD s k 0) 0)) _ (ap not (eq-eqb (getD s k 0) 0 free))
           ∙ row-on 35 0 (not (eqb (vars w) (vars t))) _ (ap not (ne-eqb (vars w) (vars t) differ))
 
-      pub slot-ready : vars w ≡ vars t → slotVerdict ≡ roomVerdict
-      unfolding slotVerdict roomVerdict
+      pub slot-ready : vars w ≡ vars t → (placeOf t s w k) ≡ roomVerdict
+      unfolding placeOf roomVerdict
       slot-ready same =
           row-off 33 0 (leb slotCount k) _ (lt-leb slotCount k slot)
           ∙ row-off 34 0 (not (eqb (getD s k 0) 0)) _ (ap not (eq-eqb (getD s k 0) 0 free))
@@ -110,8 +101,8 @@ module _ (t s w : List ℕ) (k : ℕ) where
   unfolding roomVerdict
   room-fits fits = row-off 36 0 (ltb (size t) (needs (vars t) (withAdded t s w k))) _ (le-ltb (size t) (needs (vars t) (withAdded t s w k)) fits)
 
-  slot-below : Below 46 slotVerdict
-  unfolding slotVerdict
+  slot-below : Below 46 (placeOf t s w k)
+  unfolding placeOf
   slot-below =
       row-below 46 33 _ 0 (omega arith)
       (row-below 46 34 _ 0 (omega arith)
@@ -120,23 +111,23 @@ module _ (t s w : List ℕ) (k : ℕ) where
       (accepted-below 46 _ _))))
 
   module _ (room : ℕ) where
-    pub add-rows : addOf t s w room k ≡ row 46 (not (isPool t s)) 0 (andThen (verdictOf w Nothing room) slotVerdict)
-    unfolding addOf slotVerdict
+    pub add-rows : addOf t s w room k ≡ row 46 (not (isPool t s)) 0 (andThen (verdictOf w Nothing room) (placeOf t s w k))
+    unfolding addOf
     add-rows = refl
 
     pub add-no-pool : isPool t s ≡ false → addOf t s w room k ≡ refused 46 0
     add-no-pool e = add-rows ∙ row-on 46 0 (not (isPool t s)) _ (ap not e)
 
-    pub add-pool : isPool t s ≡ true → addOf t s w room k ≡ andThen (verdictOf w Nothing room) slotVerdict
+    pub add-pool : isPool t s ≡ true → addOf t s w room k ≡ andThen (verdictOf w Nothing room) (placeOf t s w k)
     add-pool e = add-rows ∙ row-off 46 0 (not (isPool t s)) _ (ap not e)
 
     pub add-own : {number place : ℕ} → isPool t s ≡ true → verdictOf w Nothing room ≡ refused number place → addOf t s w room k ≡ refused number place
-    add-own e own = add-pool e ∙ ap (λ (o : Outcome). andThen o slotVerdict) own
+    add-own e own = add-pool e ∙ ap (λ (o : Outcome). andThen o (placeOf t s w k)) own
 
-    pub add-slot : {n v : ℕ} → isPool t s ≡ true → verdictOf w Nothing room ≡ accepted n v → addOf t s w room k ≡ slotVerdict
-    add-slot e own = add-pool e ∙ ap (λ (o : Outcome). andThen o slotVerdict) own
+    pub add-slot : {n v : ℕ} → isPool t s ≡ true → verdictOf w Nothing room ≡ accepted n v → addOf t s w room k ≡ (placeOf t s w k)
+    add-slot e own = add-pool e ∙ ap (λ (o : Outcome). andThen o (placeOf t s w k)) own
 
-    pub add-below : Below 46 (andThen (verdictOf w Nothing room) slotVerdict)
+    pub add-below : Below 46 (andThen (verdictOf w Nothing room) (placeOf t s w k))
     add-below = then-below 46 (verdictOf w Nothing room) (λ number place e. let h = own-below w room number place e in omega arith) slot-below
 
 -- ---- a live slot
@@ -180,7 +171,7 @@ pub record First (t s : List ℕ) (o : Outcome) : Type 0 where
   pub small : Below 46 rest
 
 pub add-first : (t s w : List ℕ) (room k : ℕ) → First t s (addOf t s w room k)
-add-first t s w room k = record { rest = andThen (verdictOf w Nothing room) (slotVerdict t s w k); is = add-rows t s w k room; small = add-below t s w k room }
+add-first t s w room k = record { rest = andThen (verdictOf w Nothing room) (placeOf t s w k); is = add-rows t s w k room; small = add-below t s w k room }
 
 pub live-first : (t s : List ℕ) (k n : ℕ) → First t s (liveOf t s k n)
 unfolding liveOf
@@ -213,10 +204,10 @@ row-passed number false place below e = (refl, e)
 
 -- An addition that is answered fits, whatever table and slots are.
 pub added-fits : (t s w : List ℕ) (room k : ℕ) {n v : ℕ} → addOf t s w room k ≡ accepted n v → needs (vars t) (withAdded t s w k) ≤ size t
-unfolding slotVerdict
+unfolding placeOf
 added-fits t s w room k {n} {v} e =
-    let pool = row-passed 46 (not (isPool t s)) 0 (andThen (verdictOf w Nothing room) (slotVerdict t s w k)) (sym (add-rows t s w k room) ∙ e) .1 in
-    let own = both-accept (verdictOf w Nothing room) (slotVerdict t s w k) n v pool .1 in
+    let pool = row-passed 46 (not (isPool t s)) 0 (andThen (verdictOf w Nothing room) (placeOf t s w k)) (sym (add-rows t s w k room) ∙ e) .1 in
+    let own = both-accept (verdictOf w Nothing room) (placeOf t s w k) n v pool .1 in
     let slot = row-passed 33 (leb slotCount k) 0 _ own .1 in
     let free = row-passed 34 (not (eqb (getD s k 0) 0)) 0 _ slot .1 in
     let same = row-passed 35 (not (eqb (vars w) (vars t))) 0 _ free .1 in
