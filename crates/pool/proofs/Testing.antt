@@ -202,47 +202,44 @@ child-tells t q p two o =
     (λ h. or-right (eqb (lowOf t q) p) (eqb (highOf t q) p) (eq-eqb (highOf t q) p h))
     o)
 
--- A slot names the place, or a node after the terminals has it for a child: free places and places past the end have links to 0.
+-- A slot names the place; a place after the terminals has a link to it.
 pub record Named (s : List ℕ) (p : ℕ) : Type 0 where
   pub slot : ℕ
   pub live : Live s slot p
 
 pub record Parent (t : List ℕ) (p : ℕ) : Type 0 where
   pub place : ℕ
-  pub node : Inner t place
+  pub after : 2 ≤ place
   pub links : (lowOf t place ≡ p) ⊎ (highOf t place ≡ p)
 
-wanted-told : (t s : List ℕ) (p : ℕ) → 2 ≤ p → isWanted t s p ≡ true → Named s p ⊎ Parent t p
+-- a node's parent is a node: free places and places past the end have links to 0
+parent-inner : (t : List ℕ) (p : ℕ) → length t ≡ 3 * size t → 2 ≤ p → (o : Parent t p) → Inner t (o .place)
+parent-inner t p whole two o =
+    let q = o .place in
+    record {
+      after = o .after;
+      inside =
+          by-test (ltb q (size t))
+          (λ l. ltb-true q (size t) l)
+          (λ l.
+          let past = ltb-false q (size t) l in
+          let low = List·getD-eq-default t 0 {n = 3 * q + 1} (omega arith) in
+          let high = List·getD-eq-default t 0 {n = 3 * q + 2} (omega arith) in
+          absurd (⊎-elim (λ x. omega arith) (λ x. omega arith) (o .links)));
+      used = λ f. let low = f .low in let high = f .high in ⊎-elim (λ x. omega arith) (λ x. omega arith) (o .links);
+    }
+
+wanted-told : (t s : List ℕ) (p : ℕ) → isWanted t s p ≡ true → Named s p ⊎ Parent t p
 unfolding isWanted
-wanted-told t s p two e =
+wanted-told t s p e =
     or-cases (any slotCount (λ k. eqb (getD s k 0) (suc p))) (any (size t) (λ q. isChild t q p)) e
     (λ a.
     let k = any-elim slotCount (λ k. eqb (getD s k 0) (suc p)) a in
     inl (record { slot = k .0; live = record { inside = k .1; names = eqb-true (getD s (k .0) 0) (suc p) (k .2) } }))
     (λ a.
     let o = any-elim (size t) (λ q. isChild t q p) a in
-    let q = o .0 in
-    let c = child-told t q p (o .2) in
-    inr (record {
-      place = q;
-      node = record {
-        after = c .0;
-        inside = o .1;
-        used = λ f. let l = f .low in let h = f .high in ⊎-elim (λ x. omega arith) (λ x. omega arith) (c .1);
-      };
-      links = c .1;
-    }))
-
-pub record Wanting (t : List ℕ) (p : ℕ) : Type 0 where
-  pub place : ℕ
-  pub after : 2 ≤ place
-  pub links : (lowOf t place ≡ p) ⊎ (highOf t place ≡ p)
-
--- a path ends where it began, or with a link
-last-link : (t : List ℕ) {r p : ℕ} → Reach t r p → (r ≡ p) ⊎ Wanting t p
-last-link t start = inl refl
-last-link t (by-low {p = q} x two) = inr (record { place = q; after = two; links = inl refl })
-last-link t (by-high {p = q} x two) = inr (record { place = q; after = two; links = inr refl })
+    let c = child-told t (o .0) p (o .2) in
+    inr (record { place = o .0; after = c .0; links = c .1 }))
 
 wanted-named : (t s : List ℕ) (p k : ℕ) → Live s k p → isWanted t s p ≡ true
 unfolding isWanted
@@ -250,18 +247,17 @@ wanted-named t s p k live =
     or-left (any slotCount (λ j. eqb (getD s j 0) (suc p))) (any (size t) (λ q. isChild t q p))
     (any-intro slotCount (λ j. eqb (getD s j 0) (suc p)) k (live .inside) (eq-eqb (getD s k 0) (suc p) (live .names)))
 
-wanted-linked : (t s : List ℕ) (p : ℕ) → length t ≡ 3 * size t → 2 ≤ p → Wanting t p → isWanted t s p ≡ true
+wanted-linked : (t s : List ℕ) (p : ℕ) → length t ≡ 3 * size t → 2 ≤ p → Parent t p → isWanted t s p ≡ true
 unfolding isWanted
-wanted-linked t s p whole two w =
-    let q = w .place in
-    or-right (any slotCount (λ j. eqb (getD s j 0) (suc p))) (any (size t) (λ x. isChild t x p))
-    (by-test (ltb q (size t))
-    (λ l. any-intro (size t) (λ x. isChild t x p) q (ltb-true q (size t) l) (child-tells t q p (w .after) (w .links)))
-    (λ l.
-    let past = ltb-false q (size t) l in
-    let low = List·getD-eq-default t 0 {n = 3 * q + 1} (omega arith) in
-    let high = List·getD-eq-default t 0 {n = 3 * q + 2} (omega arith) in
-    absurd (⊎-elim (λ x. omega arith) (λ x. omega arith) (w .links))))
+wanted-linked t s p whole two o =
+    or-right (any slotCount (λ j. eqb (getD s j 0) (suc p))) (any (size t) (λ q. isChild t q p))
+    (any-intro (size t) (λ q. isChild t q p) (o .place) (parent-inner t p whole two o .inside) (child-tells t (o .place) p (o .after) (o .links)))
+
+-- a path ends where it began, or with a link
+last-link : (t : List ℕ) {r p : ℕ} → Reach t r p → (r ≡ p) ⊎ Parent t p
+last-link t start = inl refl
+last-link t (by-low {p = q} x two) = inr (record { place = q; after = two; links = inl refl })
+last-link t (by-high {p = q} x two) = inr (record { place = q; after = two; links = inr refl })
 
 wanted-tells : (t s : List ℕ) (p : ℕ) → length t ≡ 3 * size t → 2 ≤ p → (k r : ℕ) → Live s k r → Reach t r p → isWanted t s p ≡ true
 wanted-tells t s p whole two k r live x =
@@ -271,7 +267,8 @@ wanted-tells t s p whole two k r live x =
 abbrev pub FromSlot : List ℕ → List ℕ → ℕ → Type 0
 FromSlot t s p = (k : ℕ) × (r : ℕ) × Live s k r × Reach t r p
 
-module _ (t s : List ℕ) (above : (p : ℕ) → Inner t p → Above t p) (wanted : (p : ℕ) → Inner t p → isWanted t s p ≡ true) where
+module _ (t s : List ℕ) (whole : length t ≡ 3 * size t) (above : (p : ℕ) → Inner t p → Above t p)
+    (wanted : (p : ℕ) → Inner t p → isWanted t s p ≡ true) where
   -- by the variable
   reached-below : (m p : ℕ) → varOf t p < m → Inner t p → FromSlot t s p
   reached-below zero p h i = absurd (omega arith)
@@ -280,16 +277,17 @@ module _ (t s : List ℕ) (above : (p : ℕ) → Inner t p → Above t p) (wante
       (λ n. (n .slot, p, n .live, start))
       (λ o.
       let q = o .place in
-      let a = above q (o .node) in
+      let node = parent-inner t p whole (i .after) o in
+      let a = above q node in
       ⊎-elim
       (λ x.
-      let r = reached-below m q (omega (arith, h, rw x at (a .low))) (o .node) in
-      (r .0, r .1, r .2, subst (λ (y : ℕ). Reach t (r .1) y) x (by-low (r .3) (o .node .after))))
+      let r = reached-below m q (omega (arith, h, rw x at (a .low))) node in
+      (r .0, r .1, r .2, subst (λ (y : ℕ). Reach t (r .1) y) x (by-low (r .3) (o .after))))
       (λ x.
-      let r = reached-below m q (omega (arith, h, rw x at (a .high))) (o .node) in
-      (r .0, r .1, r .2, subst (λ (y : ℕ). Reach t (r .1) y) x (by-high (r .3) (o .node .after))))
+      let r = reached-below m q (omega (arith, h, rw x at (a .high))) node in
+      (r .0, r .1, r .2, subst (λ (y : ℕ). Reach t (r .1) y) x (by-high (r .3) (o .after))))
       (o .links))
-      (wanted-told t s p (i .after) (wanted p i))
+      (wanted-told t s p (wanted p i))
 
 -- ---- distinct
 
@@ -405,7 +403,7 @@ pool-told t s e =
       distinct = λ q r i j var low high.
           apart t (each-told t (λ x. not (isAgain t x)) (p .distinct)) q r i j (record { var = sym var; low = sym low; high = sym high });
       reached = λ q i.
-          reached-below t s (λ x j. right x j .above) (each-told t (isWanted t s) (p .wanted)) (suc (varOf t q)) q (omega arith) i;
+          reached-below t s (m .whole) (λ x j. right x j .above) (each-told t (isWanted t s) (p .wanted)) (suc (varOf t q)) q (omega arith) i;
     }
 
 pub pool-tells : (t s : List ℕ) → WellFormed t s → isPool t s ≡ true

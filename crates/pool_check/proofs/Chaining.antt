@@ -6,15 +6,16 @@ use mathlib.Core.Bool.{Bool, true, false, not, _&&_, and-false, Bool·not-not}
 use mathlib.Core.List.{List}
 use native.Mathlib.Omega.{arith}
 use native.Mathlib.Decide.{decLt}
-use borrow.Author.Tests.{leb-true, le-leb, lt-leb, eqb-true, eq-eqb}
+use borrow.Author.Tests.{leb-true, le-leb, lt-leb, eqb-true}
 use lib.ListN.{length, getD, set, replicate, length-set, length-replicate, getD-replicate}
 use lib.Seq.{getD-set-same, getD-set-other}
 use lib.Dec.{leb, eqb}
 use Rattle.diagram.specs.Limits.{maxNodes}
-use Rattle.diagram.specs.Diagram.{size}
+use Rattle.diagram.specs.Diagram.{varOf, lowOf, highOf, size}
 use Rattle.diagram.proofs.Tests.{by-test, by-eq, not-both, and-both}
-use Rattle.store.specs.Store.{Node, same}
+use Rattle.store.specs.Store.{same}
 use Rattle.store.specs.Room.{keyOf}
+use Rattle.store.proofs.Store.{same-yes}
 use Rattle.store.proofs.Zones.{key-below}
 use Rattle.pool.specs.Pool.{Inner, isFree, isAgain}
 use Rattle.pool.proofs.Testing.{Alike, alike-used, used-told, used-tells, again-tells, never-again}
@@ -76,13 +77,15 @@ chained-after t q l = by-test (leb 2 q && not (isFree t q))
     (λ e. leb-true 2 q (and-both (leb 2 q) (not (isFree t q)) e .0))
     (λ e. let z = chain-none t q e in absurd (omega arith))
 
+alike-node : (t : List ℕ) (q p : ℕ) → Alike t q p → nodeIn t q ≡ nodeIn t p
+alike-node t q p a = rw (a .var, a .low, a .high)
+
 -- equal nodes are in the same chain
 chain-same : (t : List ℕ) (q p : ℕ) → 2 ≤ q → q < p → Inner t p → Alike t q p → chainOf t q ≡ chainOf t p
 chain-same t q p two l i a =
     let inside = i .inside in
     let j : Inner t q = record { after = two; inside = omega arith; used = alike-used t q p a (i .used) } in
-    let e : nodeIn t q ≡ nodeIn t p = rw (a .var, a .low, a .high) in
-    chain-node t q j ∙ ap (keyOf (size t)) e ∙ sym (chain-node t p i)
+    chain-node t q j ∙ ap (keyOf (size t)) (alike-node t q p a) ∙ sym (chain-node t p i)
 
 -- ---- the chains of a table
 
@@ -147,16 +150,16 @@ pub record Seeking (t : List ℕ) (p q : ℕ) : Type 0 where
   pub like : q ≢ 0 → chainOf t q ≡ chainOf t p
   pub passed : (i : ℕ) → q < i → i < p → 2 ≤ i → Alike t i p → ⊥
 
-same-told : (a b : Node) → same a b ≡ true → (a .var ≡ b .var) × (a .low ≡ b .low) × (a .high ≡ b .high)
+same-alike : (t : List ℕ) (q p : ℕ) → same (nodeIn t q) (nodeIn t p) ≡ true → Alike t q p
 unfolding same
-same-told a b e =
-    let x = and-both (eqb (a .var) (b .var)) (eqb (a .low) (b .low) && eqb (a .high) (b .high)) e in
-    let y = and-both (eqb (a .low) (b .low)) (eqb (a .high) (b .high)) (x .1) in
-    (eqb-true (a .var) (b .var) (x .0), eqb-true (a .low) (b .low) (y .0), eqb-true (a .high) (b .high) (y .1))
-
-same-tells : (a b : Node) → a .var ≡ b .var → a .low ≡ b .low → a .high ≡ b .high → same a b ≡ true
-unfolding same
-same-tells a b x y z = simp (eq-eqb (a .var) (b .var) x, eq-eqb (a .low) (b .low) y, eq-eqb (a .high) (b .high) z)
+same-alike t q p e =
+    let a = and-both (eqb (varOf t q) (varOf t p)) (eqb (lowOf t q) (lowOf t p) && eqb (highOf t q) (highOf t p)) e in
+    let b = and-both (eqb (lowOf t q) (lowOf t p)) (eqb (highOf t q) (highOf t p)) (a .1) in
+    record {
+      var = eqb-true (varOf t q) (varOf t p) (a .0);
+      low = eqb-true (lowOf t q) (lowOf t p) (b .0);
+      high = eqb-true (highOf t q) (highOf t p) (b .1);
+    }
 
 module _ {t m : List ℕ} {p : ℕ} (l : Linked t m p) (i : Inner t p) where
   pub seek-begin : {from : ℕ} → from ≡ headIn m (chainOf t p) → Seeking t p from
@@ -193,10 +196,9 @@ module _ {t m : List ℕ} {p : ℕ} (l : Linked t m p) (i : Inner t p) where
       module _ {r : Bool} (is : r ≡ same (nodeIn t q) (nodeIn t p)) where
         pub seek-hit : r ≡ true → true ≡ isAgain t p
         seek-hit hit =
-            let e = same-told (nodeIn t q) (nodeIn t p) (sym is ∙ hit) in
             let like = s .like some in
             let below = chain-below t p i in
-            sym (again-tells t p q (s .inside some) (chained-after t q (omega arith)) (record { var = e .0; low = e .1; high = e .2 }))
+            sym (again-tells t p q (s .inside some) (chained-after t q (omega arith)) (same-alike t q p (sym is ∙ hit)))
 
         pub seek-on : r ≡ false → {x : ℕ} → x ≡ beforeIn m q → Seeking t p x
         seek-on miss e =
@@ -208,7 +210,7 @@ module _ {t m : List ℕ} {p : ℕ} (l : Linked t m p) (i : Inner t p) where
               passed = λ j after before two a. elim (decLt j q) [
                 | yes h ↦ last .passed j after h (chain-same t j p two before i a)
                 | no h ↦ by-eq j q
-                    (λ x. not-both r (is ∙ same-tells (nodeIn t q) (nodeIn t p) (rw x at (a .var)) (rw x at (a .low)) (rw x at (a .high))) miss)
+                    (λ x. not-both r (is ∙ same-yes (nodeIn t q) (nodeIn t p) (rw x at (alike-node t j p a))) miss)
                     (λ ne. s .passed j (omega arith) before two a)
               ];
             })

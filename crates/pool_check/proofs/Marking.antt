@@ -81,9 +81,17 @@ pub record Linking (t m : List ℕ) (n : ℕ) (m′ : List ℕ) : Type 0 where
   pub two : 2 ≤ n
   pub adds : (test : ℕ → Bool) → Marks test m → Marks (λ p. test p || isLinked t n p) m′
 
+-- terminals are nobody's parents
+linked-early : (t : List ℕ) (n p : ℕ) → n ≤ 2 → isLinked t n p ≡ false
+unfolding isChild
+linked-early t n p few = any-none n (λ q. isChild t q p) (λ q l. rw (lt-leb 2 q (omega arith)))
+
 pub linking-begin : (t m : List ℕ) → Linking t m 2 m
-unfolding any isChild
-linking-begin t m = record { two = omega arith; adds = λ test a. marks-same a (λ p. sym (or-false (test p))) }
+linking-begin t m =
+    record {
+      two = omega arith;
+      adds = λ test a. marks-same a (λ p. sym (ap (λ (b : Bool). test p || b) (linked-early t 2 p (omega arith)) ∙ or-false (test p)));
+    }
 
 pub linking-on : (t m : List ℕ) (n : ℕ) {m₁ m₂ : List ℕ} → Linking t m n m₁
     → m₂ ≡ set (set m₁ (suc (lowOf t n)) 1) (suc (highOf t n)) 1 → Linking t m (n + 1) m₂
@@ -96,11 +104,6 @@ linking-on t m n {m₁} a e =
           (marks-same (children-marked t m₁ (λ p. test p || isLinked t n p) n (a .two) (a .adds test b))
           (λ p. or-assoc (test p) (isLinked t n p) (isChild t n p)));
     }
-
--- terminals are nobody's parents
-linked-early : (t : List ℕ) (n p : ℕ) → n ≤ 2 → isLinked t n p ≡ false
-unfolding isChild
-linked-early t n p few = any-none n (λ q. isChild t q p) (λ q l. rw (lt-leb 2 q (omega arith)))
 
 -- past the last place, and past the terminals where there is no other
 pub linking-end : (t m : List ℕ) (n : ℕ) {m′ : List ℕ} → Linking t m n m′ → size t ≤ n → n ≤ max 2 (size t) → Links t m m′
