@@ -99,10 +99,14 @@ fn sum_of(words: &[u32]) -> u64 {
     sum
 }
 
+fn say_word(word: u32) {
+    say(b" ", word as u64);
+}
+
 fn list(words: &[u32]) {
     let mut i = 0;
     while i < words.len() {
-        say(b" ", words[i] as u64);
+        say_word(words[i]);
         i += 1;
     }
 }
