@@ -570,7 +570,7 @@ static void call_site(Site *s, const PoolRequest *q) {
 static void scatter(Site *s) {
     static uint32_t table[3 * HOUAYLETAN_NODES], slots[HOUAYLETAN_SLOTS], place[HOUAYLETAN_NODES];
     const uint32_t *from = s->lent.table.words;
-    size_t old = s->held.places, places = old + below(3) < HOUAYLETAN_NODES ? old + below(3) : HOUAYLETAN_NODES;
+    size_t old = s->held.places, more = below(3), places = old + more < HOUAYLETAN_NODES ? old + more : HOUAYLETAN_NODES;
     memset(table, 0, sizeof table);
     for (size_t p = 0; p < places; p++) place[p] = (uint32_t)p;
     for (size_t p = places; p-- > 3;) {
