@@ -621,10 +621,11 @@ static void spoil(const Site *s, const PoolRequest *like) {
     give_pool_back(&p);
 }
 
-/* Words of the pool's variable count mostly. */
-static size_t any_addition(uint32_t vars) {
-    size_t len = any_words();
-    for (int tries = 0; tries < 8 && len >= 3 && words[0] > vars; tries++) len = any_words();
+/* Words for a pool of so many places, mostly of its variable count. */
+static size_t any_addition(uint32_t vars, size_t places) {
+    size_t len = 3;
+    words[0] = vars + 1;
+    for (int tries = 0; tries < 8 && len >= 3 && words[0] > vars; tries++) len = places > 1000 && one_in(2) ? accepted(places / 8 + below(places - places / 8)) : any_words();
     if (len >= 3 && words[0] <= vars && !one_in(16)) {
         words[0] = vars;
         if (len >= 6) words[3] = vars;
@@ -639,7 +640,7 @@ static PoolRequest any_call(const Site *s) {
     bool live = slot < HOUAYLETAN_SLOTS && s->held.array[slot];
     PoolCall call = what < 5 ? (live && !one_in(8) ? (one_in(2) ? DROP : READ) : ADD) : (live || one_in(8) ? (what == 5 ? DROP : READ) : ADD);
     PoolRequest q = {call, slot, words, 0, 0, 0, (uint32_t)next()};
-    if (call == ADD) q.words_len = any_addition(s->held.vars), q.room_len = HOUAYLETAN_ROOM(q.words_len / 3);
+    if (call == ADD) q.words_len = any_addition(s->held.vars, s->held.places), q.room_len = HOUAYLETAN_ROOM(q.words_len / 3);
     if (call == READ) q.room_len = HOUAYLETAN_ROOM(s->held.places), q.output_len = live ? s->held.len[slot] : below(10);
     if (call != DROP && one_in(6)) q.room_len = any_length(q.room_len);
     if (call == READ && one_in(4)) q.output_len = any_length(q.output_len);
