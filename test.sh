@@ -75,7 +75,7 @@ old_caller() {
     echo "old caller: not stopped for all 22 functions of that header: $said"
     return 1
 }
-c_test() { c_program test && "$built/test" && old_caller; }
+c_test() { c_program test && "$built/test" && c_program pool_test && "$built/pool_test" && old_caller; }
 replay() { c_program replay && "$built/replay" tests/c/replay.txt; }
 rust_tests() {
     HOUAYLETAN_LIB="$PWD/target/staticlib" CARGO_TARGET_DIR="$PWD/$built/rust" cargo test --offline --quiet --manifest-path bindings/rust/Cargo.toml

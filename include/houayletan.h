@@ -51,9 +51,33 @@
  *                                                                       0
  *   31   two diagrams have different variable counts                    0
  *   32   two diagrams reach more pairs of nodes than the table holds    0
+ *   46   table and slots are no well-formed pool: before all others     0
+ *   33   a pool has no slot of that number                              0
+ *   34   the slot is taken, for an add; it is empty, for a drop or a read
+ *                                                                       0
+ *   35   the pool has another variable count than the diagram           0
+ *   36   the pool has no room: the distinct nodes of all live conditions and the new one, both terminals among them, are more than
+ *        the table's places                                             0
  *
  * Of 8, 9 and 10 the first faulty node is reported, and in it the variable, then low, then high. Of 11 and 17 likewise: the
  * node is chosen first, then its low child comes before its high child.
+ *
+ * A pool holds up to HOUAYLETAN_SLOTS conditions of one variable count v in one table of nodes, in which no node stands twice: what
+ * conditions have in common takes its places once. It is two buffers that the caller keeps from call to call; docs/POOL.md has an example.
+ *
+ *   table     HOUAYLETAN_POOL(places) words, for 2 to HOUAYLETAN_NODES places: three words a place, as a diagram has them for a node. Places 0
+ *             and 1 are the terminals (v, 0, 0) and (v, 1, 1), and always count as used. Any other place is a node, or it is free, and
+ *             then its three words are 0.
+ *   slots     HOUAYLETAN_SLOTS words. 0: the slot is empty. Any other word: the slot is live, and the word is the place of its
+ *             condition's root and 1 more; so 1 is false and 2 is true.
+ *
+ * Empty, it is the two terminals and zeros: houayletan_pool_empty writes that. Well formed it is exactly where both lengths are as above;
+ * places 0 and 1 are the terminals of one v, at most HOUAYLETAN_VARS; every live slot names a terminal or a node; and of the nodes after the
+ * terminals each has its variable below v, its links to places of the table, both children at a larger variable, and not the same child
+ * twice, no two have the same three words, and each is reached from a live slot. Nodes and free places may stand in any order. After an
+ * accepted add or drop they stand in one order: the live conditions one after the other by their slots, of each the nodes that are not there
+ * yet, numbered on the way back, low branch first; then the free places. So all words then depend on what the slots hold, and not on the
+ * calls that led there.
  *
  * A node file is HOUAYLETAN_BYTES_PER_NODE bytes for each node, in the order of the nodes: variable (2), low link (4), high
  * link (4), each least byte first, with nothing before, between or after them; 1 to HOUAYLETAN_NODES nodes. Reading and writing
@@ -89,6 +113,9 @@ extern "C" {
 /* The words of a table for so many pairs of nodes. */
 #define HOUAYLETAN_TABLE(pairs) (HOUAYLETAN_PAIR_WORDS * (size_t)(pairs))
 
+/* The words of a pool's table of so many places. */
+#define HOUAYLETAN_POOL(places) (3 * (size_t)(places))
+
 /* The bytes of a node file of n nodes. */
 #define HOUAYLETAN_BYTES(n) (HOUAYLETAN_BYTES_PER_NODE * (size_t)(n))
 
@@ -119,6 +146,9 @@ extern "C" {
 #define houayletan_underapproximate_to_cardinality HOUAYLETAN_LINKED(houayletan_underapproximate_to_cardinality)
 #define houayletan_overapproximate_to_cardinality HOUAYLETAN_LINKED(houayletan_overapproximate_to_cardinality)
 #define houayletan_compare HOUAYLETAN_LINKED(houayletan_compare)
+#define houayletan_pool_add HOUAYLETAN_LINKED(houayletan_pool_add)
+#define houayletan_pool_drop HOUAYLETAN_LINKED(houayletan_pool_drop)
+#define houayletan_pool_read HOUAYLETAN_LINKED(houayletan_pool_read)
 #define houayletan_read_as_bytes HOUAYLETAN_LINKED(houayletan_read_as_bytes)
 #define houayletan_write_as_bytes HOUAYLETAN_LINKED(houayletan_write_as_bytes)
 
@@ -272,6 +302,34 @@ typedef struct {
  * then 32. */
 HouayletanComparison houayletan_compare(const uint32_t *first, size_t first_len, const uint32_t *second, size_t second_len,
                                         uint32_t *room, size_t room_len, uint32_t *table, size_t table_len);
+
+/* Writes the empty pool of vars variables to table and slots. Where the lengths or vars are not as above, the first call says 46. */
+static inline void houayletan_pool_empty(uint32_t *table, size_t table_len, uint32_t *slots, size_t slots_len, uint32_t vars) {
+    for (size_t i = 0; i < table_len; i++) table[i] = 0;
+    for (size_t i = 0; i < slots_len; i++) slots[i] = 0;
+    if (table_len < HOUAYLETAN_POOL(2)) return;
+    table[0] = table[3] = vars;
+    table[4] = table[5] = 1;
+}
+
+/* The calls to a pool. Accepted, the verdict has the variable count; after an add or a drop nodes is how many nodes are in use, both
+ * terminals among them, and after a read how many the answer has. Any words may be offered. What is not a well-formed pool is refused 46,
+ * which is decided before anything else that is lent is looked at. After any refusal every word of table and slots is as it was. */
+
+/* Puts a condition in an empty slot, in reduced form; nodes that are in the table already take no place. The room is asked for by the diagram
+ * alone: HOUAYLETAN_ROOM(n), whatever the table. After 46 it is as it was, and else as houayletan_validate of the diagram leaves it. Refusals:
+ * 46, the diagram's own, then 33, 34, 35, 36. */
+HouayletanVerdict houayletan_pool_add(uint32_t *table, size_t table_len, uint32_t *slots, size_t slots_len, const uint32_t *words,
+                                      size_t words_len, size_t slot, uint32_t *room, size_t room_len);
+
+/* Empties a slot. The places of nodes that no other slot reaches are free again. It takes no room. Refusals: 46, 33, 34. */
+HouayletanVerdict houayletan_pool_drop(uint32_t *table, size_t table_len, uint32_t *slots, size_t slots_len, size_t slot);
+
+/* The reduced array of a slot's condition, as houayletan_reduce numbers it, in the first words of the output. The room is asked for by the
+ * table: HOUAYLETAN_ROOM(places). 46, 33, 34 and 5 leave it as it was; 4, and all answers, leave so many words zero and the rest as it was.
+ * The output has to be as long as the array, and no longer: 3 words are enough for false. Refusals: 46, 33, 34, then 5, then 4. */
+HouayletanVerdict houayletan_pool_read(const uint32_t *table, size_t table_len, const uint32_t *slots, size_t slots_len, size_t slot,
+                                       uint32_t *room, size_t room_len, uint32_t *output, size_t output_len);
 
 /* What reading or writing a node file says. number 0: done, with the number of nodes, and place 0. Any other number: refused; place is
  * as in the table, nodes is 0. */

@@ -1,5 +1,5 @@
 /* The numbers of Houayletan for C and C++, each once. The library's own are crates/diagram/src/limits.rt, naturals::WORDS,
- * crates/pairs/src/table.rt and crates/blocks/src/layout.rt; tests/papers.py holds these to them. */
+ * crates/pairs/src/table.rt, crates/pool/src/lib.rt and crates/blocks/src/layout.rt; tests/papers.py holds these to them. */
 #ifndef HOUAYLETAN_LIMITS_H
 #define HOUAYLETAN_LIMITS_H
 
@@ -15,6 +15,9 @@
 
 /* The words of a pair of nodes in the table of a comparison. */
 #define HOUAYLETAN_PAIR_WORDS 64
+
+/* The conditions that a pool has slots for. */
+#define HOUAYLETAN_SLOTS 64
 
 /* The bytes of a node in a node file. */
 #define HOUAYLETAN_BYTES_PER_NODE 10

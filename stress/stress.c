@@ -1,8 +1,8 @@
 /* Random and damaged words through the C interface, with guard words around every lent buffer:
  *
  *     stress SEED REQUESTS [GUARD]   GUARD words on each side, 16 unless given; 0 for a memory checker, which sees the first
- *                                    word beyond a buffer by itself; and a quarter as many node files more, with guard bytes, and
- *                                    a quarter as many comparisons of two diagrams
+ *                                    word beyond a buffer by itself; and a quarter as many node files more, with guard bytes, a
+ *                                    quarter as many comparisons of two diagrams, and a quarter as many calls to pools
  *     stress deep                    the longest paths, each operation on a stack of its own: how many bytes of it are used
  *
  * Of every call: guard words, input, room and output as the header says; number and place as a reading of the table says; and
@@ -11,9 +11,12 @@
  * much as the count, which the count and weights together give too, and no node more). Of every node file: guards, input and what is
  * beyond the result; number and place; words and bytes by another way of reading them; and the way back. Of every comparison: guards,
  * inputs, room and table; number, place and diagram; the pairs counted by another search; both counts add up to the diagrams' own; the
- * smallest is a difference; and of few variables counts and smallest by looking at every valuation. */
+ * smallest is a difference; and of few variables counts and smallest by looking at every valuation. Of every call to a pool: guards, input,
+ * room and output; number and place by a reading of the header's sentences, also of words that are no pool; and every word of table, slots
+ * and output from the reduced arrays of what was put in each slot last. */
 #include "../tests/c/comparing.h"
 #include "../tests/c/files.h"
+#include "../tests/c/pooling.h"
 #include "reading.h"
 #include <pthread.h>
 
@@ -499,6 +502,177 @@ static void tell_comparisons(void) {
     printf("\n");
 }
 
+/* ---- pools */
+
+static unsigned long pools, pool_made, pool_refused[3][64]; /* by call and by number */
+static unsigned long pools_scattered, pools_spoilt, pools_still;
+static size_t pool_nodes;
+
+/* A pool, and what it holds by the calls alone. Where its nodes were put elsewhere they stand in order again after the next accepted
+ * add or drop. */
+typedef struct {
+    Pool lent;
+    Held held;
+    bool in_order;
+} Site;
+
+static void stop_pool(const Pool *p, const PoolRequest *q, const PoolReply *r, HouayletanVerdict expected, const char *fault) {
+    printf("FAILED: %s: %s\n  expected %u at %zu, %zu nodes, got %u at %zu, %zu nodes; slot %zu, room %zu, output %zu; table", pool_calls[q->call], fault,
+           expected.number, expected.place, expected.nodes, r->verdict.number, r->verdict.place, r->verdict.nodes, q->slot, q->room_len, q->output_len);
+    for (size_t i = 0; i < p->table.len; i++) printf(" %u", p->table.words[i]);
+    printf("; slots");
+    for (size_t i = 0; i < p->slots.len; i++) printf(" %u", p->slots.words[i]);
+    printf("; words");
+    for (size_t i = 0; i < q->words_len; i++) printf(" %u", q->words[i]);
+    printf("\n");
+    exit(1);
+}
+
+static Pool copy_of_pool(const Pool *p) { return lend_pool(p->table.words, p->table.len, p->slots.words, p->slots.len, p->table.guard); }
+
+/* What is read of words that are added: their own refusal, and their reduced array. */
+static HouayletanVerdict own_of(const PoolRequest *q, const uint32_t **array, size_t *len) {
+    if (q->call != ADD) return (HouayletanVerdict){0, 0, 0, 0};
+    Refused own = reading(q->words, q->words_len, q->room_len, NO_OUTPUT, 0);
+    if (!own.number) *array = reading_reduce(q->words, q->words_len, len);
+    return (HouayletanVerdict){own.number, own.place, 0, 0};
+}
+
+static void tally_pool(const PoolRequest *q, HouayletanVerdict said) {
+    pool_made++;
+    pool_refused[q->call][said.number]++;
+    if (q->call != READ && said.nodes > pool_nodes) pool_nodes = said.nodes;
+}
+
+/* An answer beside what the site holds; was is the pool before. */
+static void check_pool(Site *s, const Pool *was, const PoolRequest *q, const PoolReply *r) {
+    const uint32_t *array = NULL;
+    size_t len = 0;
+    HouayletanVerdict own = own_of(q, &array, &len), expected = pool_says(&s->held, q, own, array, len);
+    const char *fault = wrong_pool_call(&s->lent, was, q, r);
+    if (!expected.number && q->call != READ) s->in_order = true;
+    if (!fault && !same_verdict(r->verdict, expected)) fault = "another verdict";
+    if (!fault && s->in_order) fault = wrong_pool_answer(&s->lent, &s->held, q, r, expected);
+    if (!fault && q->call == READ && !expected.number && memcmp(r->output.words, s->held.array[q->slot], 4 * s->held.len[q->slot])) fault = "the array that was read";
+    if (fault) stop_pool(was, q, r, expected, fault);
+    tally_pool(q, expected);
+}
+
+static void call_site(Site *s, const PoolRequest *q) {
+    Pool was = copy_of_pool(&s->lent);
+    PoolReply r = call_pool(&s->lent, q);
+    check_pool(s, &was, q, &r);
+    give_reply_back(&r);
+    give_pool_back(&was);
+}
+
+/* The nodes at any places, and at times a few places more. */
+static void scatter(Site *s) {
+    static uint32_t table[3 * HOUAYLETAN_NODES], slots[HOUAYLETAN_SLOTS], place[HOUAYLETAN_NODES];
+    const uint32_t *from = s->lent.table.words;
+    size_t old = s->held.places, more = below(3), places = old + more < HOUAYLETAN_NODES ? old + more : HOUAYLETAN_NODES;
+    memset(table, 0, sizeof table);
+    for (size_t p = 0; p < places; p++) place[p] = (uint32_t)p;
+    for (size_t p = places; p-- > 3;) {
+        size_t q = 2 + below(p - 1);
+        uint32_t swap = place[p];
+        place[p] = place[q], place[q] = swap;
+    }
+    for (size_t p = 0; p < old; p++) {
+        if (is_free_place(from, p)) continue;
+        uint32_t *to = table + 3 * place[p];
+        to[0] = from[3 * p], to[1] = place[from[3 * p + 1]], to[2] = place[from[3 * p + 2]];
+    }
+    for (size_t k = 0; k < HOUAYLETAN_SLOTS; k++) slots[k] = s->lent.slots.words[k] ? place[s->lent.slots.words[k] - 1] + 1 : 0;
+    size_t guard = s->lent.table.guard;
+    give_pool_back(&s->lent);
+    s->lent = lend_pool(table, 3 * places, slots, HOUAYLETAN_SLOTS, guard);
+    s->held.places = places, s->in_order = false, pools_scattered++;
+}
+
+/* A word or two become others, or a length another: 46, whatever the call, or where it is a pool still 33. */
+static void spoil(const Site *s, const PoolRequest *like) {
+    static uint32_t table[3 * HOUAYLETAN_NODES + 8], slots[HOUAYLETAN_SLOTS + 2];
+    size_t table_len = s->lent.table.len, slots_len = HOUAYLETAN_SLOTS;
+    uint32_t places = (uint32_t)table_len / 3, v = s->held.vars;
+    memset(table, 0, sizeof table), memset(slots, 0, sizeof slots);
+    memcpy(table, s->lent.table.words, 4 * table_len), memcpy(slots, s->lent.slots.words, sizeof slots - 8);
+    const uint32_t others[] = {0, 1, 2, (uint32_t)below(places), (uint32_t)below(places), places, v, v + 1, v ? v - 1 : 0, VARS + 1, UINT32_MAX};
+    if (one_in(12)) table_len = one_in(2) ? below(table_len) : table_len + 1 + below(4);
+    if (one_in(24)) slots_len = one_in(2) ? below(slots_len) : slots_len + 1;
+    for (size_t times = 1 + below(2); times; times--) {
+        uint32_t *word = one_in(3) ? slots + below(HOUAYLETAN_SLOTS) : table + below(one_in(4) ? 6 : 3 * (size_t)places);
+        *word = others[below(sizeof others / 4)];
+    }
+    if (one_in(6)) table[0] = table[3] = others[6 + below(5)];
+    bool right = well_formed(table, table_len, slots, slots_len);
+    PoolRequest q = *like;
+    if (right) q.call = DROP, q.slot = HOUAYLETAN_SLOTS + below(2);
+    Pool p = lend_pool(table, table_len, slots, slots_len, s->lent.table.guard), was = copy_of_pool(&p);
+    PoolReply r = call_pool(&p, &q);
+    HouayletanVerdict expected = {right ? 33 : 46, 0, 0, 0};
+    const char *fault = wrong_pool_call(&p, &was, &q, &r);
+    if (!fault && !same_verdict(r.verdict, expected)) fault = "another verdict";
+    if (fault) stop_pool(&was, &q, &r, expected, fault);
+    if (right) pools_still++; else pools_spoilt++;
+    tally_pool(&q, expected);
+    give_reply_back(&r);
+    give_pool_back(&was);
+    give_pool_back(&p);
+}
+
+/* Words for a pool of so many places, mostly of its variable count. */
+static size_t any_addition(uint32_t vars, size_t places) {
+    size_t len = 3;
+    words[0] = vars + 1;
+    for (int tries = 0; tries < 8 && len >= 3 && words[0] > vars; tries++) len = places > 1000 && one_in(2) ? accepted(places / 8 + below(places - places / 8)) : any_words();
+    if (len >= 3 && words[0] <= vars && !one_in(16)) {
+        words[0] = vars;
+        if (len >= 6) words[3] = vars;
+    }
+    return len;
+}
+
+static PoolRequest any_call(const Site *s) {
+    static const size_t few[] = {0, 1, 2, 9, 40, 63};
+    size_t what = below(8), slot = one_in(3) ? below(HOUAYLETAN_SLOTS) : few[below(6)];
+    if (one_in(30)) slot = one_in(2) ? HOUAYLETAN_SLOTS + below(3) : (size_t)next() | (size_t)1 << 32;
+    bool live = slot < HOUAYLETAN_SLOTS && s->held.array[slot];
+    PoolCall call = what < 5 ? (live && !one_in(8) ? (one_in(2) ? DROP : READ) : ADD) : (live || one_in(8) ? (what == 5 ? DROP : READ) : ADD);
+    PoolRequest q = {call, slot, words, 0, 0, 0, (uint32_t)next()};
+    if (call == ADD) q.words_len = any_addition(s->held.vars, s->held.places), q.room_len = HOUAYLETAN_ROOM(q.words_len / 3);
+    if (call == READ) q.room_len = HOUAYLETAN_ROOM(s->held.places), q.output_len = live ? s->held.len[slot] : below(10);
+    if (call != DROP && one_in(6)) q.room_len = any_length(q.room_len);
+    if (call == READ && one_in(4)) q.output_len = any_length(q.output_len);
+    return q;
+}
+
+static void one_pool(size_t guard) {
+    size_t kind = below(100), places = kind < 50 ? 2 + below(14) : kind < 90 ? 10 + below(120) : kind < 98 ? 100 + below(900) : HOUAYLETAN_NODES - below(2);
+    uint32_t vars = (uint32_t)(one_in(3) ? VARS : below(one_in(2) ? 10 : VARS + 1));
+    Site s = {.lent = lend_empty_pool(places, vars, guard), .held = {.vars = vars, .places = places}, .in_order = true};
+    for (size_t calls = 10 + below(places < 1000 ? 60 : 10); calls; calls--) {
+        if (one_in(10)) scatter(&s);
+        PoolRequest q = any_call(&s);
+        if (one_in(5)) spoil(&s, &q); else call_site(&s, &q);
+    }
+    pools++;
+    let_all_go(&s.held);
+    give_pool_back(&s.lent);
+}
+
+static void tell_pools(void) {
+    printf("calls to pools: %lu, 0 failed, to %lu pools; nodes put elsewhere %lu times, words changed to no pool %lu times, to a pool still %lu times; %zu nodes at most", pool_made,
+           pools, pools_scattered, pools_spoilt, pools_still, pool_nodes);
+    for (int call = ADD; call <= READ; call++) {
+        printf("; %s answered %lu, refused", pool_calls[call], pool_refused[call][0]);
+        for (int i = 1; i < 64; i++) {
+            if (pool_refused[call][i]) printf(" %d: %lu", i, pool_refused[call][i]);
+        }
+    }
+    printf("\n");
+}
+
 /* ---- the longest paths */
 
 /* A level for each variable, columns and a tree above them: as many nodes as are taken. Each column goes to itself and to the next one. Order 0:
@@ -580,6 +754,15 @@ static void *comparison_on_own_stack(void *unused) {
     return unused;
 }
 
+static Site deep_site;
+static PoolRequest deep_call;
+static PoolReply deep_answer;
+
+static void *pool_on_own_stack(void *unused) {
+    deep_answer = call_pool(&deep_site.lent, &deep_call);
+    return unused;
+}
+
 static size_t stack_used(void (*start)(void)) {
     memset(stack, 0xC3, STACK);
     start();
@@ -598,6 +781,35 @@ static void start_thread(void) {
         printf("FAILED: no thread\n");
         exit(2);
     }
+}
+
+/* The most places and levels: the ladder is added where there is nothing; true after it and before it; it is read; true is dropped beside it; and it
+ * is added to another slot, which is refused for room where it is another ladder. */
+static void deep_pools(size_t idle) {
+    static const struct {
+        const char *what;
+        PoolCall call;
+        size_t slot;
+        int ladder; /* -1: true */
+    } steps[] = {
+        {"pool_add, to an empty pool", ADD, 40, 0}, {"pool_add, of true behind it", ADD, 50, -1}, {"pool_add, of true before it", ADD, 3, -1},
+        {"pool_add, of the same", ADD, 41, 0},      {"pool_add, for which there is no room", ADD, 42, 2}, {"pool_read", READ, 40, 0},
+        {"pool_drop, of true", DROP, 50, 0},        {"pool_drop, of one of two", DROP, 40, 0}, {"pool_drop, of the last", DROP, 41, 0},
+    };
+    deep_site = (Site){.lent = lend_empty_pool(HOUAYLETAN_NODES, VARS, 16), .held = {.vars = VARS, .places = HOUAYLETAN_NODES}, .in_order = true};
+    thread_body = pool_on_own_stack;
+    for (size_t i = 0; i < sizeof steps / sizeof *steps; i++) {
+        size_t len = ladder(0, steps[i].ladder < 0 ? 0 : (uint32_t)steps[i].ladder / 2);
+        deep_call = (PoolRequest){steps[i].call, steps[i].slot, words, steps[i].call != ADD ? 0 : steps[i].ladder < 0 ? 6 : len, HOUAYLETAN_ROOM(HOUAYLETAN_NODES), 3 * HOUAYLETAN_NODES, 77};
+        Pool was = copy_of_pool(&deep_site.lent);
+        size_t used = stack_used(start_thread);
+        check_pool(&deep_site, &was, &deep_call, &deep_answer);
+        printf("  %-40s %zu (number %u, %zu nodes)\n", steps[i].what, used > idle ? used - idle : 0, deep_answer.verdict.number, deep_answer.verdict.nodes);
+        give_reply_back(&deep_answer);
+        give_pool_back(&was);
+    }
+    let_all_go(&deep_site.held);
+    give_pool_back(&deep_site.lent);
 }
 
 static int deep(void) {
@@ -649,7 +861,9 @@ static int deep(void) {
         give_pair_back(&deep_pair);
         printf("  %-32s %zu (%zu pairs)\n", "compare", used > idle ? used - idle : 0, pairs);
     }
-    printf("stress deep: %lu calls, %lu of them to a target that is met, 0 failed; node files: %lu, 0 failed; comparisons: %lu, 0 failed\n", made, reduced, files, comparisons);
+    deep_pools(idle);
+    printf("stress deep: %lu calls, %lu of them to a target that is met, 0 failed; node files: %lu, 0 failed; comparisons: %lu, 0 failed; calls to pools: %lu, 0 failed\n", made, reduced,
+           files, comparisons, pool_made);
     return 0;
 }
 
@@ -665,6 +879,7 @@ int main(int argc, char **argv) {
     while (made < requests) one_request(guard);
     while (files < requests / 4) one_file(guard);
     while (comparisons < requests / 4) one_comparison(guard);
+    while (pool_made < requests / 4) one_pool(guard);
     printf("targets that the array meets: %lu with as_is; %lu without, %lu of these to other words\n", kept, reduced, reworded);
     printf("answered with more than %d variables: %lu; of 2^%d or more: %lu counts, %lu targets\n", FIRST_VARS, many_vars, 32 * FIRST_WORDS,
            wide_counts, wide_targets);
@@ -675,5 +890,6 @@ int main(int argc, char **argv) {
     printf("\n");
     tell_files();
     tell_comparisons();
+    tell_pools();
     return 0;
 }

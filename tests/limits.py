@@ -10,4 +10,5 @@ BLOCK_NODES = 50        # nodes of a whole block
 FILE_NODES = 120        # the most nodes of a block file
 NODE_BYTES = 10         # bytes of a node in a node file
 PAIR = 64               # words of a table for each pair of nodes
+SLOTS = 64              # conditions that a pool has places for
 LENT_PAIRS = 16384      # pairs for which the program differ lends a table

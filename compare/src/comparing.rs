@@ -5,7 +5,7 @@ use crate::generate;
 use crate::limits::{COUNT_WORDS, MOST_NODES, PAIR_WORDS, ROOM_PER_NODE};
 use crate::random::Random;
 use crate::reading::{self, Output, Refused};
-use crate::request::Lent;
+use crate::request::{zero_and_kept, Lent};
 use houayletan::{lent, Count, RefusedComparison, Refusal};
 use num_bigint::BigUint;
 use rust_text::Bdd;
@@ -186,10 +186,6 @@ fn left(request: &Request, answer: &Answer) -> (usize, usize) {
     }
 }
 
-fn zero_and_kept(lent: &mut Lent, zero: usize) -> bool {
-    lent.words().get(..zero).is_some_and(|words| words.iter().all(|w| *w == 0)) && lent.kept_from(zero)
-}
-
 /// The library's answer, or what it did wrong to what it was lent.
 fn ask(request: &Request) -> Result<Answer, &'static str> {
     let mut first = Lent::of(&request.first, request.seed.wrapping_add(1));
@@ -243,7 +239,7 @@ fn most_nodes(random: &mut Random) -> usize {
     }
 }
 
-fn set_vars(words: &mut [u32], vars: u32) {
+pub fn set_vars(words: &mut [u32], vars: u32) {
     words[0] = vars;
     if words.len() > 3 {
         words[3] = vars;
@@ -251,7 +247,7 @@ fn set_vars(words: &mut [u32], vars: u32) {
 }
 
 /// Another diagram, of the same variable count, or the same one in another form, cut, negated or with a link changed.
-fn beside(random: &mut Random, first: &mut Vec<u32>, most: usize) -> Vec<u32> {
+pub fn beside(random: &mut Random, first: &mut Vec<u32>, most: usize) -> Vec<u32> {
     let n = first.len() / 3;
     let some_node = |random: &mut Random| vec![random.from_to(2, n - 1) as u32];
     match random.below(10) {
@@ -292,7 +288,7 @@ fn any_diagrams(random: &mut Random, most: usize) -> (Vec<u32>, Vec<u32>) {
 }
 
 /// Exact mostly, one word more or less, more, less, or nothing.
-fn any_length(random: &mut Random, exact: usize) -> usize {
+pub fn any_length(random: &mut Random, exact: usize) -> usize {
     match random.below(16) {
         0 | 1 => exact.saturating_sub(1),
         2 => exact + 1,

@@ -5,6 +5,7 @@
 mod comparing;
 mod files;
 mod generate;
+mod pooling;
 mod random;
 mod reading;
 mod reference;
@@ -26,6 +27,10 @@ const STORED_FILES: u64 = 400;
 
 /// Comparisons among them, after these.
 const STORED_COMPARISONS: u64 = 400;
+
+/// Calls to pools among them, after these; and of the requests asked for, one such call more for so many.
+const STORED_CALLS: u64 = 600;
+const CALLS_ONE_IN: u64 = 2;
 
 /// The most nodes of a request's diagram: many small ones, some of every size.
 fn most_nodes(random: &mut Random) -> usize {
@@ -187,7 +192,8 @@ fn main() {
     if store {
         self::store(random, requests);
         files::store(seed, STORED_FILES);
-        return comparing::store(seed, STORED_COMPARISONS);
+        comparing::store(seed, STORED_COMPARISONS);
+        return pooling::store(seed, STORED_CALLS);
     }
 
     let mut tally = vec![[0u64; 2]; OPERATIONS.len()];
@@ -259,6 +265,7 @@ fn main() {
     }
     files::compare(seed, requests / FILES_ONE_IN);
     comparing::compare(seed, requests);
+    pooling::compare(seed, requests / CALLS_ONE_IN);
 }
 
 /// Small diagrams, and a few large ones. The searches come up three times as often as the others, with more nodes.

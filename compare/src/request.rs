@@ -202,6 +202,11 @@ impl Lent {
     }
 }
 
+/// Whether so many words at the front are zero, and the rest is as it was.
+pub fn zero_and_kept(lent: &mut Lent, zero: usize) -> bool {
+    lent.words().get(..zero).is_some_and(|words| words.iter().all(|w| *w == 0)) && lent.kept_from(zero)
+}
+
 /// The library's answer to a request, or what it did wrong to what it was lent.
 pub fn ask(request: &Request) -> Result<Reply, &'static str> {
     let mut words = Lent::of(&request.words, request.seed.wrapping_add(1));
@@ -217,7 +222,7 @@ pub fn ask(request: &Request) -> Result<Reply, &'static str> {
     }
     let refused = verdict.number != 0;
     let zero = if (1..=5).contains(&verdict.number) { 0 } else { ROOM_PER_NODE * (request.words.len() / 3).max(2) };
-    if zero > request.room || !room.words()[..zero].iter().all(|w| *w == 0) || !room.kept_from(zero) {
+    if !zero_and_kept(&mut room, zero) {
         return Err("the room afterwards");
     }
     let written = if refused { 0 } else { written };

@@ -54,6 +54,16 @@ static inline bool kept_from(const Lent *l, size_t from) {
     return true;
 }
 
+static inline bool zero_until(const Lent *l, size_t to) {
+    for (size_t i = 0; i < to; i++) {
+        if (l->words[i]) return false;
+    }
+    return true;
+}
+
+/* How many words of the room a check leaves zero, of a diagram of so many words: none where it is refused 5 or before. */
+static inline size_t zeroed(uint32_t number, size_t len) { return number >= 1 && number <= 5 ? 0 : HOUAYLETAN_ROOM(len / 3); }
+
 typedef struct {
     Lent words, list, room, output;
 } Loan;
@@ -83,11 +93,9 @@ static inline const char *wrong(const Loan *l, const Reply *r, const uint32_t *w
     if (l->words.len && memcmp(l->words.words, words, 4 * l->words.len)) return "the input has changed";
     if (l->list.len && memcmp(l->list.words, list, 4 * l->list.len)) return "the list has changed";
     uint32_t number = r->verdict.number;
-    size_t zero = number >= 1 && number <= 5 ? 0 : HOUAYLETAN_ROOM(l->words.len / 3);
+    size_t zero = zeroed(number, l->words.len);
     if (zero > l->room.len) return "the room was too short for this answer";
-    for (size_t i = 0; i < zero; i++) {
-        if (l->room.words[i]) return "the room is not zero";
-    }
+    if (!zero_until(&l->room, zero)) return "the room is not zero";
     if (!kept_from(&l->room, zero)) return "the rest of the room has changed";
     if (r->written > l->output.len) return "the result is longer than the output";
     if (!kept_from(&l->output, number ? 0 : r->written)) return "the output beyond the result has changed";

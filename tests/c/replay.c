@@ -20,9 +20,16 @@
  * Of two diagrams:
  *
  *   compare, number of words and the words of the first, and the same of the second, length of the room, length of the table, seed, '=',
- *   number, place, pairs, vars, which, differ, and the words of four counts: first only, second only, both, the smallest. */
+ *   number, place, pairs, vars, which, differ, and the words of four counts: first only, second only, both, the smallest.
+ *
+ * Of a pool:
+ *
+ *   pool_add, pool_drop or pool_read, number of words and the words of the table, of the slots, the slot, the same of the diagram, length of
+ *   the room, length of the output, seed, '=', number, place, nodes, vars, and of table and slots afterwards and of what was written to the
+ *   output each its number of words, and these words, or '#' and their sum. */
 #include "comparing.h"
 #include "files.h"
+#include "pooling.h"
 #include <inttypes.h>
 
 static FILE *in;
@@ -86,7 +93,6 @@ static size_t expected_words(uint64_t *sum) {
         for (size_t i = 0; i < len; i++) output[i] = (uint32_t)number();
         *sum = sum_of(output, len);
     }
-    mark('\n');
     return len;
 }
 
@@ -103,6 +109,7 @@ static const char *replay_file(bool writes) {
     expected.nodes = number();
     uint64_t sum;
     size_t written = expected_words(&sum);
+    mark('\n');
     FileLoan l = writes ? loan_to_write(words, len, lent, seed, 16) : loan_to_read(bytes, len, lent, seed, 16);
     HouayletanStored r = call_file(&l);
     const char *fault = wrong_file(&l, &r, writes ? (const void *)words : bytes);
@@ -145,6 +152,53 @@ static const char *replay_comparison(void) {
     return fault;
 }
 
+/* Whether words are those that a line ends with. */
+static bool are_expected(const uint32_t *w, size_t len, size_t expected_len, uint64_t sum) { return len == expected_len && sum_of(w, len) == sum; }
+
+/* NULL, or what is wrong with the answer to a line that calls a pool. */
+static const char *replay_pool(PoolCall call) {
+    static uint32_t table[3 * MOST], slots[2 * HOUAYLETAN_SLOTS];
+    size_t table_len = numbers(table, sizeof table / 4), slots_len = numbers(slots, sizeof slots / 4), slot = number();
+    size_t words_len = numbers(words, sizeof words / 4), room_len = number(), output_len = number();
+    const PoolRequest q = {call, slot, words, words_len, room_len, output_len, (uint32_t)number()};
+    mark('=');
+    HouayletanVerdict expected;
+    expected.number = (uint32_t)number();
+    expected.place = number();
+    expected.nodes = number();
+    expected.vars = (uint32_t)number();
+    uint64_t table_sum, slots_sum, output_sum;
+    size_t new_table = expected_words(&table_sum), new_slots = expected_words(&slots_sum), written = expected_words(&output_sum);
+    mark('\n');
+    Pool p = lend_pool(table, table_len, slots, slots_len, 16), was = lend_pool(table, table_len, slots, slots_len, 0);
+    PoolReply r = call_pool(&p, &q);
+    const char *fault = wrong_pool_call(&p, &was, &q, &r);
+    if (!fault && !same_verdict(r.verdict, expected)) fault = "verdict";
+    if (!fault && !are_expected(p.table.words, p.table.len, new_table, table_sum)) fault = "the table";
+    if (!fault && !are_expected(p.slots.words, p.slots.len, new_slots, slots_sum)) fault = "the slots";
+    if (!fault && !are_expected(r.output.words, call == READ ? 3 * r.verdict.nodes : 0, written, output_sum)) fault = "the words read";
+    give_reply_back(&r);
+    give_pool_back(&was);
+    give_pool_back(&p);
+    return fault;
+}
+
+/* NULL, or what is wrong with the answer to a line that is no request of operations.h. */
+static const char *replay_other(const char *name) {
+    for (int call = ADD; call <= READ; call++) {
+        if (strcmp(name, pool_calls[call]) == 0) return replay_pool((PoolCall)call);
+    }
+    return strcmp(name, "compare") == 0 ? replay_comparison() : replay_file(strcmp(name, "write_as_bytes") == 0);
+}
+
+static bool is_other(const char *name) {
+    static const char *const others[] = {"compare", "read_as_bytes", "write_as_bytes", "pool_add", "pool_drop", "pool_read"};
+    for (size_t i = 0; i < sizeof others / sizeof others[0]; i++) {
+        if (strcmp(name, others[i]) == 0) return true;
+    }
+    return false;
+}
+
 int main(int argc, char **argv) {
     if (argc != 2 || !(in = fopen(argv[1], "r"))) {
         fprintf(stderr, "usage: replay FILE\n");
@@ -153,9 +207,8 @@ int main(int argc, char **argv) {
     unsigned long passed = 0, failed = 0;
     char name[64];
     while (fscanf(in, "%63[a-z_]", name) == 1) {
-        bool writes = strcmp(name, "write_as_bytes") == 0, compares = strcmp(name, "compare") == 0;
-        if (writes || compares || strcmp(name, "read_as_bytes") == 0) {
-            const char *fault = compares ? replay_comparison() : replay_file(writes);
+        if (is_other(name)) {
+            const char *fault = replay_other(name);
             if (fault) printf("FAILED: line %lu, %s: %s\n", line, name, fault);
             fault ? failed++ : passed++;
             line++;
@@ -185,6 +238,7 @@ int main(int argc, char **argv) {
         for (size_t i = 0; i < expected.values; i++) expected.value[i] = number();
         uint64_t sum;
         expected.written = expected_words(&sum);
+        mark('\n');
 
         Loan l = loan(words, words_len, list, list_len, room_len, output_len, seed, 16);
         Request q = request_of(&l, target, as_is);

@@ -32,6 +32,11 @@ pub const fn table_for(pairs: usize) -> usize {
     PAIR_WORDS * pairs
 }
 
+/// Words of a pool's table of that many places.
+pub const fn pool_for(places: usize) -> usize {
+    3 * places
+}
+
 /// Bytes of a node file of that many nodes.
 pub const fn bytes_for(nodes: usize) -> usize {
     BYTES_PER_NODE * nodes
@@ -224,6 +229,54 @@ pub fn compare(first: &[u32], second: &[u32], room: &mut [u32], table: &mut [u32
     }
     let (one, other) = ((first.as_ptr(), first.len()), (second.as_ptr(), second.len()));
     unsafe { symbol(one.0, one.1, other.0, other.1, room.as_mut_ptr(), room.len(), table.as_mut_ptr(), table.len()) }
+}
+
+/// Writes the empty pool of that many variables: the two terminals and zeros. Where the table has fewer than two places, [`pool_for`] a
+/// number over [`crate::MOST_NODES`], the slots are not [`crate::limits::SLOTS`] or the variables too many, each call says 46 of it.
+pub fn pool_empty(table: &mut [u32], slots: &mut [u32], vars: u32) {
+    table.fill(0);
+    slots.fill(0);
+    if let Some(terminals) = table.get_mut(..pool_for(2)) {
+        terminals.copy_from_slice(&[vars, 0, 0, vars, 1, 1]);
+    }
+}
+
+/// [`crate::Pool::add`], over what is lent: table ([`pool_for`]) and slots, and a room for the diagram ([`room_for`]). The verdict's nodes are
+/// those in use afterwards. Before all others it is refused 46 where table and slots are no pool.
+pub fn pool_add(table: &mut [u32], slots: &mut [u32], words: &[u32], slot: usize, room: &mut [u32]) -> Verdict {
+    extern "C" {
+        #[link_name = linked!(pool_add)]
+        fn symbol(
+            table: *mut u32, table_len: usize, slots: *mut u32, slots_len: usize, words: *const u32, words_len: usize,
+            slot: usize, room: *mut u32, room_len: usize,
+        ) -> Verdict;
+    }
+    let (of_slots, of_words) = ((slots.as_mut_ptr(), slots.len()), (words.as_ptr(), words.len()));
+    unsafe { symbol(table.as_mut_ptr(), table.len(), of_slots.0, of_slots.1, of_words.0, of_words.1, slot, room.as_mut_ptr(), room.len()) }
+}
+
+/// [`crate::Pool::drop`], over what is lent. The verdict's nodes are those in use afterwards. Before all others it is refused 46.
+pub fn pool_drop(table: &mut [u32], slots: &mut [u32], slot: usize) -> Verdict {
+    extern "C" {
+        #[link_name = linked!(pool_drop)]
+        fn symbol(table: *mut u32, table_len: usize, slots: *mut u32, slots_len: usize, slot: usize) -> Verdict;
+    }
+    unsafe { symbol(table.as_mut_ptr(), table.len(), slots.as_mut_ptr(), slots.len(), slot) }
+}
+
+/// [`crate::Pool::read`], over what is lent: a room for as many nodes as the table has places ([`room_for`]), and an output that is as long as
+/// the answer. The verdict's nodes are the answer's. It is refused 46, 33, 34, then 5 and then 4.
+pub fn pool_read(table: &[u32], slots: &[u32], slot: usize, room: &mut [u32], output: &mut [u32]) -> Verdict {
+    extern "C" {
+        #[link_name = linked!(pool_read)]
+        fn symbol(
+            table: *const u32, table_len: usize, slots: *const u32, slots_len: usize, slot: usize,
+            room: *mut u32, room_len: usize, output: *mut u32, output_len: usize,
+        ) -> Verdict;
+    }
+    let (of_table, of_slots) = ((table.as_ptr(), table.len()), (slots.as_ptr(), slots.len()));
+    let (out, out_len) = (output.as_mut_ptr(), output.len());
+    unsafe { symbol(of_table.0, of_table.1, of_slots.0, of_slots.1, slot, room.as_mut_ptr(), room.len(), out, out_len) }
 }
 
 /// [`crate::read_as_bytes`], over what is lent: the words are the first of the output, 3 for each node. Besides 51, 53 and 52 it is

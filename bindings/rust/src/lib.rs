@@ -25,6 +25,7 @@
 
 mod comparison;
 mod count;
+mod pool;
 mod refusal;
 
 #[allow(missing_docs)]
@@ -35,6 +36,7 @@ pub mod swapping;
 pub use comparison::{compare, Comparison, RefusedComparison, Valuation};
 pub use count::Count;
 pub use limits::{MOST_NODES, MOST_VARS};
+pub use pool::Pool;
 pub use refusal::Refusal;
 
 use limits::{BYTES_PER_NODE, COUNT_WORDS};
@@ -457,7 +459,7 @@ mod tests {
             let sentence = Refusal { number, place: 0 }.sentence();
             assert_eq!(sentence.replace(',', ""), format!("there are more than {MOST_NODES} nodes"));
         }
-        for number in (1..=19).filter(|n| *n != 15).chain(31..=32).chain(51..=55) {
+        for number in (1..=19).filter(|n| *n != 15).chain(31..=36).chain([46]).chain(51..=55) {
             let refusal = Refusal { number, place: 7 };
             assert!(!refusal.sentence().contains("no table"), "{number}");
             assert!(refusal.to_string().starts_with(&format!("refused {number} at 7: ")));

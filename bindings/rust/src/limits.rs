@@ -1,5 +1,5 @@
 //! The numbers of Houayletan, each once. The library's own are crates/diagram/src/limits.rt, naturals::WORDS,
-//! crates/pairs/src/table.rt and crates/blocks/src/layout.rt; tests/papers.py holds these to them.
+//! crates/pairs/src/table.rt, crates/pool/src/lib.rt and crates/blocks/src/layout.rt; tests/papers.py holds these to them.
 
 /// The most nodes of a diagram that is accepted.
 pub const MOST_NODES: usize = 4096;
@@ -15,6 +15,9 @@ pub const COUNT_WORDS: usize = 16;
 
 /// The words of a pair of nodes in the table of a comparison.
 pub const PAIR_WORDS: usize = 64;
+
+/// The conditions that a pool has slots for.
+pub const SLOTS: usize = 64;
 
 /// The bytes of a node in a node file.
 pub const BYTES_PER_NODE: usize = 10;

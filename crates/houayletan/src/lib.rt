@@ -4,6 +4,7 @@
 pub mod asking;
 pub mod comparing;
 pub mod cutting;
+pub mod pooling;
 pub mod storing;
 
 use cardinality::CountedFloat;
