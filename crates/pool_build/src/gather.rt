@@ -9,6 +9,7 @@ use diagram::node::word;
 use diagram::room::clear;
 use diagram::room::put;
 use pool::SLOTS;
+use pool::TERMINAL_WORDS;
 use reduction::answer::copy;
 use store::shelf::END;
 use store::walk::build;
@@ -24,9 +25,6 @@ pub(crate) const TABLE_MEMO: usize = END * MAX_NODES;
 pub(crate) const DIAGRAM_MEMO: usize = TABLE_MEMO + MAX_NODES;
 
 pub(crate) const WORK: usize = DIAGRAM_MEMO + MAX_NODES;
-
-// The words of the two terminals.
-const TERMINAL_WORDS: usize = 6;
 
 // How many words of the table are walked: all, or the terminals' where there are no variables. No node but these is over no variables, and
 // free places would stand at a variable that isn't there.
