@@ -1,5 +1,5 @@
-// Runs every function of `in_place` over fixed cases and writes one line for each, in hex. The expected output was computed apart from
-// this code by tests/in_place_cases.py, with whole numbers of any size.
+// Runs every function of `in_place` and `in_place_more` over fixed cases and writes one line for each, in hex. The expected output was
+// computed apart from this code by tests/in_place_cases.py, with whole numbers of any size.
 use in_place::sum::Shifted;
 use in_place::sum::add_shifted;
 use in_place::sum::words_for;

@@ -17,8 +17,7 @@ use Rattle.diagram.proofs.Tally.{tally-zero, tally-suc, tally-same, tally-most}
 use Rattle.pairs.specs.Pairs.{Pair, pair, levelOf, next, ended, roots}
 use Rattle.pairs.specs.Table.{Alike}
 use Rattle.pairs.proofs.Levels.{Inside, ended-told, roots-in, level-most, level-below, level-end, next-in, next-above}
-use Rattle.comparison.specs.Comparison.{differ, inBoth, anyDiffer}
-use Rattle.comparison.specs.Work.{unlike, beside, worthFrom, worth, unlikeAt}
+use Rattle.worths.specs.Worth.{unlike, beside, worthFrom, worth, unlikeAt}
 
 -- where a pair stands behind a variable
 abbrev pub passed : List ℕ → List ℕ → ℕ → Pair → Bool → Pair
@@ -137,9 +136,6 @@ unlike-end (suc zero) (suc (suc q)) t u = absurd (omega arith)
 unlike-end (suc (suc p)) q t u = absurd (omega arith)
 
 module _ {a b : List ℕ} (k : Alike a b) where
-  pub both-roots : inBoth a b ≡ worth _&&_ a b (roots a b) * 2 ^ levelOf a b (roots a b)
-  both-roots = worth-roots _&&_ k (λ bs. holds a bs && holds b bs) (λ bs. refl)
-
   pub unlike-ended : (x : Pair) → Inside a b x → ended x ≡ true → unlikeAt a b x ≡ not (eqb (x .first) (x .second))
   unlike-ended x h e = ap (ltb 0) (worth-end unlike k x h e) ∙ unlike-end (x .first) (x .second) (ended-told x e .0) (ended-told x e .1)
 
@@ -151,11 +147,3 @@ module _ {a b : List ℕ} (k : Alike a b) where
         scaled-sign (worth unlike a b (next a b x false)) (levelOf a b (next a b x false) - levelOf a b x - 1),
         scaled-sign (worth unlike a b (next a b x true)) (levelOf a b (next a b x true) - levelOf a b x - 1),
       ) refl
-
-  pub all-unlike : tally (vars a) (differ a b) ≡ worthFrom unlike a b 0 (roots a b)
-  all-unlike = worth-all unlike k (differ a b) (λ bs. unlike-is (holds a bs) (holds b bs))
-
-  pub unlike-roots : anyDiffer a b ≡ unlikeAt a b (roots a b)
-  unlike-roots =
-      ap (ltb 0) (worth-roots unlike k (differ a b) (λ bs. unlike-is (holds a bs) (holds b bs)))
-      ∙ scaled-sign (worth unlike a b (roots a b)) (levelOf a b (roots a b))

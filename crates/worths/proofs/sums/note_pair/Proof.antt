@@ -1,7 +1,7 @@
-use Rattle.comparison.proofs.Places.{pair-ends, pair-goes}
+use Rattle.worths.proofs.Places.{pair-ends, pair-goes}
 use borrow.Author.Needs.{needs}
-use Rattle.comparison.proofs.sums.note_pair.Statement.{statement}
-use Rattle.comparison.proofs.sums.note_pair.Tie as tie
+use Rattle.worths.proofs.sums.note_pair.Statement.{statement}
+use Rattle.worths.proofs.sums.note_pair.Tie as tie
 
 first-at-requires : tie.Need-first-at-requires
 first-at-requires c κs = search needs

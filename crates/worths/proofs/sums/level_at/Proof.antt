@@ -1,7 +1,7 @@
-use Rattle.comparison.proofs.Places.{level-is}
+use Rattle.worths.proofs.Places.{level-is}
 use borrow.Author.Needs.{needs}
-use Rattle.comparison.proofs.sums.level_at.Statement.{statement}
-use Rattle.comparison.proofs.sums.level_at.Tie as tie
+use Rattle.worths.proofs.sums.level_at.Statement.{statement}
+use Rattle.worths.proofs.sums.level_at.Tie as tie
 
 first-at-requires : tie.Need-first-at-requires
 first-at-requires c κs = search needs

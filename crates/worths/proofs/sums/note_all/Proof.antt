@@ -1,13 +1,13 @@
-use Rattle.comparison.proofs.Places.{worths-none, worths-next, worths-to}
-use Rattle.comparison.specs.Work.{Worths}
+use Rattle.worths.proofs.Places.{worths-none, worths-next, worths-to}
+use Rattle.worths.specs.Worth.{Worths}
 use native.Mathlib.Numerals.{add-one}
 use Prim.Native.Nat.{_-_, _≤_}
 use mathlib.Core.Path.{_≡_, refl, sym, _∙_}
 use lib.ListN.{length}
 use borrow.Author.Needs.{needs}
 use native.Mathlib.Omega.{arith}
-use Rattle.comparison.proofs.sums.note_all.Statement.{statement}
-use Rattle.comparison.proofs.sums.note_all.Tie as tie
+use Rattle.worths.proofs.sums.note_all.Statement.{statement}
+use Rattle.worths.proofs.sums.note_all.Tie as tie
 
 abbrev Inv-loop : tie.InvT-loop
 Inv-loop first second table₀ capacity count vars place₀ table place = Worths first second capacity table place × (place ≤ count) × (length table ≡ length table₀)

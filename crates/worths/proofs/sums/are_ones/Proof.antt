@@ -2,8 +2,8 @@ use lib.Dec.{eqb}
 use borrow.Author.Tests.{eq-eqb, ne-eqb}
 use mathlib.Core.Bool.{Bool, _&&_}
 use mathlib.Core.Path.{sym, ap}
-use Rattle.comparison.proofs.sums.are_ones.Statement.{statement}
-use Rattle.comparison.proofs.sums.are_ones.Tie as tie
+use Rattle.worths.proofs.sums.are_ones.Statement.{statement}
+use Rattle.worths.proofs.sums.are_ones.Tie as tie
 
 returns : tie.Need-returns
 returns c = ap (λ (b : Bool). b && eqb (c .before .before .before .args .q .0) 1) (sym (eq-eqb (c .before .before .before .args .p .0) 1 (c .before .if1 .taken)))

@@ -1,8 +1,8 @@
 use mathlib.Core.Path.{refl}
-use Rattle.comparison.proofs.Places.{end-done}
+use Rattle.worths.proofs.Places.{end-done}
 use borrow.Author.Needs.{needs}
-use Rattle.comparison.proofs.sums.note_end.Statement.{statement}
-use Rattle.comparison.proofs.sums.note_end.Tie as tie
+use Rattle.worths.proofs.sums.note_end.Statement.{statement}
+use Rattle.worths.proofs.sums.note_end.Tie as tie
 
 are-ones-requires : tie.Need-are-ones-requires
 are-ones-requires c κs = search needs

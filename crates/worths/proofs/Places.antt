@@ -18,8 +18,8 @@ use Rattle.counts.proofs.Entries.{noted}
 use Rattle.pairs.specs.Pairs.{maxPairs, Pair, pair, levelOf, next, ended, allOf, pairsOf}
 use Rattle.pairs.specs.Table.{keyIn, lowIn, highIn, countsFrom, flagsFrom, Settled, Standing}
 use Rattle.pairs.proofs.Levels.{Inside}
-use Rattle.comparison.specs.Work.{worth, unlikeAt, flagIn, Listed, pairAt, Placed, Worths, Noting, Ending, Stepping, Counted}
-use Rattle.comparison.proofs.Beside.{worth-end, unlike-ended, unlike-node}
+use Rattle.worths.specs.Worth.{worth, unlikeAt, flagIn, Listed, pairAt, Placed, Worths, Noting, Ending, Stepping, Counted}
+use Rattle.worths.proofs.Beside.{worth-end, unlike-ended, unlike-node}
 
 -- ---- the pair at a place
 

@@ -1,7 +1,7 @@
 use mathlib.Core.Path.{refl, _∙_}
 use borrow.Author.Needs.{needs}
-use Rattle.comparison.proofs.flags.note_flag.Statement.{statement}
-use Rattle.comparison.proofs.flags.note_flag.Tie as tie
+use Rattle.worths.proofs.flags.note_flag.Statement.{statement}
+use Rattle.worths.proofs.flags.note_flag.Tie as tie
 
 mul-put : tie.Need-mul-put
 mul-put c = search needs

@@ -1,10 +1,10 @@
-use Rattle.comparison.proofs.Adding.{part-at, noting-placed, child-placed, child-above, here-fits, sum-asks, sum-done}
-use Rattle.comparison.proofs.Places.{place-small}
+use Rattle.worths.proofs.Adding.{part-at, noting-placed, child-placed, child-above, here-fits, sum-asks, sum-done}
+use Rattle.worths.proofs.Places.{place-small}
 use mathlib.Core.Bool.{true, false}
 use native.Mathlib.Omega.{arith}
 use borrow.Author.Needs.{needs}
-use Rattle.comparison.proofs.sums.note_sum.Statement.{statement}
-use Rattle.comparison.proofs.sums.note_sum.Tie as tie
+use Rattle.worths.proofs.sums.note_sum.Statement.{statement}
+use Rattle.worths.proofs.sums.note_sum.Tie as tie
 
 level-at-requires : tie.Need-level-at-requires
 level-at-requires c κs = search needs

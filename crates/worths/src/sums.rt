@@ -24,10 +24,10 @@ ghost use Rattle.naturals.specs.Natural.{wordCount};
 ghost use Rattle.diagram.specs.Diagram.{vars as varsOf};
 ghost use Rattle.pairs.specs.Pairs.{maxPairs, levelOf, pairsOf};
 ghost use Rattle.pairs.specs.Table.{countsFrom};
-ghost use Rattle.comparison.specs.Work.{pairAt, Listed, Placed, Worths, Noting, Ending, Stepping, Counted};
+ghost use Rattle.worths.specs.Worth.{pairAt, Listed, Placed, Worths, Noting, Ending, Stepping, Counted};
 
 // The variable at which the pair at a place steps.
-pub(crate) fn level_at(
+pub fn level_at(
     first: &[u32],
     second: &[u32],
     table: &[u32],
@@ -43,7 +43,7 @@ pub(crate) fn level_at(
 }
 
 // Where the count of a place stands.
-pub(crate) fn count_from(capacity: usize, place: usize) -> usize
+pub fn count_from(capacity: usize, place: usize) -> usize
     requires { ⌜ (capacity ≤ maxPairs) × (place < maxPairs) ⌝ }
     ensures { λ r. ⌜ r ≡ countsFrom capacity + wordCount * place ⌝ }
 {
@@ -178,7 +178,7 @@ fn note_pair(
 }
 
 // All pairs.
-pub(crate) fn note_all(
+pub fn note_all(
     first: &[u32],
     second: &[u32],
     table: &mut [u32],

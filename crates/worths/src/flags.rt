@@ -9,10 +9,10 @@ ghost use lib.ListN.{set};
 ghost use lib.Dec.{eqb};
 ghost use Rattle.pairs.specs.Pairs.{maxPairs};
 ghost use Rattle.pairs.specs.Table.{flagsFrom};
-ghost use Rattle.comparison.specs.Work.{flagIn};
+ghost use Rattle.worths.specs.Worth.{flagIn};
 
 // Whether the pair at a place differs.
-pub(crate) fn differs_at(table: &[u32], capacity: usize, place: usize) -> bool
+pub fn differs_at(table: &[u32], capacity: usize, place: usize) -> bool
     requires { ⌜ (capacity ≤ maxPairs) × (place < maxPairs) ⌝ }
     ensures { λ r. ⌜ r ≡ not (eqb (flagIn capacity (now (table .entry)) place) 0) ⌝ }
 {

@@ -19,9 +19,9 @@ use Rattle.counts.proofs.Shares.{noted-sum}
 use Rattle.pairs.specs.Pairs.{Pair, levelOf, next, allOf}
 use Rattle.pairs.specs.Table.{lowIn, highIn, countsFrom, Alike, Settled}
 use Rattle.pairs.proofs.Levels.{Inside, level-most, next-above}
-use Rattle.comparison.specs.Work.{worth, pairAt, Placed, Noting, Stepping, Counted}
-use Rattle.comparison.proofs.Beside.{part, worth-node, worth-most}
-use Rattle.comparison.proofs.Places.{place-inside, count-noted}
+use Rattle.worths.specs.Worth.{worth, pairAt, Placed, Noting, Stepping, Counted}
+use Rattle.worths.proofs.Beside.{part, worth-node, worth-most}
+use Rattle.worths.proofs.Places.{place-inside, count-noted}
 
 -- where a pair's child stands, by the bit that leads to it
 abbrev pub childIn : ℕ → List ℕ → ℕ → Bool → ℕ

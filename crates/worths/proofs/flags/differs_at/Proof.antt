@@ -3,8 +3,8 @@ use Prim.Native.Nat.{ℕ}
 use mathlib.Core.Bool.{not}
 use mathlib.Core.Path.{ap}
 use borrow.Author.Needs.{needs}
-use Rattle.comparison.proofs.flags.differs_at.Statement.{statement}
-use Rattle.comparison.proofs.flags.differs_at.Tie as tie
+use Rattle.worths.proofs.flags.differs_at.Statement.{statement}
+use Rattle.worths.proofs.flags.differs_at.Tie as tie
 
 mul-word : tie.Need-mul-word
 mul-word c = search needs

@@ -1,7 +1,7 @@
-use Rattle.comparison.proofs.Places.{low-small, high-small, either-done}
+use Rattle.worths.proofs.Places.{low-small, high-small, either-done}
 use borrow.Author.Needs.{needs}
-use Rattle.comparison.proofs.sums.note_either.Statement.{statement}
-use Rattle.comparison.proofs.sums.note_either.Tie as tie
+use Rattle.worths.proofs.sums.note_either.Statement.{statement}
+use Rattle.worths.proofs.sums.note_either.Tie as tie
 
 low-at-requires : tie.Need-low-at-requires
 low-at-requires c κs = search needs
