@@ -185,6 +185,8 @@ NUMBERS = [
     ("crates/naturals/src/lib.rt", "WORDS", "crates/naturals/specs/Natural.antt", "wordCount", "words of 32 bits in a count, least first", "HOUAYLETAN_COUNT_WORDS", "COUNT_WORDS", "COUNT"),
     ("crates/naturals/src/lib.rt", "WORDS", "crates/naturals/specs/Natural.antt", "wordCount", "words of a weight output"),
     ("crates/pairs/src/table.rt", "PAIR_WORDS", "crates/pairs/specs/Pairs.antt", "pairWords", "words of the table of pairs, for each pair", "HOUAYLETAN_PAIR_WORDS", "PAIR_WORDS", "PAIR"),
+    ("crates/pool/src/lib.rt", "SLOTS", "crates/pool/specs/Pool.antt", "slotCount", "slots of a pool", "HOUAYLETAN_SLOTS", "SLOTS", "SLOTS"),
+    (LIMITS, "MAX_NODES", "crates/diagram/specs/Limits.antt", "maxNodes", "places of a pool's table, at most"),
     ("crates/blocks/src/layout.rt", "BLOCK", "crates/blocks/specs/Block.antt", "blockBytes", "bytes of a block", None, None, "BLOCK"),
     ("crates/blocks/src/layout.rt", "NODES", "crates/blocks/specs/Block.antt", "blockNodes", "nodes in a block, at most", None, None, "BLOCK_NODES"),
     ("crates/blocks/src/layout.rt", "MOST", "crates/blocks/specs/Block.antt", "maxStored", "nodes in a block file, at most", None, None, "FILE_NODES"),
@@ -211,14 +213,18 @@ def section(text, heading):
 
 
 ROW, CONSTANT = r"^\| (\d+) \| ", r"^pub const \w+: u32 = (\d+);$"
-ruled, compared, stored, filed = (numbers(ROW, section(text_of(RULES), heading)) for heading in ("Refusals", "Two diagrams compared", "Refusals of block files", "Refusals of node files"))
+ruled, compared, pooled, stored, filed = (
+    numbers(ROW, section(text_of(RULES), heading))
+    for heading in ("Refusals", "Two diagrams compared", "A pool", "Refusals of block files", "Refusals of node files")
+)
 own = ruled[:ruled.index(12) + 1]
 for path, found, said in [
-    ("crates/diagram/src/refusal.rt", sorted(numbers(CONSTANT, text_of("crates/diagram/src/refusal.rt"))), sorted(ruled + compared)),
+    ("crates/diagram/src/refusal.rt", sorted(numbers(CONSTANT, text_of("crates/diagram/src/refusal.rt"))), sorted(ruled + compared + pooled)),
     ("crates/diagram/specs/Verdict.antt", numbers(r"\brow (\d+) ", text_of("crates/diagram/specs/Verdict.antt")), own),
     ("crates/comparison/specs/Comparison.antt", numbers(r"\brow (\d+) ", text_of("crates/comparison/specs/Comparison.antt")), compared),
-    ("include/houayletan.h", numbers(r"^ \*   {,2}(\d+)   ", text_of("include/houayletan.h")), ruled + compared + filed),
-    ("bindings/rust/src/refusal.rs", sorted(numbers(r"^            (\d+) => ", text_of("bindings/rust/src/refusal.rs"))), sorted(ruled + compared + filed)),
+    ("crates/pool/specs/Answers.antt", numbers(r"\brow (\d+) ", text_of("crates/pool/specs/Answers.antt")), pooled[1:] + pooled[:1] + [5, 4]),
+    ("include/houayletan.h", numbers(r"^ \*   {,2}(\d+)   ", text_of("include/houayletan.h")), ruled + compared + pooled + filed),
+    ("bindings/rust/src/refusal.rs", sorted(numbers(r"^            (\d+) => ", text_of("bindings/rust/src/refusal.rs"))), sorted(ruled + compared + pooled + filed)),
     ("crates/blocks/src/stored.rt", sorted(numbers(CONSTANT, text_of("crates/blocks/src/stored.rt"))), sorted(set(stored) - set(ruled))),
     ("crates/node_file/src/layout.rt", sorted(numbers(CONSTANT, text_of("crates/node_file/src/layout.rt"))), sorted(filed)),
     ("crates/node_file/specs/NodeFile.antt", numbers(r"\brow (\d+) ", text_of("crates/node_file/specs/NodeFile.antt")), filed[:-1] + ruled[:2] + filed[-1:]),

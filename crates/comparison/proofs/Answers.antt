@@ -30,11 +30,12 @@ use Rattle.pairs.specs.Table.{countsFrom, Alike, Space, Met}
 use Rattle.pairs.proofs.Meeting.{in-at}
 use Rattle.pairs.proofs.Numbering.{walks}
 use Rattle.comparison.specs.Comparison.{both, firstOnly, secondOnly, inBoth, anyDiffer, shown, numeral, least, differ, alikeOf, compareOf, roomLeft, wholePairs, Tells, Compare}
-use Rattle.comparison.specs.Work.{worth, flagIn, unlikeAt, pairAt, Worths, Rooted, Arriving, Told, Worked, Nothing, Differences, Answered, Known, besideOf, Besides}
+use Rattle.worths.specs.Worth.{worth, flagIn, unlikeAt, pairAt, Worths}
+use Rattle.comparison.specs.Work.{Rooted, Arriving, Told, Worked, Nothing, Differences, Answered, Known, besideOf, Besides}
 use Rattle.comparison.specs.declared.work.Found.{Found}
 use Rattle.comparison.specs.declared.compare.Compared.{Compared}
-use Rattle.comparison.proofs.Beside.{both-roots, unlike-roots}
-use Rattle.comparison.proofs.Places.{flag-is}
+use Rattle.comparison.proofs.Roots.{both-roots, unlike-roots}
+use Rattle.worths.proofs.Places.{flag-is}
 
 -- ---- parts of a whole
 

@@ -20,10 +20,12 @@ use Rattle.pairs.specs.Pairs.{maxPairs, Pair, levelOf, next, ended, roots, allO
 use Rattle.pairs.specs.Table.{lowIn, highIn, Alike, Settled}
 use Rattle.pairs.proofs.Levels.{Inside, level-end, next-above}
 use Rattle.comparison.specs.Comparison.{differ, anyDiffer, numeral, least, shown}
-use Rattle.comparison.specs.Work.{unlike, beside, worthFrom, worth, unlikeAt, flagIn, pairAt, Placed, Rooted, Searching, Turned}
-use Rattle.comparison.proofs.Beside.{passed, beside-cons, beside-roots, worth-step, worth-twice, passed-skips, part-is, scaled-sign, unlike-is, all-unlike}
+use Rattle.worths.specs.Worth.{unlike, beside, worthFrom, worth, unlikeAt, flagIn, pairAt, Placed}
+use Rattle.comparison.specs.Work.{Rooted, Searching, Turned}
+use Rattle.worths.proofs.Beside.{passed, beside-cons, beside-roots, worth-step, worth-twice, passed-skips, part-is, scaled-sign, unlike-is}
+use Rattle.comparison.proofs.Roots.{all-unlike}
 use Rattle.comparison.proofs.Least.{numeral-nil, numeral-less, least-nil, least-length, least-same, number-low, number-high}
-use Rattle.comparison.proofs.Places.{place-small, place-inside, flag-is}
+use Rattle.worths.proofs.Places.{place-small, place-inside, flag-is}
 
 -- the number of the smallest valuation of the variables from i on in which a pair differs
 abbrev pub numberFrom : List ℕ → List ℕ → ℕ → Pair → ℕ

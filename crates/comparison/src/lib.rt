@@ -1,7 +1,5 @@
 // Two diagrams of one variable count beside each other: in how many valuations one holds and not the other, in how many both, and the
 // smallest valuation in which they differ.
 pub mod compare;
-mod flags;
 mod smallest;
-mod sums;
 mod work;

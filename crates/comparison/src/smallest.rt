@@ -1,11 +1,11 @@
 // The smallest valuation in which two diagrams differ, as a number: variable 0 is its highest bit.
-use crate::flags::differs_at;
-use crate::sums::level_at;
 use naturals::Natural;
 use naturals::times_plus;
 use naturals::zero;
 use pairs::table::high_at;
 use pairs::table::low_at;
+use worths::flags::differs_at;
+use worths::sums::level_at;
 ghost use mathlib.Core.Path.{_≡_};
 ghost use mathlib.Core.Bool.{true};
 ghost use Prim.Native.Nat.{_<_};

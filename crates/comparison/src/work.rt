@@ -1,15 +1,15 @@
 // What is worked out in the table.
-use crate::flags::differs_at;
 use crate::smallest::smallest;
-use crate::sums::count_from;
-use crate::sums::level_at;
-use crate::sums::note_all;
 use naturals::Natural;
 use naturals::load;
 use naturals::shift_left;
 use naturals::zero;
 use pairs::table::capacity_of;
 use pairs::walk::walk;
+use worths::flags::differs_at;
+use worths::sums::count_from;
+use worths::sums::level_at;
+use worths::sums::note_all;
 ghost use mathlib.Core.Path.{_≡_};
 ghost use mathlib.Core.Bool.{true, false};
 ghost use Prim.Native.Nat.{_/_};

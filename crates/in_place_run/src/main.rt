@@ -1,11 +1,11 @@
-// Runs every function of `in_place` over fixed cases and writes one line for each, in hex. The expected output was computed apart from
-// this code by tests/in_place_cases.py, with whole numbers of any size.
-use in_place::comparing::compare_at;
-use in_place::difference::subtract_from_power;
-use in_place::product::multiply_at;
+// Runs every function of `in_place` and `in_place_more` over fixed cases and writes one line for each, in hex. The expected output was
+// computed apart from this code by tests/in_place_cases.py, with whole numbers of any size.
 use in_place::sum::Shifted;
 use in_place::sum::add_shifted;
 use in_place::sum::words_for;
+use in_place_more::comparing::compare_at;
+use in_place_more::difference::subtract_from_power;
+use in_place_more::product::multiply_at;
 use libc::STDOUT_FILENO;
 use naturals::Order;
 use naturals::WORD_BITS;

@@ -11,6 +11,7 @@ use report::lines::write_refused;
 use writing::put;
 use writing::write;
 ghost use mathlib.Core.Path.{_≡_};
+ghost use Prim.Native.Nat.{_≤_};
 ghost use Rattle.writing.specs.Writing.{Wrote};
 ghost use Rattle.messages.specs.Texts.{ofNode, subject, moreThan, pairsPhrase, phrase, refusalText};
 
@@ -59,11 +60,12 @@ fn write_pairs(out: &mut [u8], at: usize) -> usize
     write(out, next, b" pairs of nodes are reached")
 }
 
-fn write_phrase(out: &mut [u8], at: usize, number: u32) -> usize
+// The sentences by groups of numbers, so that none of these functions has many arms: a diagram.
+fn write_of_diagram(out: &mut [u8], at: usize, number: u32) -> usize
+    requires { ⌜ (6 ≤ number) × (number ≤ 12) ⌝ }
     ensures { λ r. ⌜ Wrote (phrase number) (now (out .entry)) at (now (out .exit)) r ⌝ }
 {
     match number {
-        4 => write(out, at, b"the output is too short"),
         6 => write(
             out,
             at,
@@ -78,7 +80,16 @@ fn write_phrase(out: &mut [u8], at: usize, number: u32) -> usize
         9 => write(out, at, b"has a low link past the nodes"),
         10 => write(out, at, b"has a high link past the nodes"),
         11 => write(out, at, b"has a low child that is not at a larger variable"),
-        12 => write(out, at, b"can't be reached from the root"),
+        _ => write(out, at, b"can't be reached from the root"),
+    }
+}
+
+// What a diagram is to be cut to; and 17, of a diagram.
+fn write_of_target(out: &mut [u8], at: usize, number: u32) -> usize
+    requires { ⌜ (16 ≤ number) × (number ≤ 19) ⌝ }
+    ensures { λ r. ⌜ Wrote (phrase number) (now (out .entry)) at (now (out .exit)) r ⌝ }
+{
+    match number {
         16 => write(
             out,
             at,
@@ -90,11 +101,20 @@ fn write_phrase(out: &mut [u8], at: usize, number: u32) -> usize
             b"has a high child that is not at a larger variable",
         ),
         18 => write(out, at, b"no answer has so few nodes; 2 are always enough"),
-        19 => write(
+        _ => write(
             out,
             at,
             b"a constant can't be cut to a count between 0 and the number of all valuations",
         ),
+    }
+}
+
+// A block file.
+fn write_of_blocks(out: &mut [u8], at: usize, number: u32) -> usize
+    requires { ⌜ (21 ≤ number) × (number ≤ 25) ⌝ }
+    ensures { λ r. ⌜ Wrote (phrase number) (now (out .entry)) at (now (out .exit)) r ⌝ }
+{
+    match number {
         21 => write(
             out,
             at,
@@ -107,20 +127,41 @@ fn write_phrase(out: &mut [u8], at: usize, number: u32) -> usize
             b"a block number, a node count or the order of blocks is wrong",
         ),
         24 => write(out, at, b"unused bytes are not zero"),
-        25 => write_limit(out, at, MOST, b" nodes"),
-        31 => write(
-            out,
-            at,
-            b"the two conditions don't have the same number of variables",
-        ),
-        32 => write_pairs(out, at),
+        _ => write_limit(out, at, MOST, b" nodes"),
+    }
+}
+
+// A node file.
+fn write_of_node_file(out: &mut [u8], at: usize, number: u32) -> usize
+    requires { ⌜ (51 ≤ number) × (number ≤ 53) ⌝ }
+    ensures { λ r. ⌜ Wrote (phrase number) (now (out .entry)) at (now (out .exit)) r ⌝ }
+{
+    match number {
         51 => write(out, at, b"the file is empty"),
         52 => write(
             out,
             at,
             b"the length of the file is not a multiple of ten bytes",
         ),
-        53 => write_limit(out, at, MAX_NODES, b" nodes"),
+        _ => write_limit(out, at, MAX_NODES, b" nodes"),
+    }
+}
+
+fn write_phrase(out: &mut [u8], at: usize, number: u32) -> usize
+    ensures { λ r. ⌜ Wrote (phrase number) (now (out .entry)) at (now (out .exit)) r ⌝ }
+{
+    match number {
+        4 => write(out, at, b"the output is too short"),
+        6..=12 => write_of_diagram(out, at, number),
+        16..=19 => write_of_target(out, at, number),
+        21..=25 => write_of_blocks(out, at, number),
+        31 => write(
+            out,
+            at,
+            b"the two conditions don't have the same number of variables",
+        ),
+        32 => write_pairs(out, at),
+        51..=53 => write_of_node_file(out, at, number),
         _ => write(out, at, b"the input is refused"),
     }
 }

@@ -16,29 +16,45 @@ use Rattle.pairs.specs.Pairs.{maxPairs, Pair, pair, next, ended, meetFro
 
 -- ---- the layout
 
+-- The words of a place's record and of its count. For each place there are as many as its bucket's, its record's, its count's and its flag's.
+abbrev pub recordWords : ℕ
+recordWords = 4
+
+abbrev pub countWords : ℕ
+countWords = 16
+
+abbrev pub wordsBeforeCounts : ℕ
+wordsBeforeCounts = 1 + recordWords
+
+abbrev pub wordsBeforeFlags : ℕ
+wordsBeforeFlags = wordsBeforeCounts + countWords
+
+abbrev pub placeWords : ℕ
+placeWords = wordsBeforeFlags + 1
+
 abbrev pub headIn : List ℕ → ℕ → ℕ
 headIn t h = getD t h 0
 
 abbrev pub keyIn : ℕ → List ℕ → ℕ → ℕ
-keyIn c t i = getD t (c + 4 * i) 0
+keyIn c t i = getD t (c + recordWords * i) 0
 
 abbrev pub beforeIn : ℕ → List ℕ → ℕ → ℕ
-beforeIn c t i = getD t (c + 4 * i + 1) 0
+beforeIn c t i = getD t (c + recordWords * i + 1) 0
 
 abbrev pub lowIn : ℕ → List ℕ → ℕ → ℕ
-lowIn c t i = getD t (c + 4 * i + 2) 0
+lowIn c t i = getD t (c + recordWords * i + 2) 0
 
 abbrev pub highIn : ℕ → List ℕ → ℕ → ℕ
-highIn c t i = getD t (c + 4 * i + 3) 0
+highIn c t i = getD t (c + recordWords * i + 3) 0
 
 abbrev pub countsFrom : ℕ → ℕ
-countsFrom c = 5 * c
+countsFrom c = wordsBeforeCounts * c
 
 abbrev pub flagsFrom : ℕ → ℕ
-flagsFrom c = 21 * c
+flagsFrom c = wordsBeforeFlags * c
 
 abbrev pub tableTo : ℕ → ℕ
-tableTo c = 22 * c
+tableTo c = placeWords * c
 
 -- A pair as one word, and its bucket: the word mixed to 32 bits, and these scaled.
 abbrev pub keyOf : Pair → ℕ
@@ -91,7 +107,7 @@ pub record Sought (c : ℕ) (t : List ℕ) (n key r : ℕ) : Type 0 where
 -- A key is written at place n, and becomes the last in its bucket.
 unfoldable pub entered : ℕ → List ℕ → ℕ → ℕ → ℕ → ℕ → List ℕ
 entered c t n key low high =
-    set (set (set (set (set t (c + 4 * n) key) (c + 4 * n + 1) (getD t (bucketOf c key) 0)) (c + 4 * n + 2) low) (c + 4 * n + 3) high) (bucketOf c key) (suc n)
+    set (set (set (set (set t (c + recordWords * n) key) (c + recordWords * n + 1) (getD t (bucketOf c key) 0)) (c + recordWords * n + 2) low) (c + recordWords * n + 3) high) (bucketOf c key) (suc n)
 
 -- A pair is entered behind n others, if there is a place for it.
 pub record Adding (c : ℕ) (t : List ℕ) (n : ℕ) (x : Pair) (low high : ℕ) : Type 0 where

@@ -26,16 +26,18 @@ readFrom t s k = arrayOf (vars t) (slotOf t (getD s k 0))
 
 -- ---- the verdicts
 
--- 46, then the diagram's own, 33, 34, 35 and 36. Accepted, it has the number of the nodes in use afterwards.
-unfoldable pub addOf : (t s w : List ℕ) (room k : ℕ) → Outcome
-addOf t s w room k =
-    row 46 (not (isPool t s)) 0
-    (andThen (verdictOf w Nothing room)
-    (row 33 (leb slotCount k) 0
+-- 33 to 36, where there is a pool and the diagram is accepted. Accepted, it has the number of the nodes in use afterwards.
+unfoldable pub placeOf : (t s w : List ℕ) (k : ℕ) → Outcome
+placeOf t s w k =
+    row 33 (leb slotCount k) 0
     (row 34 (not (eqb (getD s k 0) 0)) 0
     (row 35 (not (eqb (vars w) (vars t))) 0
     (row 36 (ltb (size t) (needs (vars t) (withAdded t s w k))) 0
-    (accepted (needs (vars t) (withAdded t s w k)) (vars t)))))))
+    (accepted (needs (vars t) (withAdded t s w k)) (vars t)))))
+
+-- 46, then the diagram's own, then these.
+unfoldable pub addOf : (t s w : List ℕ) (room k : ℕ) → Outcome
+addOf t s w room k = row 46 (not (isPool t s)) 0 (andThen (verdictOf w Nothing room) (placeOf t s w k))
 
 -- 46, 33 and 34: the slot is there and live.
 unfoldable pub liveOf : (t s : List ℕ) (k n : ℕ) → Outcome

@@ -1,91 +1,40 @@
-// Adding a condition.
-use crate::gather::DIAGRAM_MEMO;
-use crate::gather::STORE;
-use crate::gather::WORK;
-use crate::gather::gather;
-use crate::gather::hand_back;
-use crate::gather::walked;
+// Adding a condition: refusal 46, the diagram's own, and 33 to 36.
 use crate::slot::refused;
-use diagram::node::BddPointer;
 use diagram::node::word;
 use diagram::refusal::NO_POOL;
 use diagram::refusal::NO_SUCH_SLOT;
 use diagram::refusal::OTHER_POOL;
 use diagram::refusal::POOL_FULL;
 use diagram::refusal::WRONG_SLOT;
-use diagram::room::put;
 use diagram::validate::validate;
 use diagram::verdict::Verdict;
 use pool::SLOTS;
+use pool_build::place::place;
 use pool_check::check::is_pool;
-use reduction::answer::copy;
-use store::shelf::start;
-use store::walk::build;
+ghost use Rattle.pool.specs.Answers.{Adds};
+ghost use Rattle.pool_calls.specs.Calls.{Addable, AddsTo, Placing};
 
-// Builds the diagram's condition for its slot.
-fn build_diagram(
-    words: &[u32],
-    names: &mut [u32],
-    work: &mut [u32],
-    capacity: usize,
-    count: usize,
-    slot: usize,
-) -> usize {
-    let root = BddPointer((words.len() / 3 - 1) as u32);
-    let made = build(words, work, DIAGRAM_MEMO, STORE, capacity, count, root);
-    put(names, slot, made.pointer.0 + 1);
-    made.count
-}
-
-// The conditions before the slot, the new one, and those behind it.
-fn compose(
-    table: &[u32],
-    words: &[u32],
-    names: &mut [u32],
-    work: &mut [u32],
-    capacity: usize,
-    slot: usize,
-) -> usize {
-    start(work, STORE, capacity, word(table, 0));
-    let before = gather(table, names, work, capacity, 2, 0, slot);
-    if capacity < before {
-        return before;
+// The slot is free and the variable counts agree: 36, or the condition is added.
+fn add_placed(table: &mut [u32], slots: &mut [u32], words: &[u32], slot: usize) -> Verdict
+    requires { ⌜ Placing (now table) (now slots) (now words) slot ⌝ }
+    ensures { λ r. ⌜ AddsTo (now (table .entry)) (now (slots .entry)) (now (words .entry)) slot (now (table .exit)) (now (slots .exit)) r ⌝ }
+{
+    let places = table.len() / 3;
+    let count = place(table, slots, words, slot);
+    if places < count {
+        return refused(POOL_FULL);
     }
-    let with = build_diagram(words, names, work, capacity, before, slot);
-    if capacity < with {
-        return with;
+    Verdict::Accepted {
+        nodes: count,
+        vars: word(words, 0),
     }
-    gather(table, names, work, capacity, with, slot + 1, SLOTS)
 }
 
-fn place_in(
-    table: &mut [u32],
-    slots: &mut [u32],
-    words: &[u32],
-    slot: usize,
-    names: &mut [u32],
-    work: &mut [u32],
-) -> usize {
-    let capacity = table.len() / 3;
-    let part = walked(table);
-    copy(slots, 0, names, SLOTS);
-    let count = compose(&table[..part], words, names, work, capacity, slot);
-    if capacity < count {
-        return count;
-    }
-    hand_back(work, names, table, slots, count);
-    count
-}
-
-// The number of nodes in use afterwards, or one more than there are places: then nothing is changed.
-fn place(table: &mut [u32], slots: &mut [u32], words: &[u32], slot: usize) -> usize {
-    let mut names = [0u32; SLOTS];
-    let mut work = [0u32; WORK];
-    place_in(table, slots, words, slot, &mut names, &mut work)
-}
-
-// Refusals 33 to 36.
-fn add_accepted(table: &mut [u32], slots: &mut [u32], words: &[u32], slot: usize) -> Verdict {
+// There is a pool and the diagram is accepted: 33 to 36, or the condition is added.
+fn add_accepted(table: &mut [u32], slots: &mut [u32], words: &[u32], slot: usize) -> Verdict
+    requires { ⌜ Addable (now table) (now slots) (now words) ⌝ }
+    ensures { λ r. ⌜ AddsTo (now (table .entry)) (now (slots .entry)) (now (words .entry)) slot (now (table .exit)) (now (slots .exit)) r ⌝ }
+{
     if SLOTS <= slot {
         return refused(NO_SUCH_SLOT);
     }
@@ -95,14 +44,7 @@ fn add_accepted(table: &mut [u32], slots: &mut [u32], words: &[u32], slot: usize
     if word(words, 0) != word(table, 0) {
         return refused(OTHER_POOL);
     }
-    let count = place(table, slots, words, slot);
-    if table.len() / 3 < count {
-        return refused(POOL_FULL);
-    }
-    Verdict::Accepted {
-        nodes: count,
-        vars: word(words, 0),
-    }
+    add_placed(table, slots, words, slot)
 }
 
 pub fn add(
@@ -111,7 +53,9 @@ pub fn add(
     words: &[u32],
     slot: usize,
     room: &mut [u32],
-) -> Verdict {
+) -> Verdict
+    ensures { λ r. ⌜ Adds (now (table .entry)) (now (slots .entry)) (now (words .entry)) slot (now (table .exit)) (now (slots .exit)) (now (room .entry)) (now (room .exit)) r ⌝ }
+{
     if !is_pool(table, slots) {
         return refused(NO_POOL);
     }

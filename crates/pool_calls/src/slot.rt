@@ -1,4 +1,4 @@
-// What every operation looks at first: the pool, and the slot.
+// What dropping and reading look at first: the pool, and the slot.
 use diagram::node::word;
 use diagram::refusal::NO_POOL;
 use diagram::refusal::NO_SUCH_SLOT;
@@ -6,13 +6,22 @@ use diagram::refusal::WRONG_SLOT;
 use diagram::verdict::Verdict;
 use pool::SLOTS;
 use pool_check::check::is_pool;
+ghost use mathlib.Core.Path.{_≡_};
+ghost use Rattle.diagram.specs.Diagram.{size};
+ghost use Rattle.diagram.specs.Verdict.{refused as refusedAt, said};
+ghost use Rattle.pool.specs.Answers.{liveOf};
 
-pub(crate) fn refused(number: u32) -> Verdict {
+// A refusal with place 0.
+pub(crate) fn refused(number: u32) -> Verdict
+    ensures { λ r. ⌜ said r ≡ refusedAt number 0 ⌝ }
+{
     Verdict::Refused { number, place: 0 }
 }
 
 // Whether there is a pool, and the slot is there and live.
-pub(crate) fn live(table: &[u32], slots: &[u32], slot: usize) -> Verdict {
+pub(crate) fn live(table: &[u32], slots: &[u32], slot: usize) -> Verdict
+    ensures { λ r. ⌜ said r ≡ liveOf (now (table .entry)) (now (slots .entry)) slot (size (now (table .entry))) ⌝ }
+{
     if !is_pool(table, slots) {
         return refused(NO_POOL);
     }

@@ -9,12 +9,10 @@ use diagram::node::BddPointer;
 use diagram::node::word;
 use diagram::terminals::is_terminal_node;
 use pool::SLOTS;
+use pool::TERMINAL_WORDS;
 ghost use mathlib.Core.Path.{_≡_};
 ghost use lib.ListN.{length};
 ghost use Rattle.pool.specs.Pool.{isMeasured, isEnded, isPool};
-
-// The words of the two terminals.
-const TERMINAL_WORDS: usize = 6;
 
 // Whole places, of which two are the terminals, and as many slots as there must be.
 fn is_measured(table: usize, slots: usize) -> bool
@@ -45,6 +43,7 @@ fn is_ended(table: &[u32]) -> bool
     word(table, 0) as usize <= MAX_VARIABLES
 }
 
+// Whether any words are the table and the slots of a well-formed pool.
 pub fn is_pool(table: &[u32], slots: &[u32]) -> bool
     ensures { λ r. ⌜ r ≡ isPool (now (table .entry)) (now (slots .entry)) ⌝ }
 {

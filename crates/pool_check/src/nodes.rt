@@ -6,6 +6,7 @@ use diagram::node::var_of;
 use diagram::node::word;
 use diagram::reach::is_above;
 use pool::SLOTS;
+ghost use Prim.Native.Nat.{_≤_};
 ghost use mathlib.Core.Path.{_≡_};
 ghost use mathlib.Core.Bool.{not, _&&_};
 ghost use lib.ListN.{length, getD};
@@ -14,6 +15,9 @@ ghost use Rattle.diagram.specs.Limits.{maxNodes};
 ghost use Rattle.diagram.specs.Diagram.{size};
 ghost use Rattle.diagram.specs.Verdict.{any};
 ghost use Rattle.pool.specs.Pool.{slotCount, isFree, isName, isRight, eachNode};
+
+// A slot's words below this one name nothing, 0, or a terminal.
+const FIRST_NODE_NAME: u32 = 3;
 
 // Whether all words of a place are zero.
 pub(crate) fn is_free(table: &[u32], place: BddPointer) -> bool
@@ -35,7 +39,7 @@ pub(crate) fn is_free(table: &[u32], place: BddPointer) -> bool
 fn is_name(table: &[u32], name: u32) -> bool
     ensures { λ r. ⌜ r ≡ isName (now (table .entry)) name ⌝ }
 {
-    if name < 3 {
+    if name < FIRST_NODE_NAME {
         return true;
     }
     if table.len() / 3 < name as usize {

@@ -3,7 +3,7 @@
 use counts::links::place;
 use diagram::node::BddPointer;
 use diagram::node::var_of;
-use in_place::difference::subtract_from_power;
+use in_place_more::difference::subtract_from_power;
 use room_map::COUNTS;
 ghost use Rattle.counts.specs.Table.{Noted};
 ghost use Rattle.room_map.specs.Map.{countsFrom};

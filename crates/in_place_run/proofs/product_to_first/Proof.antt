@@ -6,7 +6,7 @@ use Rattle.in_place_run.proofs.product_to_first.Statement.{statement}
 use Rattle.in_place_run.proofs.product_to_first.Tie as tie
 use Rattle.in_place_run.proofs.product_to_first.Reads as reads
 use Rattle.in_place_run.proofs.product_to_first.Lts as lts
-use Rattle.in_place.proofs.product.multiply_at.Reads as multiply-at-reads
+use Rattle.in_place_more.proofs.product.multiply_at.Reads as multiply-at-reads
 
 multiply-at-requires : tie.Need-multiply-at-requires
 multiply-at-requires c κs = let e = c .before .before .before .pre .0 in let few = c .before .before .before .pre .1 in record { first = omega arith; second = omega arith; few = omega arith; target = omega arith; inside = omega arith }
