@@ -553,7 +553,8 @@ static void check_pool(Site *s, const Pool *was, const PoolRequest *q, const Poo
     if (!expected.number && q->call != READ) s->in_order = true;
     if (!fault && !same_verdict(r->verdict, expected)) fault = "another verdict";
     if (!fault && s->in_order) fault = wrong_pool_answer(&s->lent, &s->held, q, r, expected);
-    if (!fault && q->call == READ && !expected.number && memcmp(r->output.words, s->held.array[q->slot], 4 * s->held.len[q->slot])) fault = "the array that was read";
+    bool is_read = q->call == READ && !expected.number;
+    if (!fault && is_read && memcmp(r->output.words, s->held.array[q->slot], 4 * s->held.len[q->slot])) fault = "the array that was read";
     if (fault) stop_pool(was, q, r, expected, fault);
     tally_pool(q, expected);
 }
@@ -625,7 +626,10 @@ static void spoil(const Site *s, const PoolRequest *like) {
 static size_t any_addition(uint32_t vars, size_t places) {
     size_t len = 3;
     words[0] = vars + 1;
-    for (int tries = 0; tries < 8 && len >= 3 && words[0] > vars; tries++) len = places > 1000 && one_in(2) ? accepted(places / 8 + below(places - places / 8)) : any_words();
+    for (int tries = 0; tries < 8 && len >= 3 && words[0] > vars; tries++) {
+        bool large = places > 1000 && one_in(2);
+        len = large ? accepted(places / 8 + below(places - places / 8)) : any_words();
+    }
     if (len >= 3 && words[0] <= vars && !one_in(16)) {
         words[0] = vars;
         if (len >= 6) words[3] = vars;
@@ -662,8 +666,8 @@ static void one_pool(size_t guard) {
 }
 
 static void tell_pools(void) {
-    printf("calls to pools: %lu, 0 failed, to %lu pools; nodes put elsewhere %lu times, words changed to no pool %lu times, to a pool still %lu times; %zu nodes at most", pool_made,
-           pools, pools_scattered, pools_spoilt, pools_still, pool_nodes);
+    printf("calls to pools: %lu, 0 failed, to %lu pools; nodes put elsewhere %lu times, words changed to no pool %lu times, to a pool still %lu times; "
+           "%zu nodes at most", pool_made, pools, pools_scattered, pools_spoilt, pools_still, pool_nodes);
     for (int call = ADD; call <= READ; call++) {
         printf("; %s answered %lu, refused", pool_calls[call], pool_refused[call][0]);
         for (int i = 1; i < 64; i++) {
@@ -800,7 +804,8 @@ static void deep_pools(size_t idle) {
     thread_body = pool_on_own_stack;
     for (size_t i = 0; i < sizeof steps / sizeof *steps; i++) {
         size_t len = ladder(0, steps[i].ladder < 0 ? 0 : (uint32_t)steps[i].ladder / 2);
-        deep_call = (PoolRequest){steps[i].call, steps[i].slot, words, steps[i].call != ADD ? 0 : steps[i].ladder < 0 ? 6 : len, HOUAYLETAN_ROOM(HOUAYLETAN_NODES), 3 * HOUAYLETAN_NODES, 77};
+        size_t given = steps[i].call != ADD ? 0 : steps[i].ladder < 0 ? 6 : len;
+        deep_call = (PoolRequest){steps[i].call, steps[i].slot, words, given, HOUAYLETAN_ROOM(HOUAYLETAN_NODES), 3 * HOUAYLETAN_NODES, 77};
         Pool was = copy_of_pool(&deep_site.lent);
         size_t used = stack_used(start_thread);
         check_pool(&deep_site, &was, &deep_call, &deep_answer);

@@ -1,5 +1,6 @@
 """The numbers of document 01 for all scripts, each once. The library's own are crates/diagram/src/limits.rt, naturals::WORDS,
-crates/pairs/src/table.rt and crates/blocks/src/layout.rt; papers.py holds these to them. The node file's is docs/NODE-FILES.md's."""
+crates/pairs/src/table.rt, crates/pool/src/lib.rt and crates/blocks/src/layout.rt; papers.py holds these to them. The node file's is
+docs/NODE-FILES.md's."""
 
 MAX_NODES = 4096        # the most nodes of a diagram
 MAX_VARS = 511          # the most variables

@@ -6,14 +6,13 @@ import os
 import random
 from itertools import product
 
-from comparison_cases import conjunction, cut, doubled, faulty, parity
+from comparison_cases import conjunction, doubled, faulty, parity
 from diagram_cases import D, crowded, ladder, layered, terminals
 from limits import MAX_NODES, MAX_VARS, ROOM, SLOTS
 from reading import most, nodes, room_after, verdict
 
 HERE = os.path.dirname(os.path.abspath(__file__))
 FOLDER = os.path.join(HERE, '..', 'crates', 'pool_run')
-MARK, FILL = 7, 9                   # what room and output are filled with beforehand
 SHOWN = 24                          # more words than these are summed
 TABLE, NAMES = 3 * MAX_NODES + 4, 66        # the longest table and slots that the program lends
 FEW = 5                             # variables whose valuations are gone through one by one
@@ -396,7 +395,7 @@ def small_print(s):
     s.pool(3, 8)                                        # the order of the slots decides the order of the nodes, not that of the calls
     for slots in ((0, 1, 2), (2, 1, 0), (1, 2, 0)):
         for slot in slots:
-            s.add(slot, (D, by_one_variable(3, 0), parity(3)[:-3] + [0, 4, 3])[slot] if slot < 2 else by_one_variable(3, 1, 1, 0))
+            s.add(slot, (D, by_one_variable(3, 0), by_one_variable(3, 1, 1, 0))[slot])
         for slot in slots:
             s.drop(slot)
     s.pool(0, 7)                                        # no variables: free places are no nodes
@@ -439,7 +438,7 @@ def orders(s):
 def lengths(s):
     """Rooms and outputs exact, one short and longer."""
     for v, places, words in ((3, 5, D), (3, 6, D), (3, 2, terminals(3)), (3, 2, terminals(3)[:3]), (0, 2, [0, 0, 0]), (0, 3, terminals(0)),
-                             (MAX_VARS, 40, conjunction(30)[:0] + all_of(MAX_VARS, range(0, MAX_VARS, 20)))):
+                             (MAX_VARS, 40, all_of(MAX_VARS, range(0, MAX_VARS, 20)))):
         s.pool(v, places)
         need = ROOM * most(len(words) // 3)
         for room in (0, 1, need - 1, need, need + 5):

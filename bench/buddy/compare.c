@@ -11,13 +11,11 @@
  *
  *     bash bench/buddy/run.sh [SEED] */
 #include "../../include/houayletan.h"
+#include "times.h"
 #include <bdd.h>
 #include <math.h>
 #include <stdbool.h>
-#include <stdio.h>
-#include <stdlib.h>
 #include <string.h>
-#include <time.h>
 
 #define ROUNDS 41
 #define PAIRS_MOST 250000
@@ -40,27 +38,6 @@ typedef struct {
 
 static uint32_t room[HOUAYLETAN_ROOM(HOUAYLETAN_NODES)];
 static uint32_t *table;
-
-static void stop(const char *what) {
-    fprintf(stderr, "compare: %s\n", what);
-    exit(1);
-}
-
-static double now(void) {
-    struct timespec t;
-    clock_gettime(CLOCK_MONOTONIC, &t);
-    return 1e9 * (double)t.tv_sec + (double)t.tv_nsec;
-}
-
-static int by_size(const void *a, const void *b) {
-    double x = *(const double *)a, y = *(const double *)b;
-    return (x > y) - (x < y);
-}
-
-static double median(double *times, size_t n) {
-    qsort(times, n, sizeof *times, by_size);
-    return times[n / 2];
-}
 
 /* ---- diagrams */
 

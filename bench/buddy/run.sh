@@ -1,8 +1,9 @@
 #!/usr/bin/env bash
-# Compares two diagrams by the library and by BuDDy, in one process, and prints the times:
-#     bash bench/buddy/run.sh [SEED]     2026 unless given
-# It needs a C compiler, Debian's package libbdd-dev (BuDDy 2.4; apt-get install libbdd-dev), and the Rattle toolchain's rt or the
-# archive that it has written before. Where BuDDy is missing it says so and measures nothing.
+# Times of the library beside BuDDy, in one process:
+#     bash bench/buddy/run.sh [SEED]          two diagrams compared
+#     bash bench/buddy/run.sh pool [SEED]     a site's conditions in one table; and the nodes that this saves
+# The seed is 2026 unless given. It needs a C compiler, Debian's package libbdd-dev (BuDDy 2.4; apt-get install libbdd-dev), and the Rattle
+# toolchain's rt or the archive that it has written before. Where BuDDy is missing it says so and measures nothing.
 set -eu
 cd "$(dirname "$0")/../.."
 
@@ -19,7 +20,12 @@ if command -v rt > /dev/null; then
 elif [ ! -f "$archive" ]; then
     missing "rt (the Rattle toolchain), which writes $archive"
 fi
+what=compare
+if [ "${1:-}" = pool ]; then
+    what=pool
+    shift
+fi
 mkdir -p target/tests
-cc -std=gnu99 -Wall -Wextra -Werror -O2 bench/buddy/compare.c "$archive" -lbdd -lm -o target/tests/buddy
+cc -std=gnu99 -Wall -Wextra -Werror -O2 "bench/buddy/$what.c" "$archive" -lbdd -lm -o "target/tests/buddy_$what"
 echo "$(date -u +%Y-%m-%d), $(nproc) cores, $(sed -n 's/^model name[^:]*: //p' /proc/cpuinfo | head -1)"
-exec target/tests/buddy "$@"
+exec "target/tests/buddy_$what" "$@"

@@ -52,7 +52,8 @@ static inline void give_reply_back(PoolReply *r) {
 
 static inline PoolReply call_pool(Pool *p, const PoolRequest *q) {
     size_t guard = p->table.guard;
-    PoolReply r = {{0, 0, 0, 0}, lend_copy(q->words, q->words_len, q->seed + 1, guard), lend(q->room_len, q->seed, guard), lend(q->output_len, q->seed + 3, guard)};
+    PoolReply r = {{0, 0, 0, 0}, lend_copy(q->words, q->words_len, q->seed + 1, guard), lend(q->room_len, q->seed, guard),
+                   lend(q->output_len, q->seed + 3, guard)};
     uint32_t *table = p->table.words, *slots = p->slots.words;
     size_t table_len = p->table.len, slots_len = p->slots.len;
     switch (q->call) {
