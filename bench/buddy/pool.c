@@ -263,6 +263,64 @@ static void row(uint64_t seed, size_t with_places, uint32_t machines, uint32_t l
     let_go();
 }
 
+/* ---- one condition that fills the table */
+
+/* At least k of 2k - 2 signals: k (k - 1) nodes after the terminals. */
+static Array threshold(uint32_t k) {
+    Function signals[2 * 64];
+    site_begin(2 * k - 2);
+    for (uint32_t i = 0; i < 2 * k - 2; i++) signals[i] = signal_of(i);
+    return array_of(at_least(k, signals, 2 * k - 2));
+}
+
+enum { WHOLE_TURNS = 501 };
+
+/* It is added to the empty pool; its negation is turned down for room; it is read, and dropped. */
+static void whole_row(size_t with_places, uint32_t k) {
+    static double added[WHOLE_TURNS], full[WHOLE_TURNS], was_read[WHOLE_TURNS], dropped[WHOLE_TURNS], theirs[3][WHOLE_TURNS];
+    Array a = threshold(k), other = a;
+    other.words = malloc(4 * a.len);
+    if (!other.words || houayletan_not(a.words, a.len, room, sizeof room / 4, other.words, a.len).verdict.number) stop("no negation");
+    places = with_places, reserve = live = 0;
+    conditions[0] = a;
+    houayletan_pool_empty(table, HOUAYLETAN_POOL(places), slots, SLOTS, site_nodes.vars);
+    begin_theirs(2 * places);
+    for (size_t i = 0; i < WHOLE_TURNS; i++) {
+        double start = now();
+        HouayletanVerdict said = add(9, &a);
+        added[i] = now() - start;
+        start = now();
+        HouayletanVerdict no_room = add(8, &other);
+        full[i] = now() - start;
+        if (said.number || no_room.number != 36) stop("the condition doesn't fit, or more fits");
+        start = now();
+        said = read_slot(9);
+        was_read[i] = now() - start;
+        hold(0, said.nodes);
+        start = now();
+        said = drop(9);
+        dropped[i] = now() - start;
+        if (said.nodes != 2) stop("the pool isn't empty again");
+        start = now();
+        BDD root = build(&a);
+        theirs[0][i] = now() - start;
+        start = now();
+        read_theirs(root);
+        theirs[1][i] = now() - start;
+        hold(0, their_count);
+        start = now();
+        bdd_delref(root);
+        bdd_gbc();
+        theirs[2][i] = now() - start;
+    }
+    end_theirs();
+    double n = (double)(a.len / 3), add_ns = median(added, WHOLE_TURNS);
+    printf("| %zu | %zu | %.1f | %.0f | %.1f | %.1f | %.1f | %.1f | %.1f | %.1f |\n", places, a.len / 3, add_ns / 1000, add_ns / n, median(full, WHOLE_TURNS) / 1000, median(was_read, WHOLE_TURNS) / 1000,
+           median(dropped, WHOLE_TURNS) / 1000, median(theirs[0], WHOLE_TURNS) / 1000, median(theirs[1], WHOLE_TURNS) / 1000, median(theirs[2], WHOLE_TURNS) / 1000);
+    free(a.words);
+    free(other.words);
+}
+
 int main(int argc, char **argv) {
     uint64_t seed = argc > 1 ? strtoull(argv[1], NULL, 10) : 2026;
     printf("seed %llu, BuDDy %d.%d\n\n", (unsigned long long)seed, bdd_versionnum() / 10, bdd_versionnum() % 10);
@@ -274,6 +332,13 @@ int main(int argc, char **argv) {
     row(seed, 512, 8, 4);
     row(seed, 1024, 14, 6);
     row(seed, 2048, 28, 10);
-    row(seed, 4096, 50, 16);
+    row(seed, 4096, 50, 18);
+    printf("\none condition that fills the table, at least k of 2k - 2 signals; %d turns, times in µs, medians\n\n", WHOLE_TURNS);
+    printf("| places | nodes | add | ns a node | no room | read | drop | BuDDy: add | read | drop |\n|--:|--:|--:|--:|--:|--:|--:|--:|--:|--:|\n");
+    whole_row(256, 16);
+    whole_row(512, 23);
+    whole_row(1024, 32);
+    whole_row(2048, 45);
+    whole_row(4096, 64);
     return 0;
 }
