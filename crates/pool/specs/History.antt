@@ -8,7 +8,7 @@ use lib.ListN.{getD, replicate}
 use lib.Dec.{eqb}
 use Rattle.diagram.specs.Limits.{maxNodes, maxVariables}
 use Rattle.diagram.specs.Diagram.{size, vars, holds}
-use Rattle.diagram.specs.Verdict.{Outcome, ifAccepted}
+use Rattle.diagram.specs.Verdict.{ifAccepted}
 use Rattle.reduction.specs.Reduce.{reduced}
 use Rattle.pool.specs.Pool.{slotCount, WellFormed, Slot, empty, live, tableOf, slotsOf}
 use Rattle.pool.specs.Answers.{withAdded, withDropped, addOf, dropOf, readFrom}

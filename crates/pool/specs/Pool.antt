@@ -5,14 +5,14 @@
 use Prim.Native.Nat.{ℕ, zero, suc, _-_, _*_, _%_, _≤_, _<_}
 use mathlib.Core.Path.{_≡_}
 use mathlib.Core.Logic.{_⊎_, _≢_}
-use mathlib.Core.Bool.{Bool, cond, not, _&&_, _||_}
+use mathlib.Core.Bool.{Bool, not, _&&_, _||_}
 use mathlib.Core.List.{List, [], _∷_, _++_}
-use lib.ListN.{length, getD, set, replicate}
+use lib.ListN.{length, getD, replicate}
 use lib.Dec.{leb, ltb, eqb}
 use Rattle.diagram.specs.Limits.{maxNodes, maxVariables}
 use Rattle.diagram.specs.Diagram.{varOf, lowOf, highOf, size, vars, walk, Reach, Terminal, InRange, Above}
 use Rattle.diagram.specs.Verdict.{any, isTerminal, isChild, isAbove}
-use Rattle.store.specs.Store.{Node, Built, words, canon, terminals}
+use Rattle.store.specs.Store.{Node, words, canon, terminals}
 use Rattle.reduction.specs.Reduce.{reduced}
 
 abbrev pub slotCount : ℕ

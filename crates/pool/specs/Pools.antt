@@ -1,14 +1,14 @@
 -- What is promised of a pool, in document 02's words (`pools` of proofs/Promised.antt).
-use Prim.Native.Nat.{ℕ, suc, _≤_, _<_}
+use Prim.Native.Nat.{ℕ, _≤_, _<_}
 use mathlib.Core.Path.{_≡_}
-use mathlib.Core.Logic.{_↔_, _≢_}
+use mathlib.Core.Logic.{_↔_}
 use mathlib.Core.Bool.{Bool, true}
 use mathlib.Core.List.{List, [], _∷_}
 use lib.ListN.{length, getD, set}
 use Rattle.diagram.specs.Limits.{maxNodes, maxVariables}
 use Rattle.diagram.specs.Diagram.{size, vars, holds, Accepted, Ordered}
 use Rattle.diagram.specs.Verdict.{accepted, refused, roomOf}
-use Rattle.reduction.specs.Reduce.{reduce, reduced}
+use Rattle.reduction.specs.Reduce.{reduced}
 use Rattle.pool.specs.Pool.{slotCount, Live, WellFormed, isPool, holdsFrom, Slot, empty, live, held, needs, tableOf, slotsOf}
 use Rattle.pool.specs.Answers.{withAdded, withDropped, addOf, dropOf, readOf, readFrom}
 

@@ -1,7 +1,6 @@
 -- All conditions of a pool built anew: how it begins, the diagram that is put among them, and each of the returns.
 use Prim.Native.Nat.{ℕ, zero, suc, _+_, _-_, _*_, _/_, _≤_, _<_, min}
 use mathlib.Core.Path.{_≡_, refl, sym, ap, _∙_, subst}
-use mathlib.Core.Logic.{_≢_}
 use mathlib.Core.Bool.{Bool}
 use mathlib.Core.List.{List, [], _∷_, _++_, append-assoc, append-nil}
 use native.Mathlib.Omega.{arith}
@@ -12,17 +11,17 @@ use Rattle.diagram.specs.Limits.{maxNodes}
 use Rattle.diagram.specs.Diagram.{size, vars, root, holds, Ordered}
 use Rattle.diagram.proofs.Reading.{layered, root-in}
 use Rattle.store.specs.Store.{Node, Built, terminals}
-use Rattle.store.specs.Build.{Sound, own}
-use Rattle.store.specs.Room.{memoIn, storeWords, Stored, Empty, Started, On, Walking, Arrived, Walked}
+use Rattle.store.specs.Build.{own}
+use Rattle.store.specs.Room.{memoIn, Stored, Empty, Started, On, Walking, Walked}
 use Rattle.store.proofs.Sound.{sound-terminals}
 use Rattle.store.proofs.Graph.{own-means, own-extends}
 use Rattle.store.proofs.Tables.{memo-start, memo-same, memo-grown}
 use Rattle.store.proofs.Joining.{stands}
-use Rattle.pool.specs.Pool.{slotCount, holdsFrom, Slot, live, slotOf, held, placed, named, gather, names, needs, slotsOf}
+use Rattle.pool.specs.Pool.{slotCount, holdsFrom, Slot, live, held, placed, named, gather, names, needs, slotsOf}
 use Rattle.pool.proofs.Walked.{holds-root, canon-own}
 use Rattle.pool.proofs.Gathered.{held-length, held-take, held-drop, placed-live, named-live, placed-extends, gather-append, gather-cons, gather-grows, names-append, names-cons, names-length, needs-is, slots-are}
 use Rattle.store.proofs.Store.{extends-length}
-use Rattle.pool_build.specs.Work.{storeFrom, tableMemo, diagramMemo, workWords, built, Standing, Onward, Behind, Naming, Gathered, Adding, AddedTo, Begun, Composed}
+use Rattle.pool_build.specs.Work.{storeFrom, tableMemo, diagramMemo, built, Standing, Behind, Naming, Gathered, Adding, AddedTo, Begun, Composed}
 use Rattle.pool_build.proofs.Gathering.{stands-there}
 
 -- ---- a diagram among the conditions

@@ -1,10 +1,10 @@
 -- Reading a condition: built in a room of any contents, copied where the output has place for it, and cleared away.
-use Prim.Native.Nat.{ℕ, zero, suc, _+_, _-_, _*_, _≤_, _<_, min, max}
+use Prim.Native.Nat.{ℕ, suc, _+_, _-_, _*_, _≤_, _<_, min}
 use mathlib.Core.Path.{_≡_, refl, sym, ap, _∙_, subst}
-use mathlib.Core.Bool.{Bool, true, false, cond}
+use mathlib.Core.Bool.{cond}
 use mathlib.Core.List.{List, _++_}
 use native.Mathlib.Omega.{arith}
-use lib.ListN.{length, getD, take, drop, replicate, length-append, length-drop, length-replicate, take-append-drop, List·getD-append}
+use lib.ListN.{length, getD, take, drop, replicate, length-drop, take-append-drop, List·getD-append}
 use lib.Seq.{getD-drop, length-take-le}
 use lib.Dec.{ltb, leb}
 use borrow.Author.Tests.{lt-ltb, le-ltb, le-leb}
@@ -16,10 +16,10 @@ use Rattle.diagram.proofs.Tests.{by-test}
 use Rattle.diagram.proofs.Words.{zeros-whole}
 use Rattle.diagram.specs.declared.verdict.Verdict.{Verdict}
 use Rattle.diagram.specs.declared.verdict.Verdict.the-variants.{Accepted, Refused}
-use Rattle.store.specs.Store.{Node, words, Built, terminals}
+use Rattle.store.specs.Store.{words, Built, terminals}
 use Rattle.store.specs.Build.{Held, own}
-use Rattle.store.specs.Room.{storeTo, wordIn, memoIn, storeIn, Stored, Empty, Started, On, Walking, Arrived, Walked}
-use Rattle.store.proofs.Store.{length-words, size-words}
+use Rattle.store.specs.Room.{storeTo, wordIn, memoIn, storeIn, Stored, Empty, Started, On, Walking, Walked}
+use Rattle.store.proofs.Store.{length-words}
 use Rattle.store.proofs.Sound.{sound-terminals}
 use Rattle.store.proofs.Graph.{own-means}
 use Rattle.store.proofs.Tables.{take-words, memo-start}
@@ -29,7 +29,6 @@ use Rattle.reduction.specs.Room.{Copied}
 use Rattle.reduction.proofs.Answering.{copied-front}
 use Rattle.reduction.proofs.Count.{count-nodes}
 use Rattle.reduction.proofs.Fewest.{own-fits, all-closed}
-use Rattle.pool.specs.Pool.{holdsFrom}
 use Rattle.pool.specs.Walked.{walkedWords}
 use Rattle.pool.proofs.Walked.{walked-ordered, walked-vars, walked-size, walked-names, walked-holds, canon-own}
 use Rattle.pool_build.specs.Work.{answerOf, Making, Made, Given, Fetching, fetchOf, Fetched}

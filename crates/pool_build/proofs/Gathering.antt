@@ -1,6 +1,6 @@
 -- The conditions of the slots, one after the other: each of the returns of the two functions that build them.
-use Prim.Native.Nat.{ℕ, suc, _+_, _-_, _*_, _≤_, _<_, min}
-use mathlib.Core.Path.{_≡_, refl, sym, ap, _∙_, subst}
+use Prim.Native.Nat.{ℕ, suc, _+_, _-_, _≤_, _<_, min}
+use mathlib.Core.Path.{_≡_, refl, sym, ap, _∙_}
 use mathlib.Core.Logic.{_≢_}
 use mathlib.Core.List.{List, [], _∷_, _++_, append-assoc}
 use native.Mathlib.Omega.{arith}
@@ -12,7 +12,7 @@ use Rattle.diagram.specs.Diagram.{size, vars}
 use Rattle.diagram.proofs.Reading.{layered}
 use Rattle.store.specs.Store.{Node, Built}
 use Rattle.store.specs.Build.{own}
-use Rattle.store.specs.Room.{wordIn, On, Walking, Arrived, Walked}
+use Rattle.store.specs.Room.{wordIn, Walking, Walked}
 use Rattle.store.proofs.Graph.{own-means}
 use Rattle.store.proofs.Tables.{nodes-length}
 use Rattle.store.proofs.Joining.{stands}
@@ -21,7 +21,7 @@ use Rattle.pool.specs.Walked.{walkedWords}
 use Rattle.pool.specs.Pool.{terminalWords, Slot, slotOf, held, placed, named, gather, names}
 use Rattle.pool.proofs.Walked.{canon-own}
 use Rattle.pool.proofs.Gathered.{slot-empty, slot-live, held-cons, held-nil, placed-empty, placed-live, named-empty, named-live, gather-nil, gather-cons, gather-grows, names-nil, names-cons}
-use Rattle.pool_build.specs.Work.{storeFrom, tableMemo, diagramMemo, built, Standing, Onward, Behind, Naming, Slotted, Gathered}
+use Rattle.pool_build.specs.Work.{storeFrom, tableMemo, built, Standing, Behind, Naming, Slotted, Gathered}
 
 -- ---- the part that is walked
 

@@ -1,12 +1,11 @@
 -- What was built takes the place of what was there.
 use Prim.Native.Nat.{ℕ, zero, suc, _+_, _-_, _*_, _/_, _≤_, _<_, min}
 use mathlib.Core.Path.{_≡_, refl, sym, ap, _∙_, subst}
-use mathlib.Core.List.{List, [], _∷_, _++_, append-nil}
+use mathlib.Core.List.{List, _++_}
 use native.Mathlib.Omega.{arith}
-use lib.ListN.{length, getD, set, take, drop, replicate, length-set, length-replicate, take-append-drop, drop-of-length-le, getD-replicate}
-use lib.Seq.{take-all, take-length, length-take-le, getD-set-same, getD-set-other}
+use lib.ListN.{length, getD, set, take, drop, replicate, length-set, length-replicate, take-append-drop}
+use lib.Seq.{take-all, take-length, getD-set-same, getD-set-other}
 use borrow.Author.Tests.{eq-eqb, ne-eqb}
-use Rattle.diagram.specs.Limits.{maxNodes}
 use Rattle.diagram.specs.Diagram.{size, vars, holds, Ordered}
 use Rattle.diagram.proofs.Tests.{by-eq}
 use Rattle.diagram.proofs.Words.{zeros-whole}
@@ -15,13 +14,13 @@ use Rattle.store.specs.Room.{wordIn}
 use Rattle.store.proofs.Tables.{take-words}
 use Rattle.reduction.specs.Room.{Copied}
 use Rattle.reduction.proofs.Answering.{copied-front}
-use Rattle.pool.specs.Pool.{slotCount, terminalWords, Live, WellFormed, Slot, empty, live, held, gather, needs, tableOf, slotsOf}
+use Rattle.pool.specs.Pool.{slotCount, terminalWords, WellFormed, Slot, live, held, gather, needs, tableOf, slotsOf}
 use Rattle.pool.specs.Answers.{withAdded, withDropped}
 use Rattle.pool.specs.Walked.{walkedWords, walked}
 use Rattle.pool.proofs.Walked.{walked-ordered, walked-vars, walked-names, walked-held}
 use Rattle.pool.proofs.Gathered.{held-dropped, needs-is}
 use Rattle.pool.proofs.Fewest.{dropped-fit}
-use Rattle.pool_build.specs.Work.{storeFrom, workWords, Standing, Naming, Begun, Composed, Handing, HandedBack, Blank, Replaced, Puts}
+use Rattle.pool_build.specs.Work.{storeFrom, workWords, Standing, Begun, Composed, Handing, HandedBack, Blank, Replaced, Puts}
 
 -- ---- handing back
 

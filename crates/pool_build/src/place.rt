@@ -14,11 +14,11 @@ use store::shelf::start;
 use store::walk::build;
 ghost use mathlib.Core.Path.{_≡_};
 ghost use Prim.Native.Nat.{_<_};
-ghost use lib.ListN.{length, set};
+ghost use lib.ListN.{set};
 ghost use Rattle.diagram.specs.Diagram.{vars as varsOf, holds, Ordered};
 ghost use Rattle.pool.specs.Pool.{slotCount, live, held};
 ghost use Rattle.pool.specs.Answers.{withAdded};
-ghost use Rattle.pool_build.specs.Work.{workWords, built, Adding, AddedTo, Begun, Composed, Replaced, Puts, Blank};
+ghost use Rattle.pool_build.specs.Work.{Adding, AddedTo, Begun, Composed, Replaced, Puts, Blank};
 
 // Builds the diagram's condition and notes its root for the slot, unless the store is full.
 fn build_diagram(

@@ -1,30 +1,30 @@
 -- Each of the returns of the operations on a pool.
-use Prim.Native.Nat.{ℕ, suc, _-_, _*_, _≤_, _<_, max}
-use mathlib.Core.Path.{_≡_, refl, sym, ap, _∙_, subst}
+use Prim.Native.Nat.{ℕ, _-_, _*_, _≤_, _<_}
+use mathlib.Core.Path.{_≡_, refl, sym, ap, _∙_}
 use mathlib.Core.Logic.{_≢_}
-use mathlib.Core.Bool.{Bool, true, false, cond}
+use mathlib.Core.Bool.{true, false}
 use mathlib.Core.List.{List, _++_}
 use native.Mathlib.Omega.{arith}
-use lib.ListN.{length, getD, take, drop, replicate}
+use lib.ListN.{length, getD, take, drop}
 use lib.Seq.{length-take-le}
 use lib.Dec.{ltb, leb, eqb}
 use borrow.Author.Tests.{lt-ltb, le-ltb, leb-true, leb-false, eqb-true, eqb-false}
 use Rattle.diagram.specs.Limits.{maxNodes, roomPerNode}
-use Rattle.diagram.specs.Diagram.{size, vars, Ordered}
-use Rattle.diagram.specs.Verdict.{Outcome, accepted, refused, said, row, andThen, ifAccepted, roomOf, cleared, roomAfter, outputAfter, Checked}
+use Rattle.diagram.specs.Diagram.{size, vars}
+use Rattle.diagram.specs.Verdict.{Outcome, accepted, refused, said, row, andThen, roomOf, outputAfter, Checked}
 use Rattle.diagram.specs.declared.verdict.Output.the-variants.{Nothing}
 use Rattle.diagram.specs.declared.verdict.Verdict.{Verdict}
 use Rattle.diagram.specs.declared.verdict.Verdict.the-variants.{Accepted, Refused}
-use Rattle.diagram.proofs.Tests.{by-test, cond-true, cond-false}
+use Rattle.diagram.proofs.Tests.{by-test}
 use Rattle.diagram.proofs.Outcomes.{same-counts, never-both}
 use Rattle.diagram.proofs.Words.{front-cleared}
 use Rattle.diagram.proofs.Entering.{refusal-is, verdict-is, ordered}
-use Rattle.pool.specs.Pool.{slotCount, Live, WellFormed, isPool, needs, tableOf, slotsOf}
-use Rattle.pool.specs.Answers.{withAdded, withDropped, readFrom, placeOf, addOf, liveOf, dropOf, roomedOf, readOf, Adds, Drops, Reads}
+use Rattle.pool.specs.Pool.{slotCount, Live, WellFormed, isPool, needs}
+use Rattle.pool.specs.Answers.{withAdded, withDropped, readFrom, placeOf, liveOf, dropOf, roomedOf, readOf, Adds, Drops, Reads}
 use Rattle.pool.proofs.Testing.{pool-told}
 use Rattle.pool.proofs.Fewest.{dropped-fit}
 use Rattle.pool.proofs.Tables.{read-is}
-use Rattle.pool.proofs.Rows.{no-slot, slot-taken, other-vars, slot-ready, roomVerdict, room-over, room-fits, add-no-pool, add-own, add-slot, live-no-pool, live-no-slot, live-empty, live-there, row-on, row-off}
+use Rattle.pool.proofs.Rows.{slot-ready, roomVerdict, room-over, room-fits, add-no-pool, add-own, add-slot, live-no-pool, live-no-slot, live-empty, live-there, row-on, row-off}
 use Rattle.pool_build.specs.Work.{Replaced, Puts, answerOf, fetchOf, Fetching, Fetched}
 use Rattle.pool_calls.specs.Calls.{Addable, Placing, AddsTo}
 

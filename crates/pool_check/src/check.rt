@@ -11,7 +11,6 @@ use diagram::terminals::is_terminal_node;
 use pool::SLOTS;
 use pool::TERMINAL_WORDS;
 ghost use mathlib.Core.Path.{_≡_};
-ghost use lib.ListN.{length};
 ghost use Rattle.pool.specs.Pool.{isMeasured, isEnded, isPool};
 
 // Whole places, of which two are the terminals, and as many slots as there must be.

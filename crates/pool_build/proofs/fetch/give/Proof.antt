@@ -3,31 +3,22 @@ use native.Mathlib.Omega.{arith}
 use borrow.Author.Needs.{needs}
 use Rattle.pool_build.proofs.fetch.give.Statement.{statement}
 use Rattle.pool_build.proofs.fetch.give.Tie as tie
-use Rattle.pool_build.proofs.fetch.give.Reads as reads
-use Rattle.pool_build.proofs.fetch.give.Lts as lts
-use Rattle.reduction.proofs.answer.copy.Reads as copy-reads
 
--- src/fetch.rt:35:23
 mul-if1 : tie.Need-mul-if1
 mul-if1 c = omega (arith, c .before .before .pre .1)
 
--- src/fetch.rt:36:9
 returns : tie.Need-returns
 returns c = give-short (c .if1 .taken)
 
--- src/fetch.rt:41:32
 mul-copy : tie.Need-mul-copy
 mul-copy c = omega (arith, c .before .before .before .before .pre .1)
 
--- src/fetch.rt:41:5
 copy-requires : tie.Need-copy-requires
 copy-requires c κs = (c .before .before .before .before .pre .0, c .before .if1 .left)
 
--- src/fetch.rt:31:1
 same-length : tie.Need-same-length
 same-length c = search needs
 
--- src/fetch.rt:31:1
 returns-2 : tie.Need-returns-2
 returns-2 c = give-all (c .before .before .before .before .if1 .left) (c .before .before .before .before .before .before .before .pre .0) (c .before .before .copy .kept .1 .1 .0) (c .before .before .copy .ensures)
 

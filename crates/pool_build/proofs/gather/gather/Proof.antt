@@ -6,9 +6,6 @@ use borrow.Author.Needs.{needs}
 use native.Mathlib.Omega.{arith}
 use Rattle.pool_build.proofs.gather.gather.Statement.{statement}
 use Rattle.pool_build.proofs.gather.gather.Tie as tie
-use Rattle.pool_build.proofs.gather.gather.Reads as reads
-use Rattle.pool_build.proofs.gather.gather.Lts as lts
-use Rattle.pool_build.proofs.gather.gather_slot.Reads as gather-slot-reads
 
 abbrev Inv-loop : tie.InvT-loop
 Inv-loop table names₀ work₀ capacity count from to k₀ made₀ names work k made = Looping table capacity from to names₀ work₀ count k made names work × (length names ≡ length names₀) × (length work ≡ length work₀)
@@ -16,47 +13,36 @@ Inv-loop table names₀ work₀ capacity count from to k₀ made₀ names work k
 abbrev μ-loop : tie.MeasureT-loop
 μ-loop table names₀ work₀ capacity count from to k₀ made₀ names work k made = to - k
 
--- src/gather.rt:83:5
 loop-holds : tie.Need-loop-holds Inv-loop μ-loop
 loop-holds c = (loop-begins (c .before .before .before .pre .0) (c .before .before .before .pre .1), refl, refl)
 
--- src/gather.rt:84:9
 gather-slot-requires : tie.Need-gather-slot-requires Inv-loop μ-loop
 gather-slot-requires c κs = (c .before .before .before .loop .inv .0 .standing, loop-names (c .before .before .before .loop .inv .0) (c .before .before .loop-test .taken))
 
--- src/gather.rt:86:13
 same-length : tie.Need-same-length Inv-loop μ-loop
 same-length c = search needs
 
--- src/gather.rt:86:13
 same-length-2 : tie.Need-same-length-2 Inv-loop μ-loop
 same-length-2 c = search needs
 
--- src/gather.rt:86:13
 returns : tie.Need-returns Inv-loop μ-loop
 returns c = loop-full (c .before .before .before .before .before .before .before .before .before .loop .inv .0) (c .before .before .before .before .before .before .before .before .loop-test .taken) (c .before .before .before .before .before .gather-slot .ensures) (c .if1 .taken)
 
--- src/gather.rt:88:9
 add-k : tie.Need-add-k Inv-loop μ-loop
 add-k c = omega (arith, c .before .before .before .before .before .before .before .before .loop-test .taken)
 
--- src/gather.rt:83:5
 loop-less : tie.Need-loop-less Inv-loop μ-loop
 loop-less c = omega (arith, c .before .before .before .before .before .before .before .before .loop-test .taken)
 
--- src/gather.rt:83:5
 loop-again : tie.Need-loop-again Inv-loop μ-loop
 loop-again c = (loop-goes (c .before .before .before .before .before .before .before .before .before .loop .inv .0) (c .before .before .before .before .before .before .before .before .loop-test .taken) (c .before .before .before .before .before .gather-slot .ensures) (c .if1 .left), c .before .before .before .before .before .gather-slot .kept .1 .0 ∙ c .before .before .before .before .before .before .before .before .before .loop .inv .1, c .before .before .before .before .before .gather-slot .kept .1 .1 .0 ∙ c .before .before .before .before .before .before .before .before .before .loop .inv .2)
 
--- src/gather.rt:69:1
 same-length-3 : tie.Need-same-length-3 Inv-loop μ-loop
 same-length-3 c = search needs
 
--- src/gather.rt:69:1
 same-length-4 : tie.Need-same-length-4 Inv-loop μ-loop
 same-length-4 c = search needs
 
--- src/gather.rt:69:1
 returns-2 : tie.Need-returns-2 Inv-loop μ-loop
 returns-2 c = loop-ends (c .before .loop .inv .0) (let up = c .before .loop .inv .0 .naming .up in let stop = c .loop-test .left in omega arith)
 

@@ -4,36 +4,25 @@ use native.Mathlib.Omega.{arith}
 use borrow.Author.Needs.{needs}
 use Rattle.pool_build.proofs.gather.hand_back.Statement.{statement}
 use Rattle.pool_build.proofs.gather.hand_back.Tie as tie
-use Rattle.pool_build.proofs.gather.hand_back.Reads as reads
-use Rattle.pool_build.proofs.gather.hand_back.Lts as lts
-use Rattle.diagram.proofs.room.clear.Reads as clear-reads
-use Rattle.reduction.proofs.answer.copy.Reads as copy-reads
 
--- src/gather.rt:108:5
 clear-requires : tie.Need-clear-requires
 clear-requires c κs = search needs
 
--- src/gather.rt:109:30
 mul-copy : tie.Need-mul-copy
 mul-copy c = omega (arith, c .before .before .before .before .before .before .before .before .before .pre .few)
 
--- src/gather.rt:109:5
 copy-requires : tie.Need-copy-requires
 copy-requires c κs = (omega (arith, c .before .before .before .before .before .before .before .before .before .pre .store), omega (arith, c .before .before .before .before .before .before .before .before .before .pre .fits, c .before .before .before .clear .kept .0))
 
--- src/gather.rt:110:5
 copy-requires-2 : tie.Need-copy-requires-2
 copy-requires-2 c κs = (omega (arith, c .before .before .before .before .before .before .before .before .before .before .before .before .before .pre .names), omega (arith, c .before .before .before .before .before .before .before .before .before .before .before .before .before .pre .slots))
 
--- src/gather.rt:97:1
 same-length : tie.Need-same-length
 same-length c = search needs
 
--- src/gather.rt:97:1
 same-length-2 : tie.Need-same-length-2
 same-length-2 c = search needs
 
--- src/gather.rt:97:1
 returns : tie.Need-returns
 returns c = handed-back (c .before .before .before .before .before .before .before .before .before .before .before .before .before .before .before .before .pre) (c .before .before .before .before .before .before .before .before .before .before .clear .ensures) (c .before .before .before .before .before .before .copy .kept .1 .1 .0 ∙ c .before .before .before .before .before .before .before .before .before .before .clear .kept .0) (c .before .before .before .before .before .before .copy .ensures) (c .before .before .copy2 .kept .1 .1 .0) (c .before .before .copy2 .ensures)
 

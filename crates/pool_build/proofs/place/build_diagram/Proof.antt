@@ -5,40 +5,28 @@ use native.Mathlib.Omega.{arith}
 use borrow.Author.Needs.{needs}
 use Rattle.pool_build.proofs.place.build_diagram.Statement.{statement}
 use Rattle.pool_build.proofs.place.build_diagram.Tie as tie
-use Rattle.pool_build.proofs.place.build_diagram.Reads as reads
-use Rattle.pool_build.proofs.place.build_diagram.Lts as lts
-use Rattle.diagram.proofs.room.put.Reads as put-reads
-use Rattle.store.proofs.walk.build.Reads as build-reads
 
--- src/place.rt:36:28
 sub-put : tie.Need-sub-put
 sub-put c = omega (arith, diagram-some (c .before .before .before .before .pre))
 
--- src/place.rt:36:27
 cast-put : tie.Need-cast-put
 cast-put c = omega (arith, diagram-few (c .before .before .before .before .pre))
 
--- src/place.rt:37:9
 build-requires : tie.Need-build-requires
 build-requires c κs = diagram-walks (c .before .before .before .before .before .pre) refl
 
--- src/place.rt:38:22
 add-put : tie.Need-add-put
 add-put c = omega (arith, diagram-small (c .before .before .before .before .before .before .before .before .before .before .pre) refl (c .before .before .before .before .build .ensures))
 
--- src/place.rt:38:5
 put-requires : tie.Need-put-requires
 put-requires c κs = search needs
 
--- src/place.rt:24:1
 same-length : tie.Need-same-length
 same-length c = search needs
 
--- src/place.rt:24:1
 same-length-2 : tie.Need-same-length-2
 same-length-2 c = search needs
 
--- src/place.rt:24:1
 returns : tie.Need-returns
 returns c = diagram-goes (c .before .before .before .before .before .before .before .before .before .before .before .before .before .pre) refl (c .before .before .before .before .before .before .before .build .ensures) (c .before .before .before .before .before .before .before .before .before .before .before .before .before .args .slot) (now (c .before .before .before .before .before .before .before .before .before .before .before .before .before .args .names)) (c .before .before .put .ensures) (c .before .before .before .before .before .before .before .build .kept .1 .0)
 

@@ -4,70 +4,49 @@ use native.Mathlib.Omega.{arith}
 use borrow.Author.Needs.{needs}
 use Rattle.pool_build.proofs.place.compose.Statement.{statement}
 use Rattle.pool_build.proofs.place.compose.Tie as tie
-use Rattle.pool_build.proofs.place.compose.Reads as reads
-use Rattle.pool_build.proofs.place.compose.Lts as lts
-use Rattle.diagram.proofs.node.word.Reads as word-reads
-use Rattle.pool_build.proofs.gather.gather.Reads as gather-reads
-use Rattle.pool_build.proofs.place.build_diagram.Reads as build-diagram-reads
-use Rattle.store.proofs.shelf.start.Reads as start-reads
 
--- src/place.rt:54:34
 word-requires : tie.Need-word-requires
 word-requires c κs = search needs
 
--- src/place.rt:54:5
 start-requires : tie.Need-start-requires
 start-requires c κs = begin-empty (c .before .before .before .before .before .before .pre .0)
 
--- src/place.rt:55:9
 gather-requires : tie.Need-gather-requires
 gather-requires c κs = (begin-standing (c .before .before .before .before .before .before .before .before .before .before .before .pre .0) (c .before .before .before .before .before .word .ensures) (c .before .before .before .before .start .ensures) (c .before .before .before .before .start .kept .0), begin-names (c .before .before .before .before .before .before .before .before .before .before .before .pre .0) (c .before .before .before .before .before .word .ensures) (c .before .before .before .before .start .ensures) (c .before .before .before .before .start .kept .0) (c .before .before .before .before .before .before .before .before .before .before .before .args .slot) (let h = c .before .before .before .before .before .before .before .before .before .before .before .pre .1 in omega arith))
 
--- src/place.rt:57:9
 same-length : tie.Need-same-length
 same-length c = search needs
 
--- src/place.rt:57:9
 same-length-2 : tie.Need-same-length-2
 same-length-2 c = search needs
 
--- src/place.rt:57:9
 returns : tie.Need-returns
 returns c = front-full (c .before .before .before .before .before .before .before .before .before .before .before .before .before .before .before .before .before .pre .0) (c .before .before .before .before .before .before .before .before .before .before .before .word .ensures) (c .before .before .before .before .before .before .before .before .before .before .start .ensures) (c .before .before .before .before .before .before .before .before .before .before .start .kept .0) (c .before .before .before .before .before .before .before .before .before .before .before .before .before .before .before .before .before .pre .1) (c .before .before .before .before .before .before .before .before .before .before .before .before .before .before .before .before .before .pre .2) (c .before .before .before .before .before .before .before .before .before .before .before .before .before .before .before .before .before .pre .3) (c .before .before .before .before .before .gather .ensures) (c .if1 .taken)
 
--- src/place.rt:59:9
 build-diagram-requires : tie.Need-build-diagram-requires
 build-diagram-requires c κs = diagram-next (c .before .before .before .before .before .before .before .before .before .before .before .before .before .before .before .before .before .before .before .pre .0) (c .before .before .before .before .before .before .before .before .before .before .before .before .before .word .ensures) (c .before .before .before .before .before .before .before .before .before .before .before .before .start .ensures) (c .before .before .before .before .before .before .before .before .before .before .before .before .start .kept .0) (c .before .before .before .before .before .before .before .before .before .before .before .before .before .before .before .before .before .before .before .pre .1) (c .before .before .before .before .before .before .before .before .before .before .before .before .before .before .before .before .before .before .before .pre .2) (c .before .before .before .before .before .before .before .before .before .before .before .before .before .before .before .before .before .before .before .pre .3) (c .before .before .before .before .before .before .before .gather .ensures) (c .before .before .if1 .left) (c .before .before .before .before .before .before .before .gather .kept .1 .1 .0 ∙ c .before .before .before .before .before .before .before .before .before .before .before .before .start .kept .0)
 
--- src/place.rt:61:9
 same-length-3 : tie.Need-same-length-3
 same-length-3 c = search needs
 
--- src/place.rt:61:9
 same-length-4 : tie.Need-same-length-4
 same-length-4 c = search needs
 
--- src/place.rt:61:9
 returns-2 : tie.Need-returns-2
 returns-2 c = middle-full (c .before .before .before .before .before .before .before .before .before .before .before .before .before .before .before .before .before .before .before .before .before .before .before .before .before .pre .0) (c .before .before .before .before .before .before .before .before .before .before .before .before .before .before .before .before .before .before .before .word .ensures) (c .before .before .before .before .before .before .before .before .before .before .before .before .before .before .before .before .before .before .start .ensures) (c .before .before .before .before .before .before .before .before .before .before .before .before .before .before .before .before .before .before .start .kept .0) (c .before .before .before .before .before .before .before .before .before .before .before .before .before .before .before .before .before .before .before .before .before .before .before .before .before .pre .1) (c .before .before .before .before .before .before .before .before .before .before .before .before .before .before .before .before .before .before .before .before .before .before .before .before .before .pre .2) (c .before .before .before .before .before .before .before .before .before .before .before .before .before .before .before .before .before .before .before .before .before .before .before .before .before .pre .3) (c .before .before .before .before .before .before .before .before .before .before .before .before .before .gather .ensures) (c .before .before .before .before .before .before .before .before .if1 .left) (c .before .before .before .before .before .before .before .before .before .before .before .before .before .gather .kept .1 .1 .0 ∙ c .before .before .before .before .before .before .before .before .before .before .before .before .before .before .before .before .before .before .start .kept .0) (c .before .before .before .before .before .build-diagram .ensures) (c .if2 .taken)
 
--- src/place.rt:63:48
 add-gather : tie.Need-add-gather
 add-gather c = omega (arith, c .before .before .before .before .before .before .before .before .before .before .before .before .before .before .before .before .before .before .before .before .before .before .before .before .before .before .before .pre .1)
 
--- src/place.rt:63:5
 gather-requires-2 : tie.Need-gather-requires-2
 gather-requires-2 c κs = (back-standing (c .before .before .before .before .before .before .before .before .before .before .before .before .before .before .before .before .before .before .before .before .before .before .before .before .before .before .before .pre .0) (c .before .before .before .before .before .before .before .before .before .before .before .before .before .before .before .before .before .before .before .before .before .word .ensures) (c .before .before .before .before .before .before .before .before .before .before .before .before .before .before .before .before .before .before .before .before .start .ensures) (c .before .before .before .before .before .before .before .before .before .before .before .before .before .before .before .before .before .before .before .before .start .kept .0) (c .before .before .before .before .before .before .before .before .before .before .before .before .before .before .before .before .before .before .before .before .before .before .before .before .before .before .before .pre .1) (c .before .before .before .before .before .before .before .before .before .before .before .before .before .before .before .before .before .before .before .before .before .before .before .before .before .before .before .pre .2) (c .before .before .before .before .before .before .before .before .before .before .before .before .before .before .before .before .before .before .before .before .before .before .before .before .before .before .before .pre .3) (c .before .before .before .before .before .before .before .before .before .before .before .before .before .before .before .gather .ensures) (c .before .before .before .before .before .before .before .before .before .before .if1 .left) (c .before .before .before .before .before .before .before .before .before .before .before .before .before .before .before .gather .kept .1 .1 .0 ∙ c .before .before .before .before .before .before .before .before .before .before .before .before .before .before .before .before .before .before .before .before .start .kept .0) (c .before .before .before .before .before .before .before .build-diagram .ensures) (c .before .before .if2 .left), back-names (c .before .before .before .before .before .before .before .before .before .before .before .before .before .before .before .before .before .before .before .before .before .before .before .before .before .before .before .pre .0) (c .before .before .before .before .before .before .before .before .before .before .before .before .before .before .before .before .before .before .before .before .before .word .ensures) (c .before .before .before .before .before .before .before .before .before .before .before .before .before .before .before .before .before .before .before .before .start .ensures) (c .before .before .before .before .before .before .before .before .before .before .before .before .before .before .before .before .before .before .before .before .start .kept .0) (c .before .before .before .before .before .before .before .before .before .before .before .before .before .before .before .before .before .before .before .before .before .before .before .before .before .before .before .pre .1) (c .before .before .before .before .before .before .before .before .before .before .before .before .before .before .before .before .before .before .before .before .before .before .before .before .before .before .before .pre .2) (c .before .before .before .before .before .before .before .before .before .before .before .before .before .before .before .before .before .before .before .before .before .before .before .before .before .before .before .pre .3) (c .before .before .before .before .before .before .before .before .before .before .before .before .before .before .before .gather .ensures) (c .before .before .before .before .before .before .before .before .before .before .if1 .left) (c .before .before .before .before .before .before .before .before .before .before .before .before .before .before .before .gather .kept .1 .1 .0 ∙ c .before .before .before .before .before .before .before .before .before .before .before .before .before .before .before .before .before .before .before .before .start .kept .0) (c .before .before .before .before .before .before .before .build-diagram .ensures) (c .before .before .if2 .left) refl)
 
--- src/place.rt:43:1
 same-length-5 : tie.Need-same-length-5
 same-length-5 c = search needs
 
--- src/place.rt:43:1
 same-length-6 : tie.Need-same-length-6
 same-length-6 c = search needs
 
--- src/place.rt:43:1
 returns-3 : tie.Need-returns-3
 returns-3 c = back-ends (c .before .before .before .before .before .before .before .before .before .before .before .before .before .before .before .before .before .before .before .before .before .before .before .before .before .before .before .before .before .before .before .before .pre .0) (c .before .before .before .before .before .before .before .before .before .before .before .before .before .before .before .before .before .before .before .before .before .before .before .before .before .before .word .ensures) (c .before .before .before .before .before .before .before .before .before .before .before .before .before .before .before .before .before .before .before .before .before .before .before .before .before .start .ensures) (c .before .before .before .before .before .before .before .before .before .before .before .before .before .before .before .before .before .before .before .before .before .before .before .before .before .start .kept .0) (c .before .before .before .before .before .before .before .before .before .before .before .before .before .before .before .before .before .before .before .before .before .before .before .before .before .before .before .before .before .before .before .before .pre .1) (c .before .before .before .before .before .before .before .before .before .before .before .before .before .before .before .before .before .before .before .before .before .before .before .before .before .before .before .before .before .before .before .before .pre .2) (c .before .before .before .before .before .before .before .before .before .before .before .before .before .before .before .before .before .before .before .before .before .before .before .before .before .before .before .before .before .before .before .before .pre .3) (c .before .before .before .before .before .before .before .before .before .before .before .before .before .before .before .before .before .before .before .before .gather .ensures) (c .before .before .before .before .before .before .before .before .before .before .before .before .before .before .before .if1 .left) (c .before .before .before .before .before .before .before .before .before .before .before .before .before .before .before .before .before .before .before .before .gather .kept .1 .1 .0 ∙ c .before .before .before .before .before .before .before .before .before .before .before .before .before .before .before .before .before .before .before .before .before .before .before .before .before .start .kept .0) (c .before .before .before .before .before .before .before .before .before .before .before .before .build-diagram .ensures) (c .before .before .before .before .before .before .before .if2 .left) refl (c .before .before .before .before .gather2 .ensures)
 

@@ -6,74 +6,52 @@ use native.Mathlib.Omega.{arith}
 use borrow.Author.Needs.{needs}
 use Rattle.pool_build.proofs.place.place_in.Statement.{statement}
 use Rattle.pool_build.proofs.place.place_in.Tie as tie
-use Rattle.pool_build.proofs.place.place_in.Reads as reads
-use Rattle.pool_build.proofs.place.place_in.Lts as lts
-use Rattle.pool_build.proofs.gather.hand_back.Reads as hand-back-reads
-use Rattle.pool_build.proofs.gather.walked.Reads as walked-reads
-use Rattle.pool_build.proofs.place.compose.Reads as compose-reads
-use Rattle.reduction.proofs.answer.copy.Reads as copy-reads
 
--- src/place.rt:78:9
 walked-requires : tie.Need-walked-requires
 walked-requires c κs = search needs
 
--- src/place.rt:79:5
 copy-requires : tie.Need-copy-requires
 copy-requires c κs = (omega (arith, c .before .before .before .before .before .before .before .before .before .pre .0 .pool .slots), omega (arith, c .before .before .before .before .before .before .before .before .before .pre .1 .slots))
 
--- src/place.rt:80:25
 slice-reshare-prefix-compose : tie.Need-slice-reshare-prefix-compose
 slice-reshare-prefix-compose c = part-fits (c .before .before .before .before .before .before .before .before .before .before .before .before .pre .0 .pool) (c .before .before .before .before .before .walked .ensures)
 
--- src/place.rt:80:25
 slice-aggregate-compose : tie.Need-slice-aggregate-compose
 slice-aggregate-compose c = sym (length-take-le (c .before .before .before .before .before .before .walked .result) (now (c .before .before .before .before .before .before .before .before .before .before .before .before .before .args .table)) (part-fits (c .before .before .before .before .before .before .before .before .before .before .before .before .before .pre .0 .pool) (c .before .before .before .before .before .before .walked .ensures)))
 
--- src/place.rt:80:9
 compose-requires : tie.Need-compose-requires
 compose-requires c κs = put-begun (c .before .before .before .before .before .before .before .before .before .before .before .before .before .before .before .pre .0) (c .before .before .before .before .before .before .before .before .before .before .before .before .before .before .before .pre .1) (c .before .before .before .before .before .before .before .before .walked .ensures) refl (c .before .before .before .before .before .copy .ensures) (c .before .before .before .before .before .copy .kept .1 .1 .0)
 
--- src/place.rt:82:9
 same-length : tie.Need-same-length
 same-length c = search needs
 
--- src/place.rt:82:9
 same-length-2 : tie.Need-same-length-2
 same-length-2 c = search needs
 
--- src/place.rt:82:9
 same-length-3 : tie.Need-same-length-3
 same-length-3 c = search needs
 
--- src/place.rt:82:9
 same-length-4 : tie.Need-same-length-4
 same-length-4 c = search needs
 
--- src/place.rt:82:9
 returns : tie.Need-returns
 returns c = replaced-not (c .before .before .before .before .before .before .before .before .before .before .before .before .before .before .before .before .before .before .before .before .before .pre .0 .pool) (c .before .before .before .before .before .before .before .before .before .before .before .before .before .before .walked .ensures) (put-composed (c .before .before .before .before .before .before .before .before .before .before .before .before .before .before .before .before .before .before .before .before .before .pre .0) (c .before .before .before .before .before .before .before .before .before .before .before .before .before .before .before .before .before .before .before .before .before .pre .1) (c .before .before .before .before .before .before .before .before .before .before .before .before .before .before .walked .ensures) refl (c .before .before .before .before .before .before .before .before .before .before .before .copy .ensures) (c .before .before .before .before .before .before .before .before .before .before .before .copy .kept .1 .1 .0) (c .before .before .before .before .before .compose .ensures)) (c .if1 .taken)
 
--- src/place.rt:84:5
 hand-back-requires : tie.Need-hand-back-requires
 hand-back-requires c κs = handing (c .before .before .before .before .before .before .before .before .before .before .before .before .before .before .before .before .before .before .before .before .before .before .before .before .before .pre .0 .pool) (c .before .before .before .before .before .before .before .before .before .before .before .before .before .before .before .before .before .before .walked .ensures) (put-composed (c .before .before .before .before .before .before .before .before .before .before .before .before .before .before .before .before .before .before .before .before .before .before .before .before .before .pre .0) (c .before .before .before .before .before .before .before .before .before .before .before .before .before .before .before .before .before .before .before .before .before .before .before .before .before .pre .1) (c .before .before .before .before .before .before .before .before .before .before .before .before .before .before .before .before .before .before .walked .ensures) refl (c .before .before .before .before .before .before .before .before .before .before .before .before .before .before .before .copy .ensures) (c .before .before .before .before .before .before .before .before .before .before .before .before .before .before .before .copy .kept .1 .1 .0) (c .before .before .before .before .before .before .before .before .before .compose .ensures)) (c .before .before .before .before .if1 .left) (c .before .before .before .before .before .before .before .before .before .compose .kept .1 .1 .1 .0 ∙ c .before .before .before .before .before .before .before .before .before .before .before .before .before .before .before .before .before .before .before .before .before .before .before .before .before .pre .1 .long) (c .before .before .before .before .before .before .before .before .before .compose .kept .1 .1 .0 ∙ c .before .before .before .before .before .before .before .before .before .before .before .before .before .before .before .copy .kept .1 .1 .0 ∙ c .before .before .before .before .before .before .before .before .before .before .before .before .before .before .before .before .before .before .before .before .before .before .before .before .before .pre .1 .slots)
 
--- src/place.rt:66:1
 same-length-5 : tie.Need-same-length-5
 same-length-5 c = search needs
 
--- src/place.rt:66:1
 same-length-6 : tie.Need-same-length-6
 same-length-6 c = search needs
 
--- src/place.rt:66:1
 same-length-7 : tie.Need-same-length-7
 same-length-7 c = search needs
 
--- src/place.rt:66:1
 same-length-8 : tie.Need-same-length-8
 same-length-8 c = search needs
 
--- src/place.rt:66:1
 returns-2 : tie.Need-returns-2
 returns-2 c = replaced (c .before .before .before .before .before .before .before .before .before .before .before .before .before .before .before .before .before .before .before .before .before .before .before .before .before .before .before .before .before .before .pre .0 .pool) (c .before .before .before .before .before .before .before .before .before .before .before .before .before .before .before .before .before .before .before .before .before .before .before .walked .ensures) (put-composed (c .before .before .before .before .before .before .before .before .before .before .before .before .before .before .before .before .before .before .before .before .before .before .before .before .before .before .before .before .before .before .pre .0) (c .before .before .before .before .before .before .before .before .before .before .before .before .before .before .before .before .before .before .before .before .before .before .before .before .before .before .before .before .before .before .pre .1) (c .before .before .before .before .before .before .before .before .before .before .before .before .before .before .before .before .before .before .before .before .before .before .before .walked .ensures) refl (c .before .before .before .before .before .before .before .before .before .before .before .before .before .before .before .before .before .before .before .before .copy .ensures) (c .before .before .before .before .before .before .before .before .before .before .before .before .before .before .before .before .before .before .before .before .copy .kept .1 .1 .0) (c .before .before .before .before .before .before .before .before .before .before .before .before .before .before .compose .ensures)) (c .before .before .before .before .before .before .before .before .before .if1 .left) (c .before .before .before .before .before .before .before .before .before .before .before .before .before .before .compose .kept .1 .1 .1 .0 ∙ c .before .before .before .before .before .before .before .before .before .before .before .before .before .before .before .before .before .before .before .before .before .before .before .before .before .before .before .before .before .before .pre .1 .long) (c .before .before .before .before .hand-back .ensures)
 

@@ -1,33 +1,23 @@
 use Rattle.pool_build.proofs.Replacing.{blank-lent}
-use native.Mathlib.Omega.{arith}
 use borrow.Author.Needs.{needs}
 use Rattle.pool_build.proofs.remove.remove.Statement.{statement}
 use Rattle.pool_build.proofs.remove.remove.Tie as tie
-use Rattle.pool_build.proofs.remove.remove.Reads as reads
-use Rattle.pool_build.proofs.remove.remove.Lts as lts
-use Rattle.pool_build.proofs.remove.remove_in.Reads as remove-in-reads
 
--- src/remove.rt:50:35
 slice-aggregate-remove-in : tie.Need-slice-aggregate-remove-in
 slice-aggregate-remove-in c = search needs
 
--- src/remove.rt:50:47
 slice-aggregate-remove-in-2 : tie.Need-slice-aggregate-remove-in-2
 slice-aggregate-remove-in-2 c = search needs
 
--- src/remove.rt:50:5
 remove-in-requires : tie.Need-remove-in-requires
 remove-in-requires c κs = (c .before .before .before .before .before .before .pre, blank-lent)
 
--- src/remove.rt:44:1
 same-length : tie.Need-same-length
 same-length c = search needs
 
--- src/remove.rt:44:1
 same-length-2 : tie.Need-same-length-2
 same-length-2 c = search needs
 
--- src/remove.rt:44:1
 returns : tie.Need-returns
 returns c = search needs
 

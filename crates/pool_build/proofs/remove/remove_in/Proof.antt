@@ -6,62 +6,43 @@ use native.Mathlib.Omega.{arith}
 use borrow.Author.Needs.{needs}
 use Rattle.pool_build.proofs.remove.remove_in.Statement.{statement}
 use Rattle.pool_build.proofs.remove.remove_in.Tie as tie
-use Rattle.pool_build.proofs.remove.remove_in.Reads as reads
-use Rattle.pool_build.proofs.remove.remove_in.Lts as lts
-use Rattle.diagram.proofs.room.put.Reads as put-reads
-use Rattle.pool_build.proofs.gather.hand_back.Reads as hand-back-reads
-use Rattle.pool_build.proofs.gather.walked.Reads as walked-reads
-use Rattle.pool_build.proofs.remove.compose_named.Reads as compose-named-reads
-use Rattle.reduction.proofs.answer.copy.Reads as copy-reads
 
--- src/remove.rt:35:9
 walked-requires : tie.Need-walked-requires
 walked-requires c κs = search needs
 
--- src/remove.rt:36:5
 copy-requires : tie.Need-copy-requires
 copy-requires c κs = (omega (arith, c .before .before .before .before .before .before .before .before .pre .0 .slots), omega (arith, c .before .before .before .before .before .before .before .before .pre .1 .slots))
 
--- src/remove.rt:37:5
 put-requires : tie.Need-put-requires
 put-requires c κs = search needs
 
--- src/remove.rt:38:31
 slice-reshare-prefix-compose-named : tie.Need-slice-reshare-prefix-compose-named
 slice-reshare-prefix-compose-named c = part-fits (c .before .before .before .before .before .before .before .before .before .before .before .before .before .before .before .pre .0) (c .before .before .before .before .before .before .before .before .before .walked .ensures)
 
--- src/remove.rt:38:31
 slice-aggregate-compose-named : tie.Need-slice-aggregate-compose-named
 slice-aggregate-compose-named c = sym (length-take-le (c .before .before .before .before .before .before .before .before .before .before .walked .result) (now (c .before .before .before .before .before .before .before .before .before .before .before .before .before .before .before .before .args .table)) (part-fits (c .before .before .before .before .before .before .before .before .before .before .before .before .before .before .before .before .pre .0) (c .before .before .before .before .before .before .before .before .before .before .walked .ensures)))
 
--- src/remove.rt:38:9
 compose-named-requires : tie.Need-compose-named-requires
 compose-named-requires c κs = left-begun (c .before .before .before .before .before .before .before .before .before .before .before .before .before .before .before .before .before .before .pre .0) (c .before .before .before .before .before .before .before .before .before .before .before .before .before .before .before .before .before .before .args .slot) (c .before .before .before .before .before .before .before .before .before .before .before .before .before .before .before .before .before .before .pre .1) (c .before .before .before .before .before .before .before .before .before .before .before .before .walked .ensures) refl (c .before .before .before .before .before .before .before .before .before .copy .ensures) (c .before .before .before .before .before .before .before .before .before .copy .kept .1 .1 .0) (c .before .before .before .before .before .put .ensures)
 
--- src/remove.rt:39:5
 hand-back-requires : tie.Need-hand-back-requires
 hand-back-requires c κs =
     let made = left-composed (c .before .before .before .before .before .before .before .before .before .before .before .before .before .before .before .before .before .before .before .before .before .before .before .before .before .before .before .pre .0) (c .before .before .before .before .before .before .before .before .before .before .before .before .before .before .before .before .before .before .before .before .before .before .before .before .before .before .before .args .slot) (c .before .before .before .before .before .before .before .before .before .before .before .before .before .before .before .before .before .before .before .before .before .before .before .before .before .before .before .pre .1) (c .before .before .before .before .before .before .before .before .before .before .before .before .before .before .before .before .before .before .before .before .before .walked .ensures) refl (c .before .before .before .before .before .before .before .before .before .before .before .before .before .before .before .before .before .before .copy .ensures) (c .before .before .before .before .before .before .before .before .before .before .before .before .before .before .before .before .before .before .copy .kept .1 .1 .0) (c .before .before .before .before .before .before .before .before .before .before .before .before .before .before .put .ensures) (c .before .before .before .before .before .before .before .before .compose-named .ensures) in
     let fits = left-fits (c .before .before .before .before .before .before .before .before .before .before .before .before .before .before .before .before .before .before .before .before .before .before .before .before .before .before .before .pre .0) (c .before .before .before .before .before .before .before .before .before .before .before .before .before .before .before .before .before .before .before .before .before .before .before .before .before .before .before .args .slot) (c .before .before .before .before .before .before .before .before .before .before .before .before .before .before .before .before .before .before .before .before .before .before .before .before .before .before .before .pre .1) (c .before .before .before .before .before .before .before .before .before .before .before .before .before .before .before .before .before .before .before .before .before .walked .ensures) refl (c .before .before .before .before .before .before .before .before .before .before .before .before .before .before .before .before .before .before .copy .ensures) (c .before .before .before .before .before .before .before .before .before .before .before .before .before .before .before .before .before .before .copy .kept .1 .1 .0) (c .before .before .before .before .before .before .before .before .before .before .before .before .before .before .put .ensures) (c .before .before .before .before .before .before .before .before .compose-named .ensures) in
     handing (c .before .before .before .before .before .before .before .before .before .before .before .before .before .before .before .before .before .before .before .before .before .before .before .before .before .before .before .pre .0) (c .before .before .before .before .before .before .before .before .before .before .before .before .before .before .before .before .before .before .before .before .before .walked .ensures) made fits (c .before .before .before .before .before .before .before .before .compose-named .kept .1 .1 .0 ∙ c .before .before .before .before .before .before .before .before .before .before .before .before .before .before .before .before .before .before .before .before .before .before .before .before .before .before .before .pre .1 .long) (c .before .before .before .before .before .before .before .before .compose-named .kept .1 .0 ∙ c .before .before .before .before .before .before .before .before .before .before .before .before .before .before .put .kept .0 ∙ c .before .before .before .before .before .before .before .before .before .before .before .before .before .before .before .before .before .before .copy .kept .1 .1 .0 ∙ c .before .before .before .before .before .before .before .before .before .before .before .before .before .before .before .before .before .before .before .before .before .before .before .before .before .before .before .pre .1 .slots)
 
--- src/remove.rt:24:1
 same-length : tie.Need-same-length
 same-length c = search needs
 
--- src/remove.rt:24:1
 same-length-2 : tie.Need-same-length-2
 same-length-2 c = search needs
 
--- src/remove.rt:24:1
 same-length-3 : tie.Need-same-length-3
 same-length-3 c = search needs
 
--- src/remove.rt:24:1
 same-length-4 : tie.Need-same-length-4
 same-length-4 c = search needs
 
--- src/remove.rt:24:1
 returns : tie.Need-returns
 returns c =
     let made = left-composed (c .before .before .before .before .before .before .before .before .before .before .before .before .before .before .before .before .before .before .before .before .before .before .before .before .before .before .before .before .before .before .before .before .pre .0) (c .before .before .before .before .before .before .before .before .before .before .before .before .before .before .before .before .before .before .before .before .before .before .before .before .before .before .before .before .before .before .before .before .args .slot) (c .before .before .before .before .before .before .before .before .before .before .before .before .before .before .before .before .before .before .before .before .before .before .before .before .before .before .before .before .before .before .before .before .pre .1) (c .before .before .before .before .before .before .before .before .before .before .before .before .before .before .before .before .before .before .before .before .before .before .before .before .before .before .walked .ensures) refl (c .before .before .before .before .before .before .before .before .before .before .before .before .before .before .before .before .before .before .before .before .before .before .before .copy .ensures) (c .before .before .before .before .before .before .before .before .before .before .before .before .before .before .before .before .before .before .before .before .before .before .before .copy .kept .1 .1 .0) (c .before .before .before .before .before .before .before .before .before .before .before .before .before .before .before .before .before .before .before .put .ensures) (c .before .before .before .before .before .before .before .before .before .before .before .before .before .compose-named .ensures) in

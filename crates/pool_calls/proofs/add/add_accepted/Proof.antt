@@ -5,73 +5,52 @@ use native.Mathlib.Omega.{arith}
 use borrow.Author.Needs.{needs}
 use Rattle.pool_calls.proofs.add.add_accepted.Statement.{statement}
 use Rattle.pool_calls.proofs.add.add_accepted.Tie as tie
-use Rattle.pool_calls.proofs.add.add_accepted.Reads as reads
-use Rattle.pool_calls.proofs.add.add_accepted.Lts as lts
-use Rattle.diagram.proofs.node.word.Reads as word-reads
-use Rattle.pool_calls.proofs.add.add_placed.Reads as add-placed-reads
-use Rattle.pool_calls.proofs.slot.refused.Reads as refused-reads
 
--- src/add.rt:39:9
 refused-requires : tie.Need-refused-requires
 refused-requires c κs = search needs
 
--- src/add.rt:39:9
 returns : tie.Need-returns
 returns c = adds-refused _ _ _ _ (c .refused .ensures) (no-slot _ _ _ _ (c .before .if1 .taken))
 
--- src/add.rt:41:8
 word-requires : tie.Need-word-requires
 word-requires c κs = search needs
 
--- src/add.rt:42:9
 refused-requires-2 : tie.Need-refused-requires-2
 refused-requires-2 c κs = search needs
 
--- src/add.rt:42:9
 same-length : tie.Need-same-length
 same-length c = search needs
 
--- src/add.rt:42:9
 returns-2 : tie.Need-returns-2
 returns-2 c = adds-refused _ _ _ _ (c .refused2 .ensures) (slot-taken _ _ _ _ (let h = c .before .before .before .before .if1 .left in omega arith) (λ e. c .before .if2 .taken (c .before .before .word .ensures ∙ e)))
 
--- src/add.rt:44:8
 word-requires-2 : tie.Need-word-requires-2
 word-requires-2 c κs = search needs
 
--- src/add.rt:44:26
 word-requires-3 : tie.Need-word-requires-3
 word-requires-3 c κs = search needs
 
--- src/add.rt:45:9
 refused-requires-3 : tie.Need-refused-requires-3
 refused-requires-3 c κs = search needs
 
--- src/add.rt:45:9
 same-length-2 : tie.Need-same-length-2
 same-length-2 c = search needs
 
--- src/add.rt:45:9
 same-length-3 : tie.Need-same-length-3
 same-length-3 c = search needs
 
--- src/add.rt:45:9
 returns-3 : tie.Need-returns-3
 returns-3 c = adds-refused _ _ _ _ (c .refused3 .ensures) (other-vars _ _ _ _ (let h = c .before .before .before .before .before .before .before .before .if1 .left in omega arith) (sym (c .before .before .before .before .before .before .word .ensures) ∙ c .before .before .before .before .before .if2 .left) (λ e. c .before .if3 .taken (c .before .before .before .before .word2 .ensures ∙ e ∙ sym (c .before .before .word3 .ensures))))
 
--- src/add.rt:47:5
 add-placed-requires : tie.Need-add-placed-requires
 add-placed-requires c κs = record { addable = c .before .before .before .before .before .before .before .before .before .before .before .before .before .pre; slot = (let h = c .before .before .before .before .before .before .before .before .before .if1 .left in omega arith); free = sym (c .before .before .before .before .before .before .before .word .ensures) ∙ c .before .before .before .before .before .before .if2 .left; variables = sym (c .before .before .before .before .before .word2 .ensures) ∙ c .before .before .if3 .left ∙ c .before .before .before .word3 .ensures }
 
--- src/add.rt:34:1
 same-length-4 : tie.Need-same-length-4
 same-length-4 c = search needs
 
--- src/add.rt:34:1
 same-length-5 : tie.Need-same-length-5
 same-length-5 c = search needs
 
--- src/add.rt:34:1
 returns-4 : tie.Need-returns-4
 returns-4 c = c .before .before .before .before .add-placed .ensures
 

@@ -1,77 +1,54 @@
 use denote.Ref.{now}
-use Rattle.diagram.specs.Limits.{roomPerNode}
-use Prim.Native.Nat.{_*_}
 use lib.Seq.{length-take-le}
-use mathlib.Core.Path.{sym, refl, _∙_}
+use mathlib.Core.Path.{sym, refl}
 use Rattle.pool_calls.proofs.Calling.{read-refused, live-few, live-some, read-no-room, read-fetches, read-done}
 use native.Mathlib.Omega.{arith}
 use borrow.Author.Needs.{needs}
 use Rattle.pool_calls.proofs.read.read.Statement.{statement}
 use Rattle.pool_calls.proofs.read.read.Tie as tie
-use Rattle.pool_calls.proofs.read.read.Reads as reads
-use Rattle.pool_calls.proofs.read.read.Lts as lts
-use Rattle.diagram.proofs.node.word.Reads as word-reads
-use Rattle.pool_build.proofs.fetch.fetch.Reads as fetch-reads
-use Rattle.pool_calls.proofs.slot.live.Reads as live-reads
-use Rattle.pool_calls.proofs.slot.refused.Reads as refused-reads
 
--- src/read.rt:21:9
 live-requires : tie.Need-live-requires
 live-requires c κs = search needs
 
--- src/read.rt:22:29
 enum-known-verdict : tie.Need-enum-known-verdict
 enum-known-verdict c = search needs
 
--- src/read.rt:23:9
 enum-told : tie.Need-enum-told
 enum-told c = search needs
 
--- src/read.rt:23:9
 returns : tie.Need-returns
 returns c = read-refused _ _ _ (now (c .before .before .before .before .before .before .before .args .room)) (now (c .before .before .before .before .before .before .before .args .output)) (c .before .before .live .ensures) (c .enum-told .given .1)
 
--- src/read.rt:25:15
 mul-all : tie.Need-mul-all
 mul-all c = omega (arith, live-few _ _ _ (c .before .before .before .live .ensures) (c .before .verdict .given .1))
 
--- src/read.rt:27:9
 refused-requires : tie.Need-refused-requires
 refused-requires c κs = search needs
 
--- src/read.rt:27:9
 returns-2 : tie.Need-returns-2
 returns-2 c = read-no-room _ _ _ (c .before .before .before .before .before .live .ensures) (c .before .before .before .verdict .given .1) (now (c .before .before .before .before .before .before .before .before .before .before .args .room)) (now (c .before .before .before .before .before .before .before .before .before .before .args .output)) refl (c .before .if1 .taken) (c .refused .ensures)
 
--- src/read.rt:29:27
 word-requires : tie.Need-word-requires
 word-requires c κs = search needs
 
--- src/read.rt:29:27
 sub-t14 : tie.Need-sub-t14
 sub-t14 c = let some = live-some _ _ _ (c .before .before .before .before .before .live .ensures) (c .before .before .before .verdict .given .1) in let e = c .word .ensures in omega arith
 
--- src/read.rt:30:18
 slice-relend-prefix-fetch : tie.Need-slice-relend-prefix-fetch
 slice-relend-prefix-fetch c = search needs
 
--- src/read.rt:30:18
 slice-aggregate-fetch : tie.Need-slice-aggregate-fetch
 slice-aggregate-fetch c = sym (length-take-le _ (now (c .before .before .before .before .before .before .before .before .before .before .before .args .room)) (c .before .before .if1 .left))
 
--- src/read.rt:30:5
 fetch-requires : tie.Need-fetch-requires
 fetch-requires c κs = read-fetches _ _ _ (c .before .before .before .before .before .before .before .live .ensures) (c .before .before .before .before .before .verdict .given .1) (now (c .before .before .before .before .before .before .before .before .before .before .before .before .args .room)) (now (c .before .before .before .before .before .before .before .before .before .before .before .before .args .output)) refl (c .before .before .before .if1 .left) (c .before .before .word .ensures)
 
--- src/read.rt:12:1
 same-length : tie.Need-same-length
 same-length c = search needs
 
--- src/read.rt:12:1
 same-length-2 : tie.Need-same-length-2
 same-length-2 c = search needs
 
--- src/read.rt:12:1
 returns-3 : tie.Need-returns-3
 returns-3 c = read-done _ _ _ (c .before .before .before .before .before .before .before .before .before .before .before .before .live .ensures) (c .before .before .before .before .before .before .before .before .before .before .verdict .given .1) (now (c .before .before .before .before .before .before .before .before .before .before .before .before .before .before .before .before .before .args .room)) (now (c .before .before .before .before .before .before .before .before .before .before .before .before .before .before .before .before .before .args .output)) refl (c .before .before .before .before .before .before .before .before .if1 .left) (c .before .before .before .before .before .before .before .word .ensures) (c .before .before .before .before .fetch .ensures)
 
