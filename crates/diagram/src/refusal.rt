@@ -69,5 +69,11 @@ pub const OTHER_POOL: u32 = 35;
 // The pool's table has no room for the condition.
 pub const POOL_FULL: u32 = 36;
 
+// The summary beside a pool has fewer records than there are variables.
+pub const SHORT_SUMMARY: u32 = 37;
+
 // The table and the slots are no well-formed pool.
 pub const NO_POOL: u32 = 46;
+
+// The summary beside a pool does not agree with it.
+pub const OTHER_SUMMARY: u32 = 47;

@@ -11,6 +11,9 @@ use diagram::verdict::Verdict;
 use pool::SLOTS;
 use pool_build::place::place;
 use pool_check::check::is_pool;
+ghost use mathlib.Core.Path.{_≡_};
+ghost use mathlib.Core.Bool.{true};
+ghost use Rattle.pool.specs.Pool.{isPool};
 ghost use Rattle.pool.specs.Answers.{Adds};
 ghost use Rattle.pool_calls.specs.Calls.{Addable, AddsTo, Placing};
 
@@ -47,6 +50,24 @@ fn add_accepted(table: &mut [u32], slots: &mut [u32], words: &[u32], slot: usize
     add_placed(table, slots, words, slot)
 }
 
+// Adds where there is a pool: the diagram's own refusals, and 33 to 36.
+pub fn add_known(
+    table: &mut [u32],
+    slots: &mut [u32],
+    words: &[u32],
+    slot: usize,
+    room: &mut [u32],
+) -> Verdict
+    requires { ⌜ isPool (now table) (now slots) ≡ true ⌝ }
+    ensures { λ r. ⌜ Adds (now (table .entry)) (now (slots .entry)) (now (words .entry)) slot (now (table .exit)) (now (slots .exit)) (now (room .entry)) (now (room .exit)) r ⌝ }
+{
+    let verdict = validate(words, room);
+    let Verdict::Accepted { nodes: _, vars: _ } = verdict else {
+        return verdict;
+    };
+    add_accepted(table, slots, words, slot)
+}
+
 pub fn add(
     table: &mut [u32],
     slots: &mut [u32],
@@ -59,9 +80,5 @@ pub fn add(
     if !is_pool(table, slots) {
         return refused(NO_POOL);
     }
-    let verdict = validate(words, room);
-    let Verdict::Accepted { nodes: _, vars: _ } = verdict else {
-        return verdict;
-    };
-    add_accepted(table, slots, words, slot)
+    add_known(table, slots, words, slot, room)
 }

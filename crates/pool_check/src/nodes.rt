@@ -19,7 +19,7 @@ ghost use Rattle.pool.specs.Pool.{slotCount, isFree, isName, isRight, eachNode}
 const FIRST_NODE_NAME: u32 = 3;
 
 // Whether all words of a place are zero.
-pub(crate) fn is_free(table: &[u32], place: BddPointer) -> bool
+pub fn is_free(table: &[u32], place: BddPointer) -> bool
     ensures { λ r. ⌜ r ≡ isFree (now (table .entry)) (place .0) ⌝ }
 {
     let var = var_of(table, place);
