@@ -68,6 +68,12 @@ live-refused t s k n e = by-slot t s k
 
 -- ---- dropping
 
+pub drop-nothing : (t s : List ℕ) (k : ℕ) → isPool t s ≡ false → {r : Verdict} → said r ≡ refused 46 0 → Drops t s k t s r
+unfolding dropOf
+drop-nothing t s k e told =
+    let is = live-no-pool t s k (needs (vars t) (withDropped t s k)) e in
+    record { verdict = told ∙ sym is; table = rw is refl; slots = rw is refl }
+
 pub drop-refused : (t s : List ℕ) (k : ℕ) {r : Verdict} → said r ≡ liveOf t s k (size t) → {j p : ℕ} → r ≡ Refused j p → Drops t s k t s r
 unfolding dropOf
 drop-refused t s k {r} told {j} {p} e =
