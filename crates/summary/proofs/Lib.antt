@@ -1,5 +1,5 @@
 -- The proofs of what specs/ promises.
---     Promised    `summaries`
---     Calls       `nights`
-pub mod Promised
-pub mod Calls
+--     Counting    what working a summary out goes by
+--     Agreeing    a summary agrees exactly where its words are those worked out afresh
+pub mod Counting
+pub mod Agreeing
