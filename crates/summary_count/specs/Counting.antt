@@ -1,5 +1,5 @@
 -- Nodes counted by variable, for the code inside. A record's first number is the nodes', its second the slots'.
-use Prim.Native.Nat.{ℕ, suc, _*_, _≤_, _<_}
+use Prim.Native.Nat.{ℕ, _+_, _*_, _≤_, _<_}
 use mathlib.Core.Path.{_≡_}
 use mathlib.Core.List.{List}
 use lib.ListN.{length, getD, drop}
@@ -12,7 +12,7 @@ abbrev pub nodesIn : List ℕ → ℕ → ℕ
 nodesIn kept i = getD kept (recordWords * i) 0
 
 abbrev pub slotsIn : List ℕ → ℕ → ℕ
-slotsIn kept i = getD kept (suc (recordWords * i)) 0
+slotsIn kept i = getD kept (recordWords * i + 1) 0
 
 -- There is a pool, and a record for each variable.
 pub record Recounting (t s kept : List ℕ) : Type 0 where

@@ -13,9 +13,6 @@ pub struct Signal {
     pub slots: u32,
 }
 
-// The words of a record.
-pub const RECORD: usize = 2;
-
 // Copies the first records to words.
 pub fn take(row: &[Signal], words: &mut [u32], count: usize)
     requires { ⌜ (count ≤ length (now row)) × (2 * count ≤ length (now words)) ⌝ }

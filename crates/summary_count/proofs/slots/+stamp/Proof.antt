@@ -1,0 +1,119 @@
+use borrow.Author.Needs.{needs}
+use native.Mathlib.Omega.{arith}
+use Prim.Native.Nat.{ℕ, _<_}
+use borrow.Fn.Kinds.{In}
+use borrow.Fn.PlainCycle.{Measures, is, falls, and}
+use Rattle.summary_count.proofs.slots.stamp.Reads as stamp
+use Rattle.summary_count.proofs.slots.stamp.Kinds as stamp-kinds
+use Rattle.summary_count.proofs.slots.+stamp.Lts-stamp as stamp-lts
+use Rattle.diagram.proofs.node.BddPointer.is_terminal.Reads as is-terminal-reads
+use Rattle.diagram.proofs.node.BddPointer.to_index.Reads as to-index-reads
+use Rattle.diagram.proofs.node.high_link_of.Reads as high-link-of-reads
+use Rattle.diagram.proofs.node.low_link_of.Reads as low-link-of-reads
+use Rattle.diagram.proofs.node.var_of.Reads as var-of-reads
+use Rattle.diagram.proofs.node.word.Reads as word-reads
+use Rattle.diagram.proofs.room.put.Reads as put-reads
+use Rattle.summary_count.proofs.slots.+stamp.{statement}
+use Rattle.summary_count.proofs.slots.+stamp.Tie.{close}
+
+abbrev μ-stamp : Measures 2 stamp-kinds.ps ℕ
+μ-stamp κs a = ?
+
+abbrev stamp-at : ℕ → In 2 stamp-kinds.ps
+stamp-at t = and 2 stamp-kinds.ps (is 2 stamp-kinds.ps μ-stamp t) stamp.Pre
+
+abbrev stamp-below : ℕ → In 2 stamp-kinds.ps
+stamp-below t = and 2 stamp-kinds.ps (falls 2 stamp-kinds.ps _<_ μ-stamp t) stamp.Pre
+
+-- src/slots.rt:26:8
+abbrev known : ℕ → stamp-lts.Claims
+known t = (is-terminal-reads.Asked, is-terminal-reads.Learnt, to-index-reads.Asked, to-index-reads.Learnt, word-reads.Asked, word-reads.Learnt, low-link-of-reads.Asked, low-link-of-reads.Learnt, stamp-below t, stamp.Post, high-link-of-reads.Asked, high-link-of-reads.Learnt, var-of-reads.Asked, var-of-reads.Learnt, put-reads.Asked, put-reads.Learnt)
+
+stamp-is-terminal-requires : (t : ℕ) → stamp-lts.Need-is-terminal-requires (known t) (stamp-at t) stamp.Post
+stamp-is-terminal-requires t c κs = search needs
+
+-- src/slots.rt:27:9
+stamp-returns : (t : ℕ) → stamp-lts.Need-returns (known t) (stamp-at t) stamp.Post
+stamp-returns t c = ?
+
+-- src/slots.rt:29:24
+stamp-to-index-requires : (t : ℕ) → stamp-lts.Need-to-index-requires (known t) (stamp-at t) stamp.Post
+stamp-to-index-requires t c κs = search needs
+
+-- src/slots.rt:29:16
+stamp-add-mark : (t : ℕ) → stamp-lts.Need-add-mark (known t) (stamp-at t) stamp.Post
+stamp-add-mark t c = search needs
+
+-- src/slots.rt:30:8
+stamp-word-requires : (t : ℕ) → stamp-lts.Need-word-requires (known t) (stamp-at t) stamp.Post
+stamp-word-requires t c κs = search needs
+
+-- src/slots.rt:31:9
+stamp-same-length : (t : ℕ) → stamp-lts.Need-same-length (known t) (stamp-at t) stamp.Post
+stamp-same-length t c = search needs
+
+-- src/slots.rt:31:9
+stamp-returns-2 : (t : ℕ) → stamp-lts.Need-returns-2 (known t) (stamp-at t) stamp.Post
+stamp-returns-2 t c = ?
+
+-- src/slots.rt:33:32
+stamp-low-link-of-requires : (t : ℕ) → stamp-lts.Need-low-link-of-requires (known t) (stamp-at t) stamp.Post
+stamp-low-link-of-requires t c κs = search needs
+
+-- src/slots.rt:33:5
+stamp-stamp-requires : (t : ℕ) → stamp-lts.Need-stamp-requires (known t) (stamp-at t) stamp.Post
+stamp-stamp-requires t c κs = search needs
+
+-- src/slots.rt:34:32
+stamp-high-link-of-requires : (t : ℕ) → stamp-lts.Need-high-link-of-requires (known t) (stamp-at t) stamp.Post
+stamp-high-link-of-requires t c κs = search needs
+
+-- src/slots.rt:34:5
+stamp-stamp-requires-2 : (t : ℕ) → stamp-lts.Need-stamp-requires-2 (known t) (stamp-at t) stamp.Post
+stamp-stamp-requires-2 t c κs = search needs
+
+-- src/slots.rt:35:9
+stamp-var-of-requires : (t : ℕ) → stamp-lts.Need-var-of-requires (known t) (stamp-at t) stamp.Post
+stamp-var-of-requires t c κs = search needs
+
+-- src/slots.rt:36:15
+stamp-cast-put : (t : ℕ) → stamp-lts.Need-cast-put (known t) (stamp-at t) stamp.Post
+stamp-cast-put t c = search needs
+
+-- src/slots.rt:36:5
+stamp-put-requires : (t : ℕ) → stamp-lts.Need-put-requires (known t) (stamp-at t) stamp.Post
+stamp-put-requires t c κs = search needs
+
+-- src/slots.rt:37:5
+stamp-put-requires-2 : (t : ℕ) → stamp-lts.Need-put-requires-2 (known t) (stamp-at t) stamp.Post
+stamp-put-requires-2 t c κs = search needs
+
+-- src/slots.rt:22:1
+stamp-same-length-2 : (t : ℕ) → stamp-lts.Need-same-length-2 (known t) (stamp-at t) stamp.Post
+stamp-same-length-2 t c = search needs
+
+-- src/slots.rt:22:1
+stamp-returns-3 : (t : ℕ) → stamp-lts.Need-returns-3 (known t) (stamp-at t) stamp.Post
+stamp-returns-3 t c = ?
+
+pub +stamp-spec : {M : Type 1} → statement M
++stamp-spec = close μ-stamp λ t. stamp-lts.spec (known t)
+    (stamp-at t)
+    stamp.Post
+    (stamp-is-terminal-requires t)
+    (stamp-returns t)
+    (stamp-to-index-requires t)
+    (stamp-add-mark t)
+    (stamp-word-requires t)
+    (stamp-same-length t)
+    (stamp-returns-2 t)
+    (stamp-low-link-of-requires t)
+    (stamp-stamp-requires t)
+    (stamp-high-link-of-requires t)
+    (stamp-stamp-requires-2 t)
+    (stamp-var-of-requires t)
+    (stamp-cast-put t)
+    (stamp-put-requires t)
+    (stamp-put-requires-2 t)
+    (stamp-same-length-2 t)
+    (stamp-returns-3 t)
