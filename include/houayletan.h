@@ -7,7 +7,7 @@
  * A valuation's path starts at the root and follows low for 0, high for 1; the diagram holds where the path ends at node 1.
  *
  * Any words may be offered: what is no diagram is refused, with a number and a place. Lengths are counted in words, those of
- * bytes in bytes. A pointer is not null, also where its length is 0, points to that many, and what a call writes to does not
+ * bytes in bytes, that of a row in records. A pointer is not null, also where its length is 0, points to that many, and what a call writes to does not
  * overlap what it reads. Nothing is allocated and nothing is kept between calls; calls with buffers of their own may run in
  * several threads. Link target/staticlib/libhouayletan.a (x86-64).
  *
@@ -52,6 +52,10 @@
  *   31   two diagrams have different variable counts                    0
  *   32   two diagrams reach more pairs of nodes than the table holds    0
  *   46   table and slots are no well-formed pool: before all others     0
+ *   37   the row has fewer records than the pool has variables: after 46, before all others
+ *                                                                       0
+ *   47   a record of the row does not agree with the pool: after 37, before all others
+ *                                                                       0
  *   33   a pool has no slot of that number                              0
  *   34   the slot is taken, for an add; it is empty, for a drop or a read
  *                                                                       0
@@ -78,6 +82,14 @@
  * accepted add or drop they stand in one order: the live conditions one after the other by their slots, of each the nodes that are not there
  * yet, numbered on the way back, low branch first; then the free places. So all words then depend on what the slots hold, and not on the
  * calls that led there.
+ *
+ * Beside it lies a summary, one record for each variable, which add and drop hold to the pool before and bring up to date after:
+ *
+ *   row       at least v records. nodes: how many nodes of the table test the variable; one that several conditions have in common counts
+ *             once. slots: how many live slots depend on it, which is, from whose root a node that tests it is reached; false and true depend on
+ *             none. Records from v on are neither looked at nor changed.
+ *
+ * The row of an empty pool is zeros. A pool that has no row yet, or another pool's, gets its own by houayletan_pool_summarize. Reading takes none.
  *
  * A node file is HOUAYLETAN_BYTES_PER_NODE bytes for each node, in the order of the nodes: variable (2), low link (4), high
  * link (4), each least byte first, with nothing before, between or after them; 1 to HOUAYLETAN_NODES nodes. Reading and writing
@@ -121,7 +133,7 @@ extern "C" {
 
 /* The functions' names for the linker: what was compiled against an older header does not link. They ended in nothing at first; in 2
  * those of the four cuts to a target, when these took as_is; in 3 all, when a count got sixteen words, and structs, rooms and
- * outputs became longer. Source uses the names without the number. */
+ * outputs became longer; in 4 those of the pool's add and drop, when these took the row. Source uses the names without the number. */
 #define HOUAYLETAN_LINKED(name) name##_3
 #define houayletan_validate HOUAYLETAN_LINKED(houayletan_validate)
 #define houayletan_exact_cardinality HOUAYLETAN_LINKED(houayletan_exact_cardinality)
@@ -146,9 +158,10 @@ extern "C" {
 #define houayletan_underapproximate_to_cardinality HOUAYLETAN_LINKED(houayletan_underapproximate_to_cardinality)
 #define houayletan_overapproximate_to_cardinality HOUAYLETAN_LINKED(houayletan_overapproximate_to_cardinality)
 #define houayletan_compare HOUAYLETAN_LINKED(houayletan_compare)
-#define houayletan_pool_add HOUAYLETAN_LINKED(houayletan_pool_add)
-#define houayletan_pool_drop HOUAYLETAN_LINKED(houayletan_pool_drop)
+#define houayletan_pool_add houayletan_pool_add_4
+#define houayletan_pool_drop houayletan_pool_drop_4
 #define houayletan_pool_read HOUAYLETAN_LINKED(houayletan_pool_read)
+#define houayletan_pool_summarize HOUAYLETAN_LINKED(houayletan_pool_summarize)
 #define houayletan_read_as_bytes HOUAYLETAN_LINKED(houayletan_read_as_bytes)
 #define houayletan_write_as_bytes HOUAYLETAN_LINKED(houayletan_write_as_bytes)
 
@@ -303,27 +316,43 @@ typedef struct {
 HouayletanComparison houayletan_compare(const uint32_t *first, size_t first_len, const uint32_t *second, size_t second_len,
                                         uint32_t *room, size_t room_len, uint32_t *table, size_t table_len);
 
-/* Writes the empty pool of vars variables to table and slots. Where the lengths or vars are not as above, the first call says 46. */
-static inline void houayletan_pool_empty(uint32_t *table, size_t table_len, uint32_t *slots, size_t slots_len, uint32_t vars) {
+/* A record of the row beside a pool: how many live nodes test a variable, and how many live slots depend on it. */
+typedef struct {
+    uint32_t nodes;
+    uint32_t slots;
+} HouayletanSignal;
+
+/* Writes the empty pool of vars variables to table and slots, and zeros to its records of the row, the first vars. Where the lengths or vars are
+ * not as above, the first call says 46, or 37 where it is the row's length. */
+static inline void houayletan_pool_empty(uint32_t *table, size_t table_len, uint32_t *slots, size_t slots_len, HouayletanSignal *row,
+                                         size_t row_len, uint32_t vars) {
     for (size_t i = 0; i < table_len; i++) table[i] = 0;
     for (size_t i = 0; i < slots_len; i++) slots[i] = 0;
+    for (size_t i = 0; i < row_len && i < vars; i++) row[i].nodes = row[i].slots = 0;
     if (table_len < HOUAYLETAN_POOL(2)) return;
     table[0] = table[3] = vars;
     table[4] = table[5] = 1;
 }
 
 /* The calls to a pool. Accepted, the verdict has the variable count; after an add or a drop nodes is how many nodes are in use, both
- * terminals among them, and after a read how many the answer has. Any words may be offered. What is not a well-formed pool is refused 46,
- * which is decided before anything else that is lent is looked at. After any refusal every word of table and slots is as it was. */
+ * terminals among them, and after a read how many the answer has. Any words may be offered, and any records. What is not a well-formed pool is
+ * refused 46, which is decided before anything else that is lent is looked at. After any refusal every word of table, slots and row is as it
+ * was. After an accepted add or drop the row's first v records are those of the pool as it then is. */
 
 /* Puts a condition in an empty slot, in reduced form; nodes that are in the table already take no place. The room is asked for by the diagram
- * alone: HOUAYLETAN_ROOM(n), whatever the table. After 46 it is as it was, and else as houayletan_validate of the diagram leaves it. Refusals:
- * 46, the diagram's own, then 33, 34, 35, 36. */
-HouayletanVerdict houayletan_pool_add(uint32_t *table, size_t table_len, uint32_t *slots, size_t slots_len, const uint32_t *words,
-                                      size_t words_len, size_t slot, uint32_t *room, size_t room_len);
+ * alone: HOUAYLETAN_ROOM(n), whatever the table. After 46, 37 and 47 it is as it was, and else as houayletan_validate of the diagram leaves it.
+ * Refusals: 46, 37, 47, the diagram's own, then 33, 34, 35, 36. */
+HouayletanVerdict houayletan_pool_add(uint32_t *table, size_t table_len, uint32_t *slots, size_t slots_len, HouayletanSignal *row, size_t row_len,
+                                      const uint32_t *words, size_t words_len, size_t slot, uint32_t *room, size_t room_len);
 
-/* Empties a slot. The places of nodes that no other slot reaches are free again. It takes no room. Refusals: 46, 33, 34. */
-HouayletanVerdict houayletan_pool_drop(uint32_t *table, size_t table_len, uint32_t *slots, size_t slots_len, size_t slot);
+/* Empties a slot. The places of nodes that no other slot reaches are free again. It takes no room. Refusals: 46, 37, 47, 33, 34. */
+HouayletanVerdict houayletan_pool_drop(uint32_t *table, size_t table_len, uint32_t *slots, size_t slots_len, HouayletanSignal *row, size_t row_len,
+                                       size_t slot);
+
+/* Works the row out, whatever it holds: for a pool that was kept without one, and after 47. Accepted, nodes is the number of the table's
+ * places. Refusals: 46, 37. */
+HouayletanVerdict houayletan_pool_summarize(const uint32_t *table, size_t table_len, const uint32_t *slots, size_t slots_len, HouayletanSignal *row,
+                                            size_t row_len);
 
 /* The reduced array of a slot's condition, as houayletan_reduce numbers it, in the first words of the output. The room is asked for by the
  * table: HOUAYLETAN_ROOM(places). 46, 33, 34 and 5 leave it as it was; 4, and all answers, leave so many words zero and the rest as it was.

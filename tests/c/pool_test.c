@@ -1,6 +1,6 @@
 /* A pool as a C program sees it: the worked example of docs/POOL.md, each refusal before the next, lengths exact and one short, long rows of
- * calls beside what the pool holds, every word of small pools changed, nodes in any order, and the most places and variables. Prints what
- * fails; the last line has the counts. */
+ * calls beside what the pool holds, every word of small pools and of their rows changed, nodes in any order, and the most places and variables.
+ * Prints what fails; the last line has the counts. */
 #include "pooling.h"
 
 static int passed, failed;
@@ -33,11 +33,13 @@ static PoolRequest adding(size_t slot, const uint32_t *words, size_t len) {
 
 static PoolRequest dropping(size_t slot) { return (PoolRequest){DROP, slot, NULL, 0, 0, 0, 9}; }
 
+static PoolRequest summarizing(void) { return (PoolRequest){SUMMARIZE, 0, NULL, 0, 0, 0, 9}; }
+
 static PoolRequest reading(size_t slot, size_t room_len, size_t output_len) { return (PoolRequest){READ, slot, NULL, 0, room_len, output_len, 9}; }
 
 /* A call with guards all around: what it must leave alone, and its verdict. The reply is to be given back. */
 static PoolReply makes(Pool *p, const PoolRequest *q) {
-    Pool was = lend_pool(p->table.words, p->table.len, p->slots.words, p->slots.len, 0);
+    Pool was = copy_of_pool(p);
     PoolReply r = call_pool(p, q);
     const char *fault = wrong_pool_call(p, &was, q, &r);
     expect(!fault, fault, pool_calls[q->call]);
@@ -53,7 +55,7 @@ static void says(Pool *p, PoolRequest q, uint32_t number, size_t place) {
     give_reply_back(&r);
 }
 
-/* The same beside what the pool holds: verdict, and every word of table, slots and output. */
+/* The same beside what the pool holds: verdict, and every word of table, slots, row and output. */
 static void answers(Pool *p, Held *h, PoolRequest q) {
     HouayletanVerdict own = {0, 0, 0, 0};
     size_t len = 0;
@@ -79,19 +81,29 @@ static void read_all(Pool *p, Held *h) {
 
 /* ---- by hand */
 
+/* The records of three variables. */
+static void expect_row(const Pool *p, const uint32_t *words, const char *what) {
+    expect(memcmp(p->row.words, words, 6 * sizeof words[0]) == 0, what, "the row");
+}
+
 static void worked_example(void) {
     static const uint32_t with_first[] = {3, 0, 0, 3, 1, 1, 1, 0, 1, 0, 0, 2, 0, 0, 0, 0, 0, 0, 0, 0, 0};
     static const uint32_t with_both[] = {3, 0, 0, 3, 1, 1, 2, 0, 1, 1, 2, 1, 0, 2, 3, 1, 0, 1, 0, 0, 5};
     static const uint32_t without[] = {3, 0, 0, 3, 1, 1, 2, 0, 1, 1, 2, 1, 0, 2, 3, 0, 0, 0, 0, 0, 0};
     Pool p = lend_empty_pool(7, 3, 16);
+    expect_row(&p, (uint32_t[]){0, 0, 0, 0, 0, 0}, "an empty pool");
     says(&p, adding(5, X0_AND_X1, LEN(X0_AND_X1)), 0, 0);
     expect(memcmp(p.table.words, with_first, sizeof with_first) == 0 && p.slots.words[5] == 4, "the first condition", "pool_add");
+    expect_row(&p, (uint32_t[]){1, 1, 1, 1, 0, 0}, "the first condition");
     says(&p, adding(2, D, LEN(D)), 0, 0);
     expect(memcmp(p.table.words, with_both, sizeof with_both) == 0 && p.slots.words[2] == 5 && p.slots.words[5] == 7, "both conditions", "pool_add");
+    expect_row(&p, (uint32_t[]){2, 2, 2, 2, 1, 1}, "both conditions");
     says(&p, adding(0, X2, LEN(X2)), 0, 0);
     expect(memcmp(p.table.words, with_both, sizeof with_both) == 0 && p.slots.words[0] == 3, "a part that is there", "pool_add");
+    expect_row(&p, (uint32_t[]){2, 2, 2, 2, 1, 2}, "a part that is there");
     says(&p, dropping(5), 0, 0);
     expect(memcmp(p.table.words, without, sizeof without) == 0 && p.slots.words[5] == 0, "what is left", "pool_drop");
+    expect_row(&p, (uint32_t[]){1, 1, 1, 1, 1, 2}, "what is left");
     PoolRequest q = reading(2, HOUAYLETAN_ROOM(7), LEN(D));
     PoolReply r = makes(&p, &q);
     expect(r.verdict.nodes == 5 && memcmp(r.output.words, D, sizeof D) == 0, "D", "pool_read");
@@ -99,8 +111,11 @@ static void worked_example(void) {
     give_pool_back(&p);
 }
 
-/* The diagram's own refusals, and the slots and pools in which each is asked for. */
-static void refusals(bool spoilt) {
+/* What is amiss before the diagram is looked at. */
+enum { POOL_SPOILT = 1, ROW_SHORT = 2, ROW_WRONG = 4, ALL_AMISS = 7 };
+
+/* The diagram's own refusals, and the slots and pools in which each is asked for, with some of 46, 37 and 47 before them. */
+static void refusals(int amiss) {
     static const struct {
         size_t len;
         uint32_t words[12], number;
@@ -123,20 +138,29 @@ static void refusals(bool spoilt) {
     memcpy(many, TRUE3, sizeof TRUE3);
     Pool p = lend_empty_pool(4, 3, 16);
     says(&p, adding(7, X2, LEN(X2)), 0, 0);
+    const uint32_t first = amiss & POOL_SPOILT ? 46 : amiss & ROW_SHORT ? 37 : amiss & ROW_WRONG ? 47 : 0;
+    const bool spoilt = amiss & POOL_SPOILT;
     if (spoilt) p.table.words[4] = 0;
+    if (amiss & ROW_SHORT) {
+        Pool whole = p;
+        p = lend_all(p.table.words, p.table.len, p.slots.words, p.slots.len, p.row.words, 4, 16);
+        give_pool_back(&whole);
+    }
+    if (amiss & ROW_WRONG) p.row.words[1]++;
     for (size_t i = 0; i < LEN(slots); i++) {
         size_t k = slots[i];
         bool there = k < SLOTS, live = k == 7;
-        for (size_t j = 0; j < LEN(own); j++) says(&p, adding(k, own[j].words, own[j].len), spoilt ? 46 : own[j].number, spoilt ? 0 : own[j].place);
+        for (size_t j = 0; j < LEN(own); j++) says(&p, adding(k, own[j].words, own[j].len), first ? first : own[j].number, first ? 0 : own[j].place);
         PoolRequest q = adding(k, many, LEN(many));
         q.room_len = 0;
-        says(&p, q, spoilt ? 46 : 3, 0);
+        says(&p, q, first ? first : 3, 0);
         q = adding(k, X0_OF_2, LEN(X0_OF_2)), q.room_len--;
-        says(&p, q, spoilt ? 46 : 5, 0);
+        says(&p, q, first ? first : 5, 0);
         /* another variable count; then too many nodes */
-        says(&p, adding(k, X0_OF_2, LEN(X0_OF_2)), spoilt ? 46 : !there ? 33 : live ? 34 : 35, 0);
-        says(&p, adding(k, X0_AND_X1, LEN(X0_AND_X1)), spoilt ? 46 : !there ? 33 : live ? 34 : 36, 0);
-        if (!live) says(&p, dropping(k), spoilt ? 46 : there ? 34 : 33, 0);
+        says(&p, adding(k, X0_OF_2, LEN(X0_OF_2)), first ? first : !there ? 33 : live ? 34 : 35, 0);
+        says(&p, adding(k, X0_AND_X1, LEN(X0_AND_X1)), first ? first : !there ? 33 : live ? 34 : 36, 0);
+        if (first || !live) says(&p, dropping(k), first ? first : there ? 34 : 33, 0);
+        /* a read takes no row */
         for (size_t room_len = HOUAYLETAN_ROOM(4) - 1; room_len < HOUAYLETAN_ROOM(4) + 3; room_len++) {
             for (size_t output_len = 0; output_len < 12; output_len++) {
                 uint32_t answer = room_len < HOUAYLETAN_ROOM(4) ? 5 : output_len < LEN(X2) ? 4 : 0;
@@ -144,7 +168,45 @@ static void refusals(bool spoilt) {
             }
         }
     }
+    says(&p, summarizing(), first == 47 ? 0 : first, 0);
+    if (first == 47) says(&p, dropping(7), 0, 0);
     give_pool_back(&p);
+}
+
+/* Rows of every length, with right records and with wrong ones; what is behind the variables' is never looked at. */
+static void rows(void) {
+    static const uint32_t vars[] = {0, 1, 3, 20, VARS};
+    for (size_t i = 0; i < LEN(vars); i++) {
+        const uint32_t v = vars[i], words[] = {v, 0, 0, v, 1, 1, v - 1, 0, 1}, second[] = {v, 0, 0, v, 1, 1, 0, 1, 0};
+        const size_t len = v ? LEN(words) : 6;
+        Pool p = lend_empty_pool(6, v, 16);
+        says(&p, adding(40, words, len), 0, 0);
+        for (size_t count = v < 3 ? 0 : v - 3; count < v + 4; count++) {
+            static uint32_t row[2 * (VARS + 4)];
+            for (size_t j = 0; j < LEN(row); j++) row[j] = filling(17, j);
+            summary_of(p.table.words, p.table.len, p.slots.words, row);
+            Pool q = lend_all(p.table.words, p.table.len, p.slots.words, p.slots.len, row, 2 * count, 16);
+            const bool is_short = count < v;
+            says(&q, adding(3, second, len), is_short ? 37 : 0, 0);
+            says(&q, summarizing(), is_short ? 37 : 0, 0);
+            says(&q, dropping(40), is_short ? 37 : 0, 0);
+            /* each of the first words and the last ones */
+            for (size_t j = 0; j < 2 * (size_t)v; j += j == 5 && v > 10 ? 2 * (size_t)v - 10 : 1) {
+                if (is_short) break;
+                const uint32_t kept = q.row.words[j];
+                for (uint32_t other = 0; other < 4; other++) {
+                    q.row.words[j] = other == 3 ? UINT32_MAX : other;
+                    says(&q, dropping(5), q.row.words[j] == kept ? 34 : 47, 0);
+                    says(&q, adding(3, words, len), q.row.words[j] == kept ? 34 : 47, 0);
+                }
+                says(&q, summarizing(), 0, 0);
+                expect(q.row.words[j] == kept, "worked out again", "pool_summarize");
+            }
+            says(&q, dropping(3), is_short ? 37 : 0, 0);
+            give_pool_back(&q);
+        }
+        give_pool_back(&p);
+    }
 }
 
 /* Lengths of table and slots. The words are a pool's as far as they go. */
@@ -155,6 +217,7 @@ static void lengths(void) {
             bool right = table_len >= 6 && table_len % 3 == 0 && slots_len == SLOTS;
             Pool p = lend_pool(words, table_len, slots, slots_len, 16);
             says(&p, dropping(SLOTS), right ? 33 : 46, 0);
+            says(&p, summarizing(), right ? 0 : 46, 0);
             says(&p, reading(1, HOUAYLETAN_ROOM(table_len / 3), 6), right ? 0 : 46, 0);
             says(&p, adding(0, X2, LEN(X2)), !right ? 46 : table_len < 9 ? 36 : 0, 0);
             give_pool_back(&p);
@@ -238,6 +301,7 @@ static void row_of_calls(size_t places, uint32_t vars, int calls) {
             answers(&p, &h, dropping(slot));
         } else {
             size_t len = live ? h.len[slot] : 6;
+            if (below(4) == 0) answers(&p, &h, summarizing());
             answers(&p, &h, reading(slot, HOUAYLETAN_ROOM(places) + (below(12) == 0 ? below(4) - 1 : 0), below(6) == 0 ? len - 1 + below(4) : len));
         }
     }
@@ -269,18 +333,21 @@ static Pool scattered(const Pool *from, size_t places) {
     return lend_pool(words, 3 * places, slots, SLOTS, 16);
 }
 
-/* Each word becomes others: 46, or 33 where it is a pool still. */
+/* Each word becomes others: 46; 47 where it is a pool still, of another row; or 33. */
 static void every_word(Pool *p) {
     const uint32_t v = p->table.words[0], places = (uint32_t)p->table.len / 3;
     const uint32_t others[] = {0, 1, 2, 3, 4, v - 1, v, v + 1, places - 1, places, places + 1, VARS, VARS + 1, UINT32_MAX};
-    for (size_t i = 0; i < p->table.len + p->slots.len; i++) {
-        uint32_t *word = i < p->table.len ? &p->table.words[i] : &p->slots.words[i - p->table.len], kept = *word;
-        for (size_t j = 0; j < LEN(others); j++) {
-            *word = others[j];
-            bool right = well_formed(p->table.words, p->table.len, p->slots.words, p->slots.len);
-            says(p, dropping(SLOTS), right ? 33 : 46, 0);
+    Lent *const lent[] = {&p->table, &p->slots, &p->row};
+    for (size_t l = 0; l < LEN(lent); l++) {
+        for (size_t i = 0; i < lent[l]->len; i++) {
+            uint32_t *word = &lent[l]->words[i], kept = *word;
+            for (size_t j = 0; j < LEN(others); j++) {
+                *word = others[j];
+                uint32_t first = stands(p);
+                says(p, dropping(SLOTS), first ? first : 33, 0);
+            }
+            *word = kept;
         }
-        *word = kept;
     }
 }
 
@@ -368,8 +435,8 @@ static void the_most(void) {
 
 int main(void) {
     worked_example();
-    refusals(false);
-    refusals(true);
+    for (int amiss = 0; amiss <= ALL_AMISS; amiss++) refusals(amiss);
+    rows();
     lengths();
     constants();
     for (size_t places = 2; places < 12; places++) row_of_calls(places, 3, 500);

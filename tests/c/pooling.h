@@ -1,13 +1,14 @@
 /* Calls to a pool through the C interface, with guard words around all that is lent; and what a pool holds, kept apart: the reduced
- * arrays by slot, from which every word of table and slots is worked out anew. */
+ * arrays by slot, from which every word of table, slots and row is worked out anew. */
 #ifndef POOLING_H
 #define POOLING_H
 
 #include "lent.h"
 
-typedef enum { ADD, DROP, READ } PoolCall;
+typedef enum { ADD, DROP, READ, SUMMARIZE } PoolCall;
 
-static const char *const pool_calls[] = {"pool_add", "pool_drop", "pool_read"};
+static const char *const pool_calls[] = {"pool_add", "pool_drop", "pool_read", "pool_summarize"};
+#define POOL_CALLS (sizeof pool_calls / sizeof *pool_calls)
 
 typedef struct {
     PoolCall call;
@@ -16,83 +17,6 @@ typedef struct {
     size_t words_len, room_len, output_len;
     uint32_t seed; /* of what room and output hold at first */
 } PoolRequest;
-
-/* What is lent to each call, and kept in between. */
-typedef struct {
-    Lent table, slots;
-} Pool;
-
-static inline Pool lend_pool(const uint32_t *table, size_t table_len, const uint32_t *slots, size_t slots_len, size_t guard) {
-    return (Pool){lend_copy(table, table_len, 5, guard), lend_copy(slots, slots_len, 6, guard)};
-}
-
-static inline Pool lend_empty_pool(size_t places, uint32_t vars, size_t guard) {
-    Pool p = {lend(HOUAYLETAN_POOL(places), 5, guard), lend(HOUAYLETAN_SLOTS, 6, guard)};
-    houayletan_pool_empty(p.table.words, p.table.len, p.slots.words, p.slots.len, vars);
-    return p;
-}
-
-static inline void give_pool_back(Pool *p) {
-    free(p->table.all);
-    free(p->slots.all);
-}
-
-/* ---- a call */
-
-typedef struct {
-    HouayletanVerdict verdict;
-    Lent words, room, output; /* until they are given back */
-} PoolReply;
-
-static inline void give_reply_back(PoolReply *r) {
-    free(r->words.all);
-    free(r->room.all);
-    free(r->output.all);
-}
-
-static inline PoolReply call_pool(Pool *p, const PoolRequest *q) {
-    size_t guard = p->table.guard;
-    PoolReply r = {{0, 0, 0, 0}, lend_copy(q->words, q->words_len, q->seed + 1, guard), lend(q->room_len, q->seed, guard),
-                   lend(q->output_len, q->seed + 3, guard)};
-    uint32_t *table = p->table.words, *slots = p->slots.words;
-    size_t table_len = p->table.len, slots_len = p->slots.len;
-    switch (q->call) {
-    case ADD:
-        r.verdict = houayletan_pool_add(table, table_len, slots, slots_len, r.words.words, r.words.len, q->slot, r.room.words, r.room.len);
-        break;
-    case DROP: r.verdict = houayletan_pool_drop(table, table_len, slots, slots_len, q->slot); break;
-    case READ:
-        r.verdict = houayletan_pool_read(table, table_len, slots, slots_len, q->slot, r.room.words, r.room.len, r.output.words, r.output.len);
-        break;
-    }
-    return r;
-}
-
-/* How many words of the room are zero after a call. */
-static inline size_t zeroed_by_pool(const Pool *p, const PoolRequest *q, uint32_t number) {
-    if (q->call == ADD) return number == 46 ? 0 : zeroed(number, q->words_len);
-    return q->call == READ && (number == 0 || number == 4) ? HOUAYLETAN_ROOM(p->table.len / 3) : 0;
-}
-
-/* NULL, or what a call has done wrong to what it was lent; was is the pool as it was before. */
-static inline const char *wrong_pool_call(const Pool *p, const Pool *was, const PoolRequest *q, const PoolReply *r) {
-    uint32_t number = r->verdict.number;
-    if (!guarded(&p->table) || !guarded(&p->slots)) return "a guard word of the pool has changed";
-    if (!guarded(&r->words) || !guarded(&r->room) || !guarded(&r->output)) return "a guard word has changed";
-    if (q->words_len && memcmp(r->words.words, q->words, 4 * q->words_len)) return "the input has changed";
-    bool same_table = !p->table.len || memcmp(p->table.words, was->table.words, 4 * p->table.len) == 0;
-    bool same_slots = !p->slots.len || memcmp(p->slots.words, was->slots.words, 4 * p->slots.len) == 0;
-    if ((number || q->call == READ) && !(same_table && same_slots)) return "table or slots have changed";
-    size_t zero = zeroed_by_pool(p, q, number), written = q->call == READ ? 3 * r->verdict.nodes : 0;
-    if (zero > r->room.len) return "the room was too short for this answer";
-    if (!zero_until(&r->room, zero)) return "the room is not zero";
-    if (!kept_from(&r->room, zero)) return "the rest of the room has changed";
-    if (written > r->output.len) return "the result is longer than the output";
-    if (!kept_from(&r->output, written)) return "the output beyond the result has changed";
-    if (number && (r->verdict.nodes || r->verdict.vars)) return "a refused verdict has counts";
-    if (!number && (r->verdict.place || r->verdict.vars != was->table.words[0])) return "an accepted verdict is not the pool's";
-    return NULL;
-}
 
 /* ---- which words are a pool, by the header's sentences */
 
@@ -143,6 +67,148 @@ static inline bool well_formed(const uint32_t *table, size_t table_len, const ui
         if (!met[p] && !is_free_place(table, p)) return false;
     }
     return true;
+}
+
+/* The records of a well-formed pool, two words each: its nodes one by one, and from each live slot all that is reached. */
+static inline void summary_of(const uint32_t *table, size_t table_len, const uint32_t *slots, uint32_t *row) {
+    size_t places = table_len / 3, vars = table[0];
+    for (size_t i = 0; i < 2 * vars; i++) row[i] = 0;
+    for (size_t p = 2; p < places; p++) {
+        if (!is_free_place(table, p)) row[2 * table[3 * p]]++;
+    }
+    for (size_t k = 0; k < HOUAYLETAN_SLOTS; k++) {
+        bool met[HOUAYLETAN_NODES] = {false}, tested[HOUAYLETAN_VARS] = {false};
+        if (slots[k]) reach(table, slots[k] - 1, met);
+        for (size_t p = 2; p < places; p++) {
+            if (met[p]) tested[table[3 * p]] = true;
+        }
+        for (size_t x = 0; x < vars; x++) row[2 * x + 1] += tested[x];
+    }
+}
+
+/* ---- what is lent */
+
+/* What is lent to each call, and kept in between. The row is two words a record. */
+typedef struct {
+    Lent table, slots, row;
+} Pool;
+
+static inline Pool lend_all(const uint32_t *table, size_t table_len, const uint32_t *slots, size_t slots_len, const uint32_t *row, size_t row_len,
+                            size_t guard) {
+    return (Pool){lend_copy(table, table_len, 5, guard), lend_copy(slots, slots_len, 6, guard), lend_copy(row, row_len, 7, guard)};
+}
+
+static inline Pool copy_of_pool(const Pool *p) {
+    return lend_all(p->table.words, p->table.len, p->slots.words, p->slots.len, p->row.words, p->row.len, 0);
+}
+
+/* Records behind those of the variables. */
+#define BEHIND 2
+
+/* With the row that belongs to the words where they are a pool. */
+static inline Pool lend_pool(const uint32_t *table, size_t table_len, const uint32_t *slots, size_t slots_len, size_t guard) {
+    Pool p = {lend_copy(table, table_len, 5, guard), lend_copy(slots, slots_len, 6, guard), {0}};
+    bool right = well_formed(table, table_len, slots, slots_len);
+    p.row = lend(right ? 2 * ((size_t)table[0] + BEHIND) : 2 * BEHIND, 7, guard);
+    if (right) summary_of(table, table_len, slots, p.row.words);
+    return p;
+}
+
+static inline HouayletanSignal *records(const Pool *p) { return (HouayletanSignal *)p->row.words; }
+
+static inline Pool lend_empty_pool(size_t places, uint32_t vars, size_t guard) {
+    Pool p = {lend(HOUAYLETAN_POOL(places), 5, guard), lend(HOUAYLETAN_SLOTS, 6, guard), lend(2 * ((size_t)vars + BEHIND), 7, guard)};
+    houayletan_pool_empty(p.table.words, p.table.len, p.slots.words, p.slots.len, records(&p), p.row.len / 2, vars);
+    return p;
+}
+
+static inline void give_pool_back(Pool *p) {
+    free(p->table.all);
+    free(p->slots.all);
+    free(p->row.all);
+}
+
+/* What the header says before all else of an add or a drop, or 0: the pool, the length of its row, its records. */
+static inline uint32_t stands(const Pool *p) {
+    static uint32_t fresh[2 * HOUAYLETAN_VARS];
+    if (!well_formed(p->table.words, p->table.len, p->slots.words, p->slots.len)) return 46;
+    size_t vars = p->table.words[0];
+    if (p->row.len / 2 < vars) return 37;
+    summary_of(p->table.words, p->table.len, p->slots.words, fresh);
+    return vars && memcmp(p->row.words, fresh, 8 * vars) ? 47 : 0;
+}
+
+/* ---- a call */
+
+typedef struct {
+    HouayletanVerdict verdict;
+    Lent words, room, output; /* until they are given back */
+} PoolReply;
+
+static inline void give_reply_back(PoolReply *r) {
+    free(r->words.all);
+    free(r->room.all);
+    free(r->output.all);
+}
+
+static inline PoolReply call_pool(Pool *p, const PoolRequest *q) {
+    size_t guard = p->table.guard;
+    PoolReply r = {{0, 0, 0, 0}, lend_copy(q->words, q->words_len, q->seed + 1, guard), lend(q->room_len, q->seed, guard),
+                   lend(q->output_len, q->seed + 3, guard)};
+    uint32_t *table = p->table.words, *slots = p->slots.words;
+    size_t table_len = p->table.len, slots_len = p->slots.len, row_len = p->row.len / 2;
+    HouayletanSignal *row = records(p);
+    switch (q->call) {
+    case ADD:
+        r.verdict = houayletan_pool_add(table, table_len, slots, slots_len, row, row_len, r.words.words, r.words.len, q->slot, r.room.words, r.room.len);
+        break;
+    case DROP: r.verdict = houayletan_pool_drop(table, table_len, slots, slots_len, row, row_len, q->slot); break;
+    case SUMMARIZE: r.verdict = houayletan_pool_summarize(table, table_len, slots, slots_len, row, row_len); break;
+    case READ:
+        r.verdict = houayletan_pool_read(table, table_len, slots, slots_len, q->slot, r.room.words, r.room.len, r.output.words, r.output.len);
+        break;
+    }
+    return r;
+}
+
+/* How many words of the room are zero after a call. */
+static inline size_t zeroed_by_pool(const Pool *p, const PoolRequest *q, uint32_t number) {
+    if (q->call == ADD) return number == 46 || number == 37 || number == 47 ? 0 : zeroed(number, q->words_len);
+    return q->call == READ && (number == 0 || number == 4) ? HOUAYLETAN_ROOM(p->table.len / 3) : 0;
+}
+
+static inline bool same_lent(const Lent *a, const Lent *b) { return a->len == b->len && (!a->len || memcmp(a->words, b->words, 4 * a->len) == 0); }
+
+/* NULL, or what is wrong with the row after a call; was is the pool as it was before. */
+static inline const char *wrong_row(const Pool *p, const Pool *was, const PoolRequest *q, uint32_t number) {
+    if (number || q->call == READ) return same_lent(&p->row, &was->row) ? NULL : "the row has changed";
+    size_t vars = was->table.words[0];
+    if (p->row.len / 2 < vars) return "the row was too short for this answer";
+    if (stands(p)) return "the row is not the pool's";
+    size_t rest = p->row.len - 2 * vars;
+    if (rest && memcmp(p->row.words + 2 * vars, was->row.words + 2 * vars, 4 * rest)) return "a record behind the row's has changed";
+    return NULL;
+}
+
+/* NULL, or what a call has done wrong to what it was lent; was is the pool as it was before. */
+static inline const char *wrong_pool_call(const Pool *p, const Pool *was, const PoolRequest *q, const PoolReply *r) {
+    uint32_t number = r->verdict.number;
+    if (!guarded(&p->table) || !guarded(&p->slots) || !guarded(&p->row)) return "a guard word of the pool has changed";
+    if (!guarded(&r->words) || !guarded(&r->room) || !guarded(&r->output)) return "a guard word has changed";
+    if (q->words_len && memcmp(r->words.words, q->words, 4 * q->words_len)) return "the input has changed";
+    bool same = same_lent(&p->table, &was->table) && same_lent(&p->slots, &was->slots);
+    if ((number || q->call == READ || q->call == SUMMARIZE) && !same) return "table or slots have changed";
+    const char *fault = wrong_row(p, was, q, number);
+    if (fault) return fault;
+    size_t zero = zeroed_by_pool(p, q, number), written = q->call == READ ? 3 * r->verdict.nodes : 0;
+    if (zero > r->room.len) return "the room was too short for this answer";
+    if (!zero_until(&r->room, zero)) return "the room is not zero";
+    if (!kept_from(&r->room, zero)) return "the rest of the room has changed";
+    if (written > r->output.len) return "the result is longer than the output";
+    if (!kept_from(&r->output, written)) return "the output beyond the result has changed";
+    if (number && (r->verdict.nodes || r->verdict.vars)) return "a refused verdict has counts";
+    if (!number && (r->verdict.place || r->verdict.vars != was->table.words[0])) return "an accepted verdict is not the pool's";
+    return NULL;
 }
 
 /* ---- what a pool holds */
@@ -212,9 +278,25 @@ static inline const Once *once(const Held *h) {
     return &o;
 }
 
-/* Whether table and slots are, word by word, those of what is held. */
+/* Whether the row is that of what is held: the nodes once each, and the variables of each array. */
+static inline bool counts_exactly(const Pool *p, const Held *h, const Once *o) {
+    static uint32_t row[2 * HOUAYLETAN_VARS], last[HOUAYLETAN_VARS];
+    memset(row, 0, sizeof row), memset(last, 0, sizeof last);
+    for (size_t i = 2; i < o->count; i++) row[2 * o->words[3 * i]]++;
+    for (uint32_t k = 0; k < HOUAYLETAN_SLOTS; k++) {
+        for (size_t i = 2; i < h->len[k] / 3; i++) {
+            uint32_t var = h->array[k][3 * i];
+            row[2 * var + 1] += last[var] != k + 1;
+            last[var] = k + 1;
+        }
+    }
+    return p->row.len / 2 >= h->vars && memcmp(p->row.words, row, 8 * (size_t)h->vars) == 0;
+}
+
+/* Whether table, slots and row are, word by word, those of what is held. */
 static inline bool holds_exactly(const Pool *p, const Held *h) {
     const Once *o = once(h);
+    if (!counts_exactly(p, h, o)) return false;
     if (o->count > h->places || p->table.len != HOUAYLETAN_POOL(h->places)) return false;
     for (size_t i = 3 * o->count; i < p->table.len; i++) {
         if (p->table.words[i]) return false;
@@ -222,9 +304,10 @@ static inline bool holds_exactly(const Pool *p, const Held *h) {
     return memcmp(p->table.words, o->words, 12 * o->count) == 0 && memcmp(p->slots.words, o->slots, sizeof o->slots) == 0;
 }
 
-/* What a well-formed pool must say, and what it then holds. own is the check of the words that are added, array their reduced array. */
+/* What a well-formed pool beside its row must say, and what it then holds. own is the check of the words that are added, array their reduced array. */
 static inline HouayletanVerdict pool_says(Held *h, const PoolRequest *q, HouayletanVerdict own, const uint32_t *array, size_t len) {
     const HouayletanVerdict no_slot = {33, 0, 0, 0}, wrong_slot = {34, 0, 0, 0}, full = {36, 0, 0, 0};
+    if (q->call == SUMMARIZE) return (HouayletanVerdict){0, 0, h->places, h->vars};
     if (q->call == ADD && own.number) return (HouayletanVerdict){own.number, own.place, 0, 0};
     if (q->slot >= HOUAYLETAN_SLOTS) return no_slot;
     if ((q->call == ADD) == (h->array[q->slot] != NULL)) return wrong_slot;
@@ -248,7 +331,7 @@ static inline bool same_verdict(HouayletanVerdict a, HouayletanVerdict b) {
 /* NULL, or what is wrong with an answer beside what the pool holds after it. */
 static inline const char *wrong_pool_answer(const Pool *p, const Held *h, const PoolRequest *q, const PoolReply *r, HouayletanVerdict expected) {
     if (!same_verdict(r->verdict, expected)) return "another verdict";
-    if (!holds_exactly(p, h)) return "table and slots are not those of what is held";
+    if (!holds_exactly(p, h)) return "table, slots and row are not those of what is held";
     if (q->call == READ && !expected.number && memcmp(r->output.words, h->array[q->slot], 4 * h->len[q->slot])) return "the array that was read";
     return NULL;
 }

@@ -108,6 +108,16 @@ pub struct Compared {
     pub smallest: Count,
 }
 
+/// A record of the row beside a pool: what there is of one variable.
+#[derive(Clone, Copy, Debug, Default, Eq, PartialEq)]
+#[repr(C)]
+pub struct Signal {
+    /// How many nodes of the table test it, each counted once.
+    pub nodes: u32,
+    /// How many live slots depend on it: from whose root such a node is reached.
+    pub slots: u32,
+}
+
 /// What reading or writing a node file says. Number 0: done, with the number of nodes. Else refused, and there are none.
 #[derive(Clone, Copy, Debug, Eq, PartialEq)]
 #[repr(C)]
@@ -231,37 +241,69 @@ pub fn compare(first: &[u32], second: &[u32], room: &mut [u32], table: &mut [u32
     unsafe { symbol(one.0, one.1, other.0, other.1, room.as_mut_ptr(), room.len(), table.as_mut_ptr(), table.len()) }
 }
 
-/// Writes the empty pool of that many variables: the two terminals and zeros. Where the table has fewer than two places, [`pool_for`] a
-/// number over [`crate::MOST_NODES`], the slots are not [`crate::limits::SLOTS`] or the variables too many, each call says 46 of it.
-pub fn pool_empty(table: &mut [u32], slots: &mut [u32], vars: u32) {
+/// Writes the empty pool of that many variables: the two terminals and zeros, also to the variables' records of the row. Where the table has
+/// fewer than two places, [`pool_for`] a number over [`crate::MOST_NODES`], the slots are not [`crate::limits::SLOTS`] or the variables too many,
+/// each call says 46 of it; where the row has fewer records, an add or a drop says 37.
+pub fn pool_empty(table: &mut [u32], slots: &mut [u32], row: &mut [Signal], vars: u32) {
     table.fill(0);
     slots.fill(0);
+    row.iter_mut().take(vars as usize).for_each(|signal| *signal = Signal::default());
     if let Some(terminals) = table.get_mut(..pool_for(2)) {
         terminals.copy_from_slice(&[vars, 0, 0, vars, 1, 1]);
     }
 }
 
-/// [`crate::Pool::add`], over what is lent: table ([`pool_for`]) and slots, and a room for the diagram ([`room_for`]). The verdict's nodes are
-/// those in use afterwards. Before all others it is refused 46 where table and slots are no pool.
-pub fn pool_add(table: &mut [u32], slots: &mut [u32], words: &[u32], slot: usize, room: &mut [u32]) -> Verdict {
+/// [`crate::Pool::add`], over what is lent: table ([`pool_for`]), slots and row, a record for each variable, and a room for the diagram
+/// ([`room_for`]). The verdict's nodes are those in use afterwards. Before all others it is refused 46 where table and slots are no pool, 37 where
+/// the row has fewer records than the pool has variables, and 47 where a record does not agree with the pool. Records behind those of the
+/// variables are neither looked at nor changed.
+pub fn pool_add(table: &mut [u32], slots: &mut [u32], row: &mut [Signal], words: &[u32], slot: usize, room: &mut [u32]) -> Verdict {
     extern "C" {
-        #[link_name = linked!(pool_add)]
+        #[link_name = "houayletan_pool_add_4"]
         fn symbol(
-            table: *mut u32, table_len: usize, slots: *mut u32, slots_len: usize, words: *const u32, words_len: usize,
-            slot: usize, room: *mut u32, room_len: usize,
+            table: *mut u32, table_len: usize, slots: *mut u32, slots_len: usize, row: *mut Signal, row_len: usize,
+            words: *const u32, words_len: usize, slot: usize, room: *mut u32, room_len: usize,
         ) -> Verdict;
     }
-    let (of_slots, of_words) = ((slots.as_mut_ptr(), slots.len()), (words.as_ptr(), words.len()));
-    unsafe { symbol(table.as_mut_ptr(), table.len(), of_slots.0, of_slots.1, of_words.0, of_words.1, slot, room.as_mut_ptr(), room.len()) }
+    let (of_table, of_slots) = ((table.as_mut_ptr(), table.len()), (slots.as_mut_ptr(), slots.len()));
+    let (of_row, of_words) = ((row.as_mut_ptr(), row.len()), (words.as_ptr(), words.len()));
+    let (rest, rest_len) = (room.as_mut_ptr(), room.len());
+    unsafe { symbol(of_table.0, of_table.1, of_slots.0, of_slots.1, of_row.0, of_row.1, of_words.0, of_words.1, slot, rest, rest_len) }
 }
 
-/// [`crate::Pool::drop`], over what is lent. The verdict's nodes are those in use afterwards. Before all others it is refused 46.
-pub fn pool_drop(table: &mut [u32], slots: &mut [u32], slot: usize) -> Verdict {
+/// [`crate::Pool::drop`], over what is lent. The verdict's nodes are those in use afterwards. Before all others it is refused 46, 37 and 47,
+/// as for [`pool_add`].
+pub fn pool_drop(table: &mut [u32], slots: &mut [u32], row: &mut [Signal], slot: usize) -> Verdict {
     extern "C" {
-        #[link_name = linked!(pool_drop)]
-        fn symbol(table: *mut u32, table_len: usize, slots: *mut u32, slots_len: usize, slot: usize) -> Verdict;
+        #[link_name = "houayletan_pool_drop_4"]
+        fn symbol(
+            table: *mut u32, table_len: usize, slots: *mut u32, slots_len: usize, row: *mut Signal, row_len: usize, slot: usize,
+        ) -> Verdict;
     }
-    unsafe { symbol(table.as_mut_ptr(), table.len(), slots.as_mut_ptr(), slots.len(), slot) }
+    let (of_table, of_slots) = ((table.as_mut_ptr(), table.len()), (slots.as_mut_ptr(), slots.len()));
+    unsafe { symbol(of_table.0, of_table.1, of_slots.0, of_slots.1, row.as_mut_ptr(), row.len(), slot) }
+}
+
+/// Works the row of a pool out, whatever it holds: for one that was kept without a row, and after 47. The verdict's nodes are the table's
+/// places. It is refused 46, then 37.
+///
+/// ```
+/// use houayletan::lent::{self, Signal};
+///
+/// // x0 in slot 0, true in slot 1
+/// let (table, mut slots) = ([2, 0, 0, 2, 1, 1, 0, 0, 1], [0; 64]);
+/// (slots[0], slots[1]) = (3, 2);
+/// let mut row = [Signal { nodes: 7, slots: 7 }; 3];
+/// assert_eq!(lent::pool_summarize(&table, &slots, &mut row).number, 0);
+/// assert_eq!(row.map(|signal| (signal.nodes, signal.slots)), [(1, 1), (0, 0), (7, 7)]);
+/// assert_eq!(lent::pool_summarize(&table, &slots, &mut row[..1]).number, 37);
+/// ```
+pub fn pool_summarize(table: &[u32], slots: &[u32], row: &mut [Signal]) -> Verdict {
+    extern "C" {
+        #[link_name = linked!(pool_summarize)]
+        fn symbol(table: *const u32, table_len: usize, slots: *const u32, slots_len: usize, row: *mut Signal, row_len: usize) -> Verdict;
+    }
+    unsafe { symbol(table.as_ptr(), table.len(), slots.as_ptr(), slots.len(), row.as_mut_ptr(), row.len()) }
 }
 
 /// [`crate::Pool::read`], over what is lent: a room for as many nodes as the table has places ([`room_for`]), and an output that is as long as

@@ -35,6 +35,7 @@ pub mod swapping;
 
 pub use comparison::{compare, Comparison, RefusedComparison, Valuation};
 pub use count::Count;
+pub use lent::Signal;
 pub use limits::{MOST_NODES, MOST_VARS};
 pub use pool::Pool;
 pub use refusal::Refusal;

@@ -1,13 +1,13 @@
-use crate::limits::SLOTS;
-use crate::{accepted, lent, room_for, Refusal};
+use crate::limits::{MOST_VARS, SLOTS};
+use crate::{accepted, lent, room_for, Refusal, Signal};
 
 /// The conditions of a site in one table of nodes: up to [`SLOTS`] of one variable count, each in a slot of its own. A node that several
 /// have in common takes one place of the table, and what a dropped condition alone had is free again.
 ///
 /// Table and slots are words, as docs/POOL.md has them: three a place, as in a diagram, zeros where it is free; and for each slot 0, or
 /// the place of its condition's root and 1 more. After an add or a drop the words depend on the conditions alone, and not on the calls
-/// that led there. A refused call changes nothing. Over words that the caller keeps the calls are [`lent::pool_add`],
-/// [`lent::pool_drop`] and [`lent::pool_read`].
+/// that led there. A refused call changes nothing. Beside them a record of each variable is kept ([`Pool::signals`]). Over words that the
+/// caller keeps the calls are [`lent::pool_add`], [`lent::pool_drop`], [`lent::pool_read`] and [`lent::pool_summarize`].
 ///
 /// ```
 /// // x2, or x0 and x1; and x2, of which every node is there already
@@ -30,6 +30,7 @@ use crate::{accepted, lent, room_for, Refusal};
 pub struct Pool {
     table: Vec<u32>,
     slots: Vec<u32>,
+    row: Vec<Signal>,
 }
 
 impl Pool {
@@ -46,11 +47,11 @@ impl Pool {
     pub fn new(places: usize, vars: u32) -> Result<Pool, Refusal> {
         // one place more than there may be is refused as any more are
         let (mut table, mut slots) = (vec![0; lent::pool_for(places.min(crate::MOST_NODES + 1))], vec![0; SLOTS]);
-        lent::pool_empty(&mut table, &mut slots, vars);
+        lent::pool_empty(&mut table, &mut slots, &mut [], vars);
         Pool::from_words(table, slots)
     }
 
-    /// The pool that was kept as words. Refusals: 46 where they are none.
+    /// The pool that was kept as words; its records are worked out. Refusals: 46 where they are none.
     ///
     /// ```
     /// let mut pool = houayletan::Pool::new(4, 1)?;
@@ -62,14 +63,11 @@ impl Pool {
     /// assert_eq!(refusal.to_string(), "refused 46 at 0: the table and the slots are no well-formed pool");
     /// # Ok::<(), houayletan::Refusal>(())
     /// ```
-    pub fn from_words(mut table: Vec<u32>, mut slots: Vec<u32>) -> Result<Pool, Refusal> {
-        // there is no such slot to drop: 33 is said of a pool, and changes nothing
-        let verdict = lent::pool_drop(&mut table, &mut slots, SLOTS);
-        if verdict.number == NO_SUCH_SLOT {
-            Ok(Pool { table, slots })
-        } else {
-            Err(Refusal { number: verdict.number, place: verdict.place })
-        }
+    pub fn from_words(table: Vec<u32>, slots: Vec<u32>) -> Result<Pool, Refusal> {
+        let mut row = vec![Signal::default(); MOST_VARS];
+        let accepted = accepted(lent::pool_summarize(&table, &slots, &mut row))?;
+        row.truncate(accepted.vars as usize);
+        Ok(Pool { table, slots, row })
     }
 
     /// Puts a condition in an empty slot, in reduced form; how many nodes are in use then, both terminals among them. Refusals: the
@@ -86,7 +84,8 @@ impl Pool {
     /// # Ok::<(), houayletan::Refusal>(())
     /// ```
     pub fn add(&mut self, slot: usize, words: &[u32]) -> Result<usize, Refusal> {
-        accepted(lent::pool_add(&mut self.table, &mut self.slots, words, slot, &mut room_for(words))).map(|accepted| accepted.nodes)
+        let (table, slots, row) = (&mut self.table, &mut self.slots, &mut self.row);
+        accepted(lent::pool_add(table, slots, row, words, slot, &mut room_for(words))).map(|accepted| accepted.nodes)
     }
 
     /// Empties a slot; how many nodes are in use then. What no other slot reaches is free again. Refusals: 33 for a slot that isn't there,
@@ -100,7 +99,7 @@ impl Pool {
     /// # Ok::<(), houayletan::Refusal>(())
     /// ```
     pub fn drop(&mut self, slot: usize) -> Result<usize, Refusal> {
-        accepted(lent::pool_drop(&mut self.table, &mut self.slots, slot)).map(|accepted| accepted.nodes)
+        accepted(lent::pool_drop(&mut self.table, &mut self.slots, &mut self.row, slot)).map(|accepted| accepted.nodes)
     }
 
     /// The condition in a slot: what [`crate::reduce`] gives of the diagram that was put there. Refusals: as for [`Pool::drop`].
@@ -141,14 +140,33 @@ impl Pool {
     pub fn slots(&self) -> &[u32] {
         &self.slots
     }
-}
 
-const NO_SUCH_SLOT: u32 = 33;
+    /// A record of each variable: how many nodes test it, and how many conditions depend on it. Those of the pool as it is, after any calls.
+    ///
+    /// ```
+    /// let mut pool = houayletan::Pool::new(9, 3)?;
+    /// let said = |pool: &houayletan::Pool| Vec::from_iter(pool.signals().iter().map(|signal| (signal.nodes, signal.slots)));
+    /// assert_eq!(said(&pool), [(0, 0); 3]);
+    /// // x2, or x0 and x1; the same again; and x2 alone
+    /// let (d, x2) = ([3, 0, 0, 3, 1, 1, 2, 0, 1, 1, 2, 1, 0, 2, 3], [3, 0, 0, 3, 1, 1, 2, 0, 1]);
+    /// for (slot, words) in [(0, &d[..]), (1, &d), (2, &x2)] {
+    ///     pool.add(slot, words)?;
+    /// }
+    /// assert_eq!(said(&pool), [(1, 2), (1, 2), (1, 3)]);
+    /// pool.drop(0)?;
+    /// pool.drop(1)?;
+    /// assert_eq!(said(&pool), [(0, 0), (0, 0), (1, 1)]);
+    /// # Ok::<(), houayletan::Refusal>(())
+    /// ```
+    pub fn signals(&self) -> &[Signal] {
+        &self.row
+    }
+}
 
 #[cfg(test)]
 mod tests {
     use super::*;
-    use crate::{not, reduce, validate, MOST_NODES, MOST_VARS};
+    use crate::{not, reduce, validate, MOST_NODES};
 
     /// All of some variables, given from the last to the first.
     fn all_of(vars: u32, variables: impl Iterator<Item = u32>) -> Vec<u32> {
@@ -158,6 +176,41 @@ mod tests {
             words.extend([variable, 0, below]);
         }
         words
+    }
+
+    /// What the records must say, from the slots as they are read: the different nodes below each variable as arrays of their own, and the
+    /// arrays that have one.
+    fn signals_of(pool: &Pool) -> Vec<Signal> {
+        let (mut signals, mut seen) = (vec![Signal::default(); pool.vars() as usize], std::collections::BTreeSet::new());
+        for slot in (0..SLOTS).filter(|slot| pool.is_live(*slot)) {
+            let words = pool.read(slot).unwrap();
+            // each node as the text of what is below it
+            let mut texts = vec!["0".to_string(), "1".to_string()];
+            let mut variables = std::collections::BTreeSet::new();
+            for node in words.chunks_exact(3).skip(2) {
+                let text = format!("({} {} {})", node[0], texts[node[1] as usize], texts[node[2] as usize]);
+                variables.insert(node[0]);
+                signals[node[0] as usize].nodes += seen.insert(text.clone()) as u32;
+                texts.push(text);
+            }
+            variables.iter().for_each(|variable| signals[*variable as usize].slots += 1);
+        }
+        signals
+    }
+
+    #[test]
+    fn the_row_is_kept() {
+        let mut pool = Pool::new(60, 7).unwrap();
+        for turn in 0..300u32 {
+            let slot = (turn.wrapping_mul(2654435761) >> 9) as usize % 20;
+            let words = all_of(7, (0..7).rev().filter(|i| turn.wrapping_mul(40503) >> (i + 3) & 1 == 1));
+            let words = if turn % 4 == 0 { not(&words).unwrap() } else { words };
+            let done = if pool.is_live(slot) { pool.drop(slot) } else { pool.add(slot, &words) };
+            assert!(done.is_ok() || done.unwrap_err().number == 36);
+            assert_eq!(pool.signals(), signals_of(&pool), "turn {turn}");
+            assert_eq!(Pool::from_words(pool.table().to_vec(), pool.slots().to_vec()).unwrap(), pool);
+        }
+        assert!(pool.signals().iter().any(|signal| signal.slots > signal.nodes) && pool.signals().iter().any(|signal| signal.nodes > 1));
     }
 
     #[test]
@@ -235,13 +288,26 @@ mod tests {
     fn over_what_is_lent() {
         let (mut table, mut slots) = ([7; lent::pool_for(4)], [7; SLOTS]);
         let (mut room, mut output) = ([7; lent::room_for(4) + 1], [7; 10]);
-        assert_eq!(lent::pool_drop(&mut table, &mut slots, 99).number, 46);
-        lent::pool_empty(&mut table, &mut slots, 2);
+        let seven = Signal { nodes: 7, slots: 7 };
+        let mut row = [seven; 3];
+        assert_eq!(lent::pool_drop(&mut table, &mut slots, &mut row, 99).number, 46);
+        lent::pool_empty(&mut table, &mut slots, &mut row, 2);
+        assert_eq!(row, [Signal::default(), Signal::default(), seven]);
         let x0_and_x1 = all_of(2, [1, 0].into_iter());
-        assert_eq!(lent::pool_add(&mut table, &mut slots, &x0_and_x1, 1, &mut room[..lent::room_for(4) - 1]).number, 5);
-        let verdict = lent::pool_add(&mut table, &mut slots, &x0_and_x1, 1, &mut room);
+        // 37, then 47, then the diagram's own; the room is not looked at
+        assert_eq!(lent::pool_add(&mut table, &mut slots, &mut row[..1], &[], 99, &mut []).number, 37);
+        row[1].slots = 1;
+        assert_eq!(lent::pool_add(&mut table, &mut slots, &mut row, &[], 99, &mut []).number, 47);
+        assert_eq!(lent::pool_drop(&mut table, &mut slots, &mut row, 99).number, 47);
+        let verdict = lent::pool_summarize(&table, &slots, &mut row);
+        assert_eq!((verdict.number, verdict.nodes, verdict.vars), (0, 4, 2));
+        assert_eq!(lent::pool_add(&mut table, &mut slots, &mut row, &[], 99, &mut []).number, 1);
+        assert_eq!(lent::pool_add(&mut table, &mut slots, &mut row, &x0_and_x1, 1, &mut room[..lent::room_for(4) - 1]).number, 5);
+        let verdict = lent::pool_add(&mut table, &mut slots, &mut row, &x0_and_x1, 1, &mut room);
         assert_eq!((verdict.number, verdict.nodes, verdict.vars), (0, 4, 2));
         assert_eq!((&table[6..], slots[1]), (&[1, 0, 1, 0, 0, 2][..], 4));
+        let one = Signal { nodes: 1, slots: 1 };
+        assert_eq!(row, [one, one, seven]);
         // 5 before 4, and 4 with the room zero
         assert_eq!(lent::pool_read(&table, &slots, 1, &mut room[2..], &mut output[..0]).number, 5);
         assert_eq!(lent::pool_read(&table, &slots, 1, &mut room, &mut output).number, 4);

@@ -18,7 +18,7 @@ fn in_threes(n: usize) -> String {
 /// ```
 #[derive(Clone, Copy, Debug, Eq, Hash, PartialEq)]
 pub struct Refusal {
-    /// 1 to 19, but 15; 31 and 32 of two diagrams; 33 to 36 and 46 of a pool; 51 to 55 of node files.
+    /// 1 to 19, but 15; 31 and 32 of two diagrams; 33 to 37, 46 and 47 of a pool; 51 to 55 of node files.
     pub number: u32,
     /// A node, a place in the list of a cut, or 0.
     pub place: usize,
@@ -53,7 +53,9 @@ impl Refusal {
             34 => "the slot is taken, where a condition is added, or empty, where one is read or dropped".into(),
             35 => "the pool has another variable count than the diagram".into(),
             36 => "the pool has no room for so many distinct nodes".into(),
+            37 => "the row has fewer records than the pool has variables".into(),
             46 => "the table and the slots are no well-formed pool".into(),
+            47 => "a record of the row doesn't agree with the pool".into(),
             51 => "the file is empty".into(),
             52 => "the length of the file is not a multiple of ten bytes".into(),
             53 => format!("there are more than {} nodes", in_threes(MOST_NODES)),
