@@ -1,34 +1,42 @@
-//! Calls to pools. The crate has no such thing, so what is expected is a model of document 02's E6: whether words are a pool by its own
-//! sentences, over sets; what each slot holds as a reduced array; and from these arrays every word of table and slots. Beside it, what
-//! each slot holds is kept by the calls and their answers alone.
+//! Calls to pools. The crate has no such thing, so what is expected is a model of document 02's E6 and E7: whether words are a pool by its own
+//! sentences, over sets; what each slot holds as a reduced array; from these arrays every word of table and slots; and of the row what the
+//! crate's `size_per_variable` says of the one table and its `support_set` of each array. Beside it, what each slot holds is kept by the calls
+//! and their answers alone.
 use crate::comparing::{any_length, beside, set_vars};
 use crate::generate;
 use crate::limits::{MOST_NODES, MOST_VARS, ROOM_PER_NODE, SLOTS};
 use crate::random::Random;
 use crate::reading::{self, Output, Refused};
 use crate::request::{written_form, zero_and_kept, Lent};
-use houayletan::{lent, Pool, Refusal};
+use houayletan::{lent, Pool, Refusal, Signal};
+use rust_text::Bdd;
 use std::collections::{BTreeMap, BTreeSet};
 
 const NO_SUCH_SLOT: u32 = 33;
 const WRONG_SLOT: u32 = 34;
 const OTHER_POOL: u32 = 35;
 const POOL_FULL: u32 = 36;
+const SHORT_ROW: u32 = 37;
 const NO_POOL: u32 = 46;
+const OTHER_ROW: u32 = 47;
 
 #[derive(Clone, Copy, Debug, Eq, Ord, PartialEq, PartialOrd)]
 enum Call {
     Add,
     Drop,
     Read,
+    Summarize,
 }
 
-const CALLS: [(Call, &str); 3] = [(Call::Add, "pool_add"), (Call::Drop, "pool_drop"), (Call::Read, "pool_read")];
+const CALLS: [(Call, &str); 4] =
+    [(Call::Add, "pool_add"), (Call::Drop, "pool_drop"), (Call::Read, "pool_read"), (Call::Summarize, "pool_summarize")];
 
 #[derive(Clone, Debug)]
 struct Request {
     table: Vec<u32>,
     slots: Vec<u32>,
+    /// Two words a record; none of a read.
+    row: Vec<u32>,
     call: Call,
     slot: usize,
     /// Of an add.
@@ -40,13 +48,14 @@ struct Request {
     seed: u32,
 }
 
-/// What is said, and the words afterwards: table, slots and what was written to the output.
+/// What is said, and the words afterwards: table, slots, row and what was written to the output.
 #[derive(Clone, Debug, Eq, PartialEq)]
 struct Answer {
     /// Nodes and variables.
     said: Result<(usize, u32), Refused>,
     table: Vec<u32>,
     slots: Vec<u32>,
+    row: Vec<u32>,
     written: Vec<u32>,
 }
 
@@ -140,11 +149,35 @@ fn one_table(v: u32, held: &Held) -> (Vec<u32>, Vec<u32>) {
     (table, slots)
 }
 
+/// The records of all variables, two words each.
+fn summary(v: u32, held: &Held) -> Vec<u32> {
+    let mut row = vec![0; 2 * v as usize];
+    for (var, nodes) in Bdd::from_words(&one_table(v, held).0).size_per_variable() {
+        row[2 * var.to_index()] = nodes as u32;
+    }
+    for var in held.values().flat_map(|array| Bdd::from_words(array).support_set()) {
+        row[2 * var.to_index() + 1] += 1;
+    }
+    row
+}
+
 /// The rows in their order, and what is held after an answer.
 fn says(request: &Request) -> Result<(usize, u32, Held), Refused> {
     let Request { table, slots, slot, words, .. } = request;
     if !well_formed(table, slots) {
         return Err((NO_POOL, 0));
+    }
+    if request.call != Call::Read {
+        if request.row.len() / 2 < table[0] as usize {
+            return Err((SHORT_ROW, 0));
+        }
+        let now = held(table, slots);
+        if request.call == Call::Summarize {
+            return Ok((table.len() / 3, table[0], now));
+        }
+        if !request.row.starts_with(&summary(table[0], &now)) {
+            return Err((OTHER_ROW, 0));
+        }
     }
     if request.call == Call::Add {
         reading::check(words, request.room, Output::Nothing, 0)?;
@@ -164,23 +197,27 @@ fn says(request: &Request) -> Result<(usize, u32, Held), Refused> {
         Call::Read if request.room < ROOM_PER_NODE * places => return Err((5, 0)),
         Call::Read if request.output < held[slot].len() => return Err((4, 0)),
         Call::Read => return Ok((held[slot].len() / 3, v, held)),
+        Call::Summarize => unreachable!(),
     }
     let nodes = one_table(v, &held).0.len() / 3;
     if nodes > places { Err((POOL_FULL, 0)) } else { Ok((nodes, v, held)) }
 }
 
 fn expected(request: &Request) -> Answer {
-    let (mut table, mut slots, mut written) = (request.table.clone(), request.slots.clone(), vec![]);
+    let (mut table, mut slots, mut row, mut written) = (request.table.clone(), request.slots.clone(), request.row.clone(), vec![]);
     let said = says(request).map(|(nodes, v, held)| {
         if request.call == Call::Read {
             written = held[&request.slot].clone();
         } else {
+            row.splice(..2 * v as usize, summary(v, &held));
+        }
+        if matches!(request.call, Call::Add | Call::Drop) {
             (table, slots) = one_table(v, &held);
             table.resize(request.table.len(), 0);
         }
         (nodes, v)
     });
-    Answer { said, table, slots, written }
+    Answer { said, table, slots, row, written }
 }
 
 // ---- the library
@@ -189,7 +226,7 @@ fn expected(request: &Request) -> Answer {
 fn zeroed(request: &Request, said: &Result<(usize, u32), Refused>) -> usize {
     let diagram = ROOM_PER_NODE * (request.words.len() / 3).max(2);
     match (request.call, said) {
-        (Call::Drop, _) | (_, Err((NO_POOL, _))) => 0,
+        (Call::Drop | Call::Summarize, _) | (_, Err((NO_POOL | SHORT_ROW | OTHER_ROW, _))) => 0,
         (Call::Add, Err((1..=5, _))) => 0,
         (Call::Add, _) => diagram,
         (Call::Read, Ok(_) | Err((4, _))) => ROOM_PER_NODE * (request.table.len() / 3),
@@ -197,19 +234,27 @@ fn zeroed(request: &Request, said: &Result<(usize, u32), Refused>) -> usize {
     }
 }
 
+/// The records of whole pairs of words.
+fn signals(words: &mut [u32]) -> &mut [Signal] {
+    // a record is laid out as two words, and no word is none
+    unsafe { std::slice::from_raw_parts_mut(words.as_mut_ptr().cast(), words.len() / 2) }
+}
+
 /// The library's answer, or what it did wrong to what it was lent.
 fn ask(request: &Request) -> Result<Answer, &'static str> {
     let mut table = Lent::of(&request.table, request.seed.wrapping_add(4));
     let mut slots = Lent::of(&request.slots, request.seed.wrapping_add(5));
+    let mut row = Lent::of(&request.row, request.seed.wrapping_add(6));
     let mut words = Lent::of(&request.words, request.seed.wrapping_add(1));
     let mut room = Lent::new(request.room, request.seed);
     let mut output = Lent::new(request.output, request.seed.wrapping_add(3));
     let lent::Verdict { number, place, nodes, vars } = match request.call {
-        Call::Add => lent::pool_add(table.words(), slots.words(), words.words(), request.slot, room.words()),
-        Call::Drop => lent::pool_drop(table.words(), slots.words(), request.slot),
+        Call::Add => lent::pool_add(table.words(), slots.words(), signals(row.words()), words.words(), request.slot, room.words()),
+        Call::Drop => lent::pool_drop(table.words(), slots.words(), signals(row.words()), request.slot),
         Call::Read => lent::pool_read(table.words(), slots.words(), request.slot, room.words(), output.words()),
+        Call::Summarize => lent::pool_summarize(table.words(), slots.words(), signals(row.words())),
     };
-    if ![&table, &slots, &words, &room, &output].iter().all(|l| l.guarded()) {
+    if ![&table, &slots, &row, &words, &room, &output].iter().all(|l| l.guarded()) {
         return Err("a guard word has changed");
     }
     if words.words() != request.words {
@@ -226,10 +271,11 @@ fn ask(request: &Request) -> Result<Answer, &'static str> {
     if written > request.output || !output.kept_from(written) {
         return Err("the output beyond the result");
     }
-    Ok(Answer { said, table: table.words().to_vec(), slots: slots.words().to_vec(), written: output.words()[..written].to_vec() })
+    let [table, slots, row] = [&mut table, &mut slots, &mut row].map(|lent| lent.words().to_vec());
+    Ok(Answer { said, table, slots, row, written: output.words()[..written].to_vec() })
 }
 
-/// By the type that keeps table and slots for itself: it lends enough, so that 5 and 4 say nothing of it.
+/// By the type that keeps table, slots and row for itself: it lends enough, and the row is its own, so that 5, 4, 37 and 47 say nothing of it.
 fn held_to(request: &Request, expected: &Answer) -> Result<(), String> {
     let refusal = |(number, place): Refused| Refusal { number, place };
     let said = Pool::from_words(request.table.clone(), request.slots.clone()).and_then(|mut pool| {
@@ -237,13 +283,18 @@ fn held_to(request: &Request, expected: &Answer) -> Result<(), String> {
             Call::Add => (pool.add(request.slot, &request.words)?, vec![]),
             Call::Drop => (pool.drop(request.slot)?, vec![]),
             Call::Read => pool.read(request.slot).map(|words| (words.len() / 3, words))?,
+            Call::Summarize => (pool.places(), vec![]),
         };
-        if request.call != Call::Read && pool.nodes() != nodes {
+        if matches!(request.call, Call::Add | Call::Drop) && pool.nodes() != nodes {
             return Err(refusal((0, 0)));
         }
-        Ok(((nodes, pool.vars()), pool.table().to_vec(), pool.slots().to_vec(), written))
+        let row = pool.signals().iter().flat_map(|signal| [signal.nodes, signal.slots]).collect::<Vec<_>>();
+        Ok(((nodes, pool.vars()), pool.table().to_vec(), pool.slots().to_vec(), row, written))
     });
-    let wanted = expected.said.map(|said| (said, expected.table.clone(), expected.slots.clone(), expected.written.clone())).map_err(refusal);
+    let wanted = expected.said.map_err(refusal).map(|said| {
+        let row = summary(said.1, &held(&expected.table, &expected.slots));
+        (said, expected.table.clone(), expected.slots.clone(), row, expected.written.clone())
+    });
     if said == wanted { Ok(()) } else { Err(format!("by the type Pool: expected {wanted:?}, got {said:?}")) }
 }
 
@@ -253,6 +304,8 @@ fn held_to(request: &Request, expected: &Answer) -> Result<(), String> {
 struct Script {
     table: Vec<u32>,
     slots: Vec<u32>,
+    /// With some words behind the records at times.
+    row: Vec<u32>,
     /// The most nodes of a diagram that is added.
     most: usize,
     /// What was put in each slot last, in reduced form: by the calls and their answers alone.
@@ -271,7 +324,9 @@ impl Script {
         let v = if random.one_in(3) { random.from_to(0, MOST_VARS) } else { random.from_to(0, 9) } as u32;
         let mut table = reading::constant(v, true);
         table.resize(3 * places, 0);
-        Script { table, slots: vec![0; SLOTS], most, last: Held::new() }
+        let mut row = vec![0; 2 * v as usize];
+        row.extend((0..random.below(6) / 2 * 2).map(|_| random.word()));
+        Script { table, slots: vec![0; SLOTS], row, most, last: Held::new() }
     }
 
     fn places(&self) -> usize {
@@ -318,17 +373,21 @@ impl Script {
         }
         let asked = match call {
             Call::Add => ROOM_PER_NODE * (words.len() / 3).max(2),
-            Call::Drop => 0,
+            Call::Drop | Call::Summarize => 0,
             Call::Read => ROOM_PER_NODE * self.places(),
         };
-        let room = if call != Call::Drop && random.one_in(8) { any_length(random, asked) } else { asked };
+        let room = if asked != 0 && random.one_in(8) { any_length(random, asked) } else { asked };
         let exact = self.last.get(&slot).map_or(0, Vec::len);
         let output = if call != Call::Read { 0 } else if random.one_in(3) { any_length(random, exact) } else { exact };
-        Request { table: self.table.clone(), slots: self.slots.clone(), call, slot, words, room, output, seed: random.word() }
+        let mut row = if call == Call::Read { vec![] } else { self.row.clone() };
+        if call != Call::Read && random.one_in(8) {
+            upset(random, &mut row, 2 * self.table[0] as usize);
+        }
+        Request { table: self.table.clone(), slots: self.slots.clone(), row, call, slot, words, room, output, seed: random.word() }
     }
 
     fn any(&self, random: &mut Random) -> Request {
-        let call = random.pick(&[Call::Add, Call::Add, Call::Add, Call::Drop, Call::Read]);
+        let call = if random.one_in(16) { Call::Summarize } else { random.pick(&[Call::Add, Call::Add, Call::Add, Call::Drop, Call::Read]) };
         let slot = self.slot(random, call != Call::Add);
         self.request(random, call, slot)
     }
@@ -337,7 +396,11 @@ impl Script {
     fn after(&mut self, request: &Request, answer: &Answer) {
         (self.table, self.slots) = (answer.table.clone(), answer.slots.clone());
         if answer.said.is_ok() {
+            if request.call != Call::Read {
+                self.row = answer.row.clone();
+            }
             match request.call {
+                Call::Summarize => (),
                 Call::Add => _ = self.last.insert(request.slot, reading::reduce(&request.words)),
                 Call::Drop => _ = self.last.remove(&request.slot),
                 Call::Read => assert_eq!(self.last[&request.slot], answer.written, "the model is wrong"),
@@ -361,6 +424,24 @@ fn scattered(random: &mut Random, table: &[u32], slots: &[u32]) -> (Vec<u32>, Ve
         made[at..at + 3].copy_from_slice(&[var, place[&low], place[&high]]);
     }
     (made, slots.iter().map(|word| if *word == 0 { 0 } else { place[&(word - 1)] + 1 }).collect())
+}
+
+/// Something done to a row: to a word of the records, to one behind them, or to its length.
+fn upset(random: &mut Random, row: &mut Vec<u32>, records: usize) {
+    match random.below(4) {
+        0 => row.truncate(random.below(records / 2 + 1) * 2),
+        1 => row.extend([random.word(), random.word()]),
+        2 if row.len() > records => {
+            let at = random.from_to(records, row.len() - 1);
+            row[at] = random.word();
+        }
+        _ if records > 0 => {
+            let some = random.below(records);
+            let at = random.pick(&[0, 1, records - 2, records - 1, some]);
+            row[at] = random.pick(&[0, 1, row[at].wrapping_add(1), row[at].wrapping_sub(1), row[at ^ 1], u32::MAX]);
+        }
+        _ => (),
+    }
 }
 
 /// Something done to a pool that may, or may not, spoil it.
@@ -398,12 +479,13 @@ fn line(request: &Request, answer: &Answer) -> String {
     let form = |words: &[u32]| format!(" {}{}", words.len(), written_form(words));
     let name = CALLS.iter().find(|(call, _)| *call == request.call).unwrap().1;
     let Request { slot, room, output, seed, .. } = request;
-    let asked = format!("{name} {} {} {slot} {} {room} {output} {seed}", join(&request.table), join(&request.slots), join(&request.words));
+    let [table, slots, row, words] = [&request.table, &request.slots, &request.row, &request.words].map(|words| join(words));
+    let asked = format!("{name} {table} {slots} {row} {slot} {words} {room} {output} {seed}");
     let said = match answer.said {
         Ok((nodes, vars)) => format!("0 0 {nodes} {vars}"),
         Err((number, place)) => format!("{number} {place} 0 0"),
     };
-    format!("{asked} = {said}{}{}{}", form(&answer.table), form(&answer.slots), form(&answer.written))
+    format!("{asked} = {said}{}{}{}{}", form(&answer.table), form(&answer.slots), form(&answer.row), form(&answer.written))
 }
 
 #[derive(Default)]
@@ -415,6 +497,8 @@ struct Tally {
     still: u64,
     most_nodes: usize,
     most_live: usize,
+    /// Of one variable.
+    most_slots: u32,
     /// Nodes of all arrays beyond the terminals, and of the tables that hold them: at the end of each pool.
     apart: u64,
     together: u64,
@@ -426,7 +510,7 @@ fn hold(request: &Request, i: u64, tally: &mut Tally) -> Answer {
     let expected = expected(request);
     let said = ask(request);
     let mut fault = if said.as_ref() == Ok(&expected) { Ok(()) } else { Err(format!("got {said:?}")) };
-    let short = matches!(expected.said, Err((4 | 5, _)));
+    let short = matches!(expected.said, Err((4 | 5 | SHORT_ROW | OTHER_ROW, _)));
     if fault.is_ok() && !short && i % 2 == 0 {
         tally.by_type += 1;
         fault = held_to(request, &expected);
@@ -436,7 +520,8 @@ fn hold(request: &Request, i: u64, tally: &mut Tally) -> Answer {
         std::process::exit(1);
     }
     *tally.said.entry((request.call, expected.said.map_or_else(|(number, _)| number, |_| 0))).or_default() += 1;
-    if let (Ok((nodes, _)), false) = (expected.said, request.call == Call::Read) {
+    if let (Ok((nodes, _)), true) = (expected.said, matches!(request.call, Call::Add | Call::Drop)) {
+        tally.most_slots = tally.most_slots.max(expected.row.iter().skip(1).step_by(2).take(expected.table[0] as usize).max().copied().unwrap_or(0));
         tally.most_nodes = tally.most_nodes.max(nodes);
         tally.most_live = tally.most_live.max(expected.slots.iter().filter(|word| **word != 0).count());
     }
@@ -474,11 +559,12 @@ pub fn compare(seed: u64, requests: u64) {
     println!("\ncalls to pools: {calls}, no difference; {} of them by the type Pool too; {} pools", tally.by_type, tally.pools);
     println!("{} times the nodes were put elsewhere; {} times words were changed to no pool, {} times to another one", tally.scattered, tally.spoilt, tally.still);
     println!("at most {} nodes and {} conditions; left at the end {} nodes for arrays of {} together", tally.most_nodes, tally.most_live, tally.together, tally.apart);
-    println!("\n| refusal | add | drop | read |\n|--:|--:|--:|--:|");
+    println!("at most {} conditions depend on one variable", tally.most_slots);
+    println!("\n| refusal | add | drop | read | summarize |\n|--:|--:|--:|--:|--:|");
     let numbers: BTreeSet<u32> = tally.said.keys().map(|(_, number)| *number).collect();
     for number in numbers {
-        let [add, drop, read] = CALLS.map(|(call, _)| tally.said.get(&(call, number)).copied().unwrap_or(0));
-        println!("| {} | {add} | {drop} | {read} |", if number == 0 { "answered".to_string() } else { number.to_string() });
+        let [add, drop, read, summarize] = CALLS.map(|(call, _)| tally.said.get(&(call, number)).copied().unwrap_or(0));
+        println!("| {} | {add} | {drop} | {read} | {summarize} |", if number == 0 { "answered".to_string() } else { number.to_string() });
     }
 }
 

@@ -1,6 +1,6 @@
-/* A caller of the header before this one, as an object compiled against it asks the linker for its functions: counts of 8 words, 64 words
- * of room for a node, 255 for sizes by variable, and the number 2 at the names of the cuts to a target alone. It must not link, for want of
- * every function (test.sh). */
+/* A caller of headers before this one, as an object compiled against them asks the linker for functions: those of counts of 8 words, 64 words
+ * of room for a node, 255 for sizes by variable, and the number 2 at the names of the cuts to a target alone; and of the last one the pool's add
+ * and drop without a row. It must not link, for want of every function (test.sh). */
 #include <stddef.h>
 #include <stdint.h>
 
@@ -16,6 +16,7 @@ typedef struct { uint32_t words[8]; } Natural;
 #define LIST const uint32_t *list, size_t list_len
 #define ROOM uint32_t *room, size_t room_len
 #define OUT uint32_t *output, size_t output_len
+#define POOL uint32_t *table, size_t table_len, uint32_t *slots, size_t slots_len
 
 void houayletan_clear(ROOM, size_t count);
 Verdict houayletan_validate(IN, ROOM);
@@ -39,15 +40,18 @@ Approximation houayletan_underapproximate_to_size_2(IN, uint32_t target, uint32_
 Approximation houayletan_overapproximate_to_size_2(IN, uint32_t target, uint32_t as_is, ROOM, OUT);
 Approximation houayletan_underapproximate_to_cardinality_2(IN, Natural target, uint32_t as_is, ROOM, OUT);
 Approximation houayletan_overapproximate_to_cardinality_2(IN, Natural target, uint32_t as_is, ROOM, OUT);
+Verdict houayletan_pool_add_3(POOL, IN, size_t slot, ROOM);
+Verdict houayletan_pool_drop_3(POOL, size_t slot);
 
 #define D words, 15
 #define BY list, 1
 #define IN_ROOM room, 5 * 64
 #define TO output, 255
+#define OF_POOL table, 15, slots, 64
 
 int main(void) {
     static const uint32_t words[15] = {3, 0, 0, 3, 1, 1, 2, 0, 1, 1, 2, 1, 0, 2, 3}, list[1] = {3};
-    static uint32_t room[5 * 64], output[255];
+    static uint32_t room[5 * 64], output[255], table[15] = {3, 0, 0, 3, 1, 1}, slots[64];
     const Natural five = {{5}};
     const Verdict said[] = {
         houayletan_validate(D, IN_ROOM), houayletan_node_valuation_weights(D, IN_ROOM, TO), houayletan_size_per_variable(D, IN_ROOM, TO),
@@ -62,6 +66,7 @@ int main(void) {
         houayletan_overapproximate_to_size_2(D, 5, 0, IN_ROOM, TO).verdict,
         houayletan_underapproximate_to_cardinality_2(D, five, 0, IN_ROOM, TO).verdict,
         houayletan_overapproximate_to_cardinality_2(D, five, 0, IN_ROOM, TO).verdict,
+        houayletan_pool_add_3(OF_POOL, D, 0, IN_ROOM), houayletan_pool_drop_3(OF_POOL, 0),
     };
     houayletan_clear(IN_ROOM, 5 * 64);
     uint32_t refused = 0;

@@ -24,9 +24,9 @@
  *
  * Of a pool:
  *
- *   pool_add, pool_drop or pool_read, number of words and the words of the table, of the slots, the slot, the same of the diagram, length of
- *   the room, length of the output, seed, '=', number, place, nodes, vars, and of table and slots afterwards and of what was written to the
- *   output each its number of words, and these words, or '#' and their sum. */
+ *   pool_add, pool_drop, pool_read or pool_summarize, number of words and the words of the table, of the slots, of the row, the slot, the same of
+ *   the diagram, length of the room, length of the output, seed, '=', number, place, nodes, vars, and of table, slots and row afterwards and of
+ *   what was written to the output each its number of words, and these words, or '#' and their sum. */
 #include "comparing.h"
 #include "files.h"
 #include "pooling.h"
@@ -157,8 +157,9 @@ static bool are_expected(const uint32_t *w, size_t len, size_t expected_len, uin
 
 /* NULL, or what is wrong with the answer to a line that calls a pool. */
 static const char *replay_pool(PoolCall call) {
-    static uint32_t table[3 * MOST], slots[2 * HOUAYLETAN_SLOTS];
-    size_t table_len = numbers(table, sizeof table / 4), slots_len = numbers(slots, sizeof slots / 4), slot = number();
+    static uint32_t table[3 * MOST], slots[2 * HOUAYLETAN_SLOTS], row[4 * HOUAYLETAN_VARS];
+    size_t table_len = numbers(table, sizeof table / 4), slots_len = numbers(slots, sizeof slots / 4), row_len = numbers(row, sizeof row / 4);
+    size_t slot = number();
     size_t words_len = numbers(words, sizeof words / 4), room_len = number(), output_len = number();
     const PoolRequest q = {call, slot, words, words_len, room_len, output_len, (uint32_t)number()};
     mark('=');
@@ -167,15 +168,17 @@ static const char *replay_pool(PoolCall call) {
     expected.place = number();
     expected.nodes = number();
     expected.vars = (uint32_t)number();
-    uint64_t table_sum, slots_sum, output_sum;
-    size_t new_table = expected_words(&table_sum), new_slots = expected_words(&slots_sum), written = expected_words(&output_sum);
+    uint64_t table_sum, slots_sum, row_sum, output_sum;
+    size_t new_table = expected_words(&table_sum), new_slots = expected_words(&slots_sum), new_row = expected_words(&row_sum);
+    size_t written = expected_words(&output_sum);
     mark('\n');
-    Pool p = lend_pool(table, table_len, slots, slots_len, 16), was = lend_pool(table, table_len, slots, slots_len, 0);
+    Pool p = lend_all(table, table_len, slots, slots_len, row, row_len, 16), was = copy_of_pool(&p);
     PoolReply r = call_pool(&p, &q);
     const char *fault = wrong_pool_call(&p, &was, &q, &r);
     if (!fault && !same_verdict(r.verdict, expected)) fault = "verdict";
     if (!fault && !are_expected(p.table.words, p.table.len, new_table, table_sum)) fault = "the table";
     if (!fault && !are_expected(p.slots.words, p.slots.len, new_slots, slots_sum)) fault = "the slots";
+    if (!fault && !are_expected(p.row.words, p.row.len, new_row, row_sum)) fault = "the row";
     if (!fault && !are_expected(r.output.words, call == READ ? 3 * r.verdict.nodes : 0, written, output_sum)) fault = "the words read";
     give_reply_back(&r);
     give_pool_back(&was);
@@ -185,14 +188,14 @@ static const char *replay_pool(PoolCall call) {
 
 /* NULL, or what is wrong with the answer to a line that is no request of operations.h. */
 static const char *replay_other(const char *name) {
-    for (int call = ADD; call <= READ; call++) {
+    for (size_t call = 0; call < POOL_CALLS; call++) {
         if (strcmp(name, pool_calls[call]) == 0) return replay_pool((PoolCall)call);
     }
     return strcmp(name, "compare") == 0 ? replay_comparison() : replay_file(strcmp(name, "write_as_bytes") == 0);
 }
 
 static bool is_other(const char *name) {
-    static const char *const others[] = {"compare", "read_as_bytes", "write_as_bytes", "pool_add", "pool_drop", "pool_read"};
+    static const char *const others[] = {"compare", "read_as_bytes", "write_as_bytes", "pool_add", "pool_drop", "pool_read", "pool_summarize"};
     for (size_t i = 0; i < sizeof others / sizeof others[0]; i++) {
         if (strcmp(name, others[i]) == 0) return true;
     }
