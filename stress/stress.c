@@ -12,8 +12,8 @@
  * beyond the result; number and place; words and bytes by another way of reading them; and the way back. Of every comparison: guards,
  * inputs, room and table; number, place and diagram; the pairs counted by another search; both counts add up to the diagrams' own; the
  * smallest is a difference; and of few variables counts and smallest by looking at every valuation. Of every call to a pool: guards, input,
- * room and output; number and place by a reading of the header's sentences, also of words that are no pool; and every word of table, slots
- * and output from the reduced arrays of what was put in each slot last. */
+ * room and output; number and place by a reading of the header's sentences, also of words that are no pool and of rows that are too short or
+ * another pool's; and every word of table, slots, row and output from the reduced arrays of what was put in each slot last. */
 #include "../tests/c/comparing.h"
 #include "../tests/c/files.h"
 #include "../tests/c/pooling.h"
@@ -504,8 +504,8 @@ static void tell_comparisons(void) {
 
 /* ---- pools */
 
-static unsigned long pools, pool_made, pool_refused[3][64]; /* by call and by number */
-static unsigned long pools_scattered, pools_spoilt, pools_still;
+static unsigned long pools, pool_made, pool_refused[POOL_CALLS][64]; /* by call and by number */
+static unsigned long pools_scattered, pools_spoilt, pools_still, rows_upset, rows_still;
 static size_t pool_nodes;
 
 /* A pool, and what it holds by the calls alone. Where its nodes were put elsewhere they stand in order again after the next accepted
@@ -522,13 +522,13 @@ static void stop_pool(const Pool *p, const PoolRequest *q, const PoolReply *r, H
     for (size_t i = 0; i < p->table.len; i++) printf(" %u", p->table.words[i]);
     printf("; slots");
     for (size_t i = 0; i < p->slots.len; i++) printf(" %u", p->slots.words[i]);
+    printf("; row");
+    for (size_t i = 0; i < p->row.len; i++) printf(" %u", p->row.words[i]);
     printf("; words");
     for (size_t i = 0; i < q->words_len; i++) printf(" %u", q->words[i]);
     printf("\n");
     exit(1);
 }
-
-static Pool copy_of_pool(const Pool *p) { return lend_pool(p->table.words, p->table.len, p->slots.words, p->slots.len, p->table.guard); }
 
 /* What is read of words that are added: their own refusal, and their reduced array. */
 static HouayletanVerdict own_of(const PoolRequest *q, const uint32_t **array, size_t *len) {
@@ -538,10 +538,13 @@ static HouayletanVerdict own_of(const PoolRequest *q, const uint32_t **array, si
     return (HouayletanVerdict){own.number, own.place, 0, 0};
 }
 
+/* Whether a call may change table and slots. */
+static bool moves(const PoolRequest *q) { return q->call == ADD || q->call == DROP; }
+
 static void tally_pool(const PoolRequest *q, HouayletanVerdict said) {
     pool_made++;
     pool_refused[q->call][said.number]++;
-    if (q->call != READ && said.nodes > pool_nodes) pool_nodes = said.nodes;
+    if (moves(q) && said.nodes > pool_nodes) pool_nodes = said.nodes;
 }
 
 /* An answer beside what the site holds; was is the pool before. */
@@ -550,7 +553,7 @@ static void check_pool(Site *s, const Pool *was, const PoolRequest *q, const Poo
     size_t len = 0;
     HouayletanVerdict own = own_of(q, &array, &len), expected = pool_says(&s->held, q, own, array, len);
     const char *fault = wrong_pool_call(&s->lent, was, q, r);
-    if (!expected.number && q->call != READ) s->in_order = true;
+    if (!expected.number && moves(q)) s->in_order = true;
     if (!fault && !same_verdict(r->verdict, expected)) fault = "another verdict";
     if (!fault && s->in_order) fault = wrong_pool_answer(&s->lent, &s->held, q, r, expected);
     bool is_read = q->call == READ && !expected.number;
@@ -585,13 +588,53 @@ static void scatter(Site *s) {
         to[0] = from[3 * p], to[1] = place[from[3 * p + 1]], to[2] = place[from[3 * p + 2]];
     }
     for (size_t k = 0; k < HOUAYLETAN_SLOTS; k++) slots[k] = s->lent.slots.words[k] ? place[s->lent.slots.words[k] - 1] + 1 : 0;
-    size_t guard = s->lent.table.guard;
-    give_pool_back(&s->lent);
-    s->lent = lend_pool(table, 3 * places, slots, HOUAYLETAN_SLOTS, guard);
+    Pool was = s->lent; /* its row stays */
+    s->lent = lend_all(table, 3 * places, slots, HOUAYLETAN_SLOTS, was.row.words, was.row.len, was.table.guard);
+    give_pool_back(&was);
     s->held.places = places, s->in_order = false, pools_scattered++;
 }
 
-/* A word or two become others, or a length another: 46, whatever the call, or where it is a pool still 33. */
+/* A call to a pool that is not the site's, and what it says before all else; or where it says nothing, and the row is the pool's, 33. The row may
+ * be worked out instead, where it is long enough. */
+static void call_other(Pool *p, const PoolRequest *like) {
+    uint32_t first = stands(p);
+    PoolRequest q = *like;
+    if (first != 46 && one_in(3)) q.call = SUMMARIZE;
+    if (first != 46 && q.call == READ) q.call = DROP;
+    if (!first && moves(&q)) q.call = DROP, q.slot = HOUAYLETAN_SLOTS + below(2);
+    Pool was = copy_of_pool(p);
+    PoolReply r = call_pool(p, &q);
+    HouayletanVerdict expected = {first ? first : 33, 0, 0, 0};
+    if (q.call == SUMMARIZE && (first == 0 || first == 47)) expected = (HouayletanVerdict){0, 0, p->table.len / 3, p->table.words[0]};
+    const char *fault = wrong_pool_call(p, &was, &q, &r);
+    if (!fault && !same_verdict(r.verdict, expected)) fault = "another verdict";
+    if (fault) stop_pool(&was, &q, &r, expected, fault);
+    tally_pool(&q, expected);
+    give_reply_back(&r);
+    give_pool_back(&was);
+}
+
+/* A word of the row becomes another, of the pool's records or behind them; or its length. */
+static void upset(const Site *s, const PoolRequest *like) {
+    static uint32_t row[2 * (VARS + 8)];
+    size_t len = s->lent.row.len, own = 2 * (size_t)s->held.vars;
+    memcpy(row, s->lent.row.words, 4 * len);
+    if (one_in(4)) {
+        len = one_in(2) ? 2 * below(own / 2 + 1) : own;
+    } else if (one_in(4)) {
+        row[len] = (uint32_t)next(), row[len + 1] = (uint32_t)next(), len += 2;
+    } else {
+        size_t at = own && !one_in(6) ? (one_in(4) ? own - 1 - below(2) : one_in(4) ? below(2) : below(own)) : own + below(len - own);
+        const uint32_t others[] = {0, 1, row[at] + 1, row[at] - 1, row[at ^ 1], UINT32_MAX};
+        row[at] = others[below(sizeof others / 4)];
+    }
+    Pool p = lend_all(s->lent.table.words, s->lent.table.len, s->lent.slots.words, s->lent.slots.len, row, len, s->lent.table.guard);
+    if (stands(&p)) rows_upset++; else rows_still++;
+    call_other(&p, like);
+    give_pool_back(&p);
+}
+
+/* A word or two become others, or a length another: 46, whatever the call, or where it is a pool still, 47, or 33 where the row is too. */
 static void spoil(const Site *s, const PoolRequest *like) {
     static uint32_t table[3 * HOUAYLETAN_NODES + 8], slots[HOUAYLETAN_SLOTS + 2];
     size_t table_len = s->lent.table.len, slots_len = HOUAYLETAN_SLOTS;
@@ -606,19 +649,9 @@ static void spoil(const Site *s, const PoolRequest *like) {
         *word = others[below(sizeof others / 4)];
     }
     if (one_in(6)) table[0] = table[3] = others[6 + below(5)];
-    bool right = well_formed(table, table_len, slots, slots_len);
-    PoolRequest q = *like;
-    if (right) q.call = DROP, q.slot = HOUAYLETAN_SLOTS + below(2);
-    Pool p = lend_pool(table, table_len, slots, slots_len, s->lent.table.guard), was = copy_of_pool(&p);
-    PoolReply r = call_pool(&p, &q);
-    HouayletanVerdict expected = {right ? 33 : 46, 0, 0, 0};
-    const char *fault = wrong_pool_call(&p, &was, &q, &r);
-    if (!fault && !same_verdict(r.verdict, expected)) fault = "another verdict";
-    if (fault) stop_pool(&was, &q, &r, expected, fault);
-    if (right) pools_still++; else pools_spoilt++;
-    tally_pool(&q, expected);
-    give_reply_back(&r);
-    give_pool_back(&was);
+    Pool p = lend_all(table, table_len, slots, slots_len, s->lent.row.words, s->lent.row.len, s->lent.table.guard);
+    if (well_formed(table, table_len, slots, slots_len)) pools_still++; else pools_spoilt++;
+    call_other(&p, like);
     give_pool_back(&p);
 }
 
@@ -643,10 +676,11 @@ static PoolRequest any_call(const Site *s) {
     if (one_in(30)) slot = one_in(2) ? HOUAYLETAN_SLOTS + below(3) : (size_t)next() | (size_t)1 << 32;
     bool live = slot < HOUAYLETAN_SLOTS && s->held.array[slot];
     PoolCall call = what < 5 ? (live && !one_in(8) ? (one_in(2) ? DROP : READ) : ADD) : (live || one_in(8) ? (what == 5 ? DROP : READ) : ADD);
+    if (one_in(16)) call = SUMMARIZE;
     PoolRequest q = {call, slot, words, 0, 0, 0, (uint32_t)next()};
     if (call == ADD) q.words_len = any_addition(s->held.vars, s->held.places), q.room_len = HOUAYLETAN_ROOM(q.words_len / 3);
     if (call == READ) q.room_len = HOUAYLETAN_ROOM(s->held.places), q.output_len = live ? s->held.len[slot] : below(10);
-    if (call != DROP && one_in(6)) q.room_len = any_length(q.room_len);
+    if (q.room_len && one_in(6)) q.room_len = any_length(q.room_len);
     if (call == READ && one_in(4)) q.output_len = any_length(q.output_len);
     return q;
 }
@@ -658,7 +692,7 @@ static void one_pool(size_t guard) {
     for (size_t calls = 10 + below(places < 1000 ? 60 : 10); calls; calls--) {
         if (one_in(10)) scatter(&s);
         PoolRequest q = any_call(&s);
-        if (one_in(5)) spoil(&s, &q); else call_site(&s, &q);
+        if (one_in(5)) spoil(&s, &q); else if (one_in(6)) upset(&s, &q); else call_site(&s, &q);
     }
     pools++;
     let_all_go(&s.held);
@@ -667,8 +701,9 @@ static void one_pool(size_t guard) {
 
 static void tell_pools(void) {
     printf("calls to pools: %lu, 0 failed, to %lu pools; nodes put elsewhere %lu times, words changed to no pool %lu times, to a pool still %lu times; "
-           "%zu nodes at most", pool_made, pools, pools_scattered, pools_spoilt, pools_still, pool_nodes);
-    for (int call = ADD; call <= READ; call++) {
+           "the row changed to another %lu times, behind its records %lu times; %zu nodes at most", pool_made, pools, pools_scattered, pools_spoilt,
+           pools_still, rows_upset, rows_still, pool_nodes);
+    for (size_t call = 0; call < POOL_CALLS; call++) {
         printf("; %s answered %lu, refused", pool_calls[call], pool_refused[call][0]);
         for (int i = 1; i < 64; i++) {
             if (pool_refused[call][i]) printf(" %d: %lu", i, pool_refused[call][i]);
@@ -787,8 +822,8 @@ static void start_thread(void) {
     }
 }
 
-/* The most places and levels: the ladder is added where there is nothing; true after it and before it; it is read; true is dropped beside it; and it
- * is added to another slot, which is refused for room where it is another ladder. */
+/* The most places and levels: the ladder is added where there is nothing; true after it and before it; it is read; true is dropped beside it; it
+ * is added to another slot, which is refused for room where it is another ladder; and the row is worked out. */
 static void deep_pools(size_t idle) {
     static const struct {
         const char *what;
@@ -798,7 +833,8 @@ static void deep_pools(size_t idle) {
     } steps[] = {
         {"pool_add, to an empty pool", ADD, 40, 0}, {"pool_add, of true behind it", ADD, 50, -1}, {"pool_add, of true before it", ADD, 3, -1},
         {"pool_add, of the same", ADD, 41, 0},      {"pool_add, for which there is no room", ADD, 42, 2}, {"pool_read", READ, 40, 0},
-        {"pool_drop, of true", DROP, 50, 0},        {"pool_drop, of one of two", DROP, 40, 0}, {"pool_drop, of the last", DROP, 41, 0},
+        {"pool_drop, of true", DROP, 50, 0},        {"pool_drop, of one of two", DROP, 40, 0}, {"pool_summarize", SUMMARIZE, 0, 0},
+        {"pool_drop, of the last", DROP, 41, 0},
     };
     deep_site = (Site){.lent = lend_empty_pool(HOUAYLETAN_NODES, VARS, 16), .held = {.vars = VARS, .places = HOUAYLETAN_NODES}, .in_order = true};
     thread_body = pool_on_own_stack;

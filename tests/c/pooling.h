@@ -49,7 +49,8 @@ static inline void reach(const uint32_t *table, uint32_t p, bool *met) {
     reach(table, table[3 * p + 2], met);
 }
 
-static inline bool well_formed(const uint32_t *table, size_t table_len, const uint32_t *slots, size_t slots_len) {
+/* Whether the words can be walked: all but that nodes are there once, and that each is reached. */
+static inline bool is_ordered(const uint32_t *table, size_t table_len, const uint32_t *slots, size_t slots_len) {
     size_t places = table_len / 3;
     if (table_len % 3 || places < 2 || places > HOUAYLETAN_NODES || slots_len != HOUAYLETAN_SLOTS) return false;
     if (!is_terminal_place(table, 0) || !is_terminal_place(table, 1) || table[0] > HOUAYLETAN_VARS) return false;
@@ -57,7 +58,16 @@ static inline bool well_formed(const uint32_t *table, size_t table_len, const ui
         if (slots[k] > places || (slots[k] && is_free_place(table, slots[k] - 1))) return false;
     }
     for (size_t p = 2; p < places; p++) {
-        if (!is_free_place(table, p) && (!is_right_node(table, places, p) || is_twice(table, p))) return false;
+        if (!is_free_place(table, p) && !is_right_node(table, places, p)) return false;
+    }
+    return true;
+}
+
+static inline bool well_formed(const uint32_t *table, size_t table_len, const uint32_t *slots, size_t slots_len) {
+    if (!is_ordered(table, table_len, slots, slots_len)) return false;
+    size_t places = table_len / 3;
+    for (size_t p = 2; p < places; p++) {
+        if (!is_free_place(table, p) && is_twice(table, p)) return false;
     }
     bool met[HOUAYLETAN_NODES] = {false};
     for (size_t k = 0; k < slots_len; k++) {
@@ -128,14 +138,17 @@ static inline void give_pool_back(Pool *p) {
     free(p->row.all);
 }
 
+/* Whether the row, which is long enough, is that of the words, which can be walked. */
+static inline bool agrees(const Pool *p) {
+    static uint32_t fresh[2 * HOUAYLETAN_VARS];
+    summary_of(p->table.words, p->table.len, p->slots.words, fresh);
+    return !p->table.words[0] || memcmp(p->row.words, fresh, 8 * (size_t)p->table.words[0]) == 0;
+}
+
 /* What the header says before all else of an add or a drop, or 0: the pool, the length of its row, its records. */
 static inline uint32_t stands(const Pool *p) {
-    static uint32_t fresh[2 * HOUAYLETAN_VARS];
     if (!well_formed(p->table.words, p->table.len, p->slots.words, p->slots.len)) return 46;
-    size_t vars = p->table.words[0];
-    if (p->row.len / 2 < vars) return 37;
-    summary_of(p->table.words, p->table.len, p->slots.words, fresh);
-    return vars && memcmp(p->row.words, fresh, 8 * vars) ? 47 : 0;
+    return p->row.len / 2 < p->table.words[0] ? 37 : agrees(p) ? 0 : 47;
 }
 
 /* ---- a call */
@@ -184,7 +197,8 @@ static inline const char *wrong_row(const Pool *p, const Pool *was, const PoolRe
     if (number || q->call == READ) return same_lent(&p->row, &was->row) ? NULL : "the row has changed";
     size_t vars = was->table.words[0];
     if (p->row.len / 2 < vars) return "the row was too short for this answer";
-    if (stands(p)) return "the row is not the pool's";
+    if (!is_ordered(p->table.words, p->table.len, p->slots.words, p->slots.len)) return "the words are no pool";
+    if (!agrees(p)) return "the row is not the pool's";
     size_t rest = p->row.len - 2 * vars;
     if (rest && memcmp(p->row.words + 2 * vars, was->row.words + 2 * vars, 4 * rest)) return "a record behind the row's has changed";
     return NULL;
