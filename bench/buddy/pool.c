@@ -1,15 +1,18 @@
 /* A site's conditions in one table, by the library's pool and by BuDDy, in one process: conditions of bench/site.h fill a pool, and then a script
  * of turns runs by either side: a condition is dropped, and another one, for which there is room, takes its slot.
  *
- *   ours    whole calls. Each begins with the check of table and slots (46), which is measured by itself as a drop of a slot that isn't there;
- *           an add checks the diagram too; a read leaves the room zero. Medians.
+ *   ours    whole calls, with the row beside the pool. Each begins with the check of table and slots (46), which is measured by itself as a drop
+ *           that is lent no row (37); add and drop then hold the row to the pool (47), measured with 46 as a drop of a slot that isn't there;
+ *           an add checks the diagram too; a read leaves the room zero. The row worked out is measured by itself too. Medians.
  *   BuDDy   a condition is a counted reference to its root. Add: its array, children first, by bdd_ite of each node, the root's count kept and
  *           the others' given back. Drop: the root's count is given back; that frees nothing yet, so the time is that and bdd_gbc, which finds
  *           and frees what no reference holds and empties the caches. Read: the array by bdd_var, bdd_low and bdd_high, in the order that ours
- *           has. Medians. Then the script once more without bdd_gbc, as a mean: BuDDy collects by itself when its table is full. The table has
+ *           has. Row: it keeps none. The slots are worked out by bdd_support of each root; the nodes, which bdd_varprofile gives of one root
+ *           alone, by a walk from all roots. Beside it bdd_varprofile of each root, which counts what they have in common for each. Medians. Then
+ *           the script once more without bdd_gbc, as a mean: BuDDy collects by itself when its table is full. The table has
  *           as many nodes as the functions of its variables take, and twice as many as ours has places, or eight times.
  *
- * What BuDDy reads is held to what the pool reads, word by word.
+ * What BuDDy reads is held to what the pool reads, word by word, and its row to the pool's.
  *
  *     bash bench/buddy/run.sh pool [SEED] */
 #include "../site.h"
@@ -18,9 +21,11 @@
 
 #define TURNS 4001
 #define RESERVE 256 /* conditions that take turns */
+#define ROW_ONE_IN 8 /* turns after which BuDDy's row is worked out: it takes long */
 #define SLOTS HOUAYLETAN_SLOTS
 
 static uint32_t table[HOUAYLETAN_POOL(HOUAYLETAN_NODES)], slots[SLOTS];
+static HouayletanSignal signals[HOUAYLETAN_VARS], worked_out[HOUAYLETAN_VARS];
 static uint32_t room[HOUAYLETAN_ROOM(HOUAYLETAN_NODES)], output[3 * HOUAYLETAN_NODES];
 static size_t places;
 static Array conditions[RESERVE];
@@ -32,17 +37,27 @@ static struct {
 } script[TURNS];
 
 static HouayletanVerdict add(size_t slot, const Array *a) {
-    return houayletan_pool_add(table, HOUAYLETAN_POOL(places), slots, SLOTS, a->words, a->len, slot, room, HOUAYLETAN_ROOM(a->len / 3));
+    return houayletan_pool_add(table, HOUAYLETAN_POOL(places), slots, SLOTS, signals, site_nodes.vars, a->words, a->len, slot, room, HOUAYLETAN_ROOM(a->len / 3));
 }
 
-static HouayletanVerdict drop(size_t slot) { return houayletan_pool_drop(table, HOUAYLETAN_POOL(places), slots, SLOTS, slot); }
+static HouayletanVerdict drop_beside(size_t records, size_t slot) {
+    return houayletan_pool_drop(table, HOUAYLETAN_POOL(places), slots, SLOTS, signals, records, slot);
+}
+
+static HouayletanVerdict drop(size_t slot) { return drop_beside(site_nodes.vars, slot); }
+
+static HouayletanVerdict summarize(void) {
+    return houayletan_pool_summarize(table, HOUAYLETAN_POOL(places), slots, SLOTS, worked_out, site_nodes.vars);
+}
+
+static void empty(void) { houayletan_pool_empty(table, HOUAYLETAN_POOL(places), slots, SLOTS, signals, site_nodes.vars, site_nodes.vars); }
 
 static HouayletanVerdict read_slot(size_t slot) {
     return houayletan_pool_read(table, HOUAYLETAN_POOL(places), slots, SLOTS, slot, room, HOUAYLETAN_ROOM(places), output, sizeof output / 4);
 }
 
 static void begin_ours(void) {
-    houayletan_pool_empty(table, HOUAYLETAN_POOL(places), slots, SLOTS, site_nodes.vars);
+    empty();
     for (size_t k = 0; k < live; k++) {
         holds[k] = began[k];
         if (add(k, &conditions[holds[k]]).number) stop("the conditions don't fit again");
@@ -53,7 +68,7 @@ static void begin_ours(void) {
 static size_t fill(Site *site, size_t with_places) {
     size_t used = 2;
     places = with_places, live = reserve = 0;
-    houayletan_pool_empty(table, HOUAYLETAN_POOL(places), slots, SLOTS, site_nodes.vars);
+    empty();
     while (reserve < RESERVE) {
         Array a = next_condition(site);
         if (!a.words) break;
@@ -168,6 +183,34 @@ static void hold(size_t condition, size_t nodes) {
     if (nodes != a->len / 3 || memcmp(output, a->words, 4 * a->len)) stop("what is read is not what was put there");
 }
 
+/* Each node that is reached once. */
+static void count_nodes(BDD f) {
+    if (f == bddfalse || f == bddtrue || their_place[f]) return;
+    their_place[f] = 1;
+    worked_out[bdd_var(f)].nodes++;
+    count_nodes(bdd_low(f));
+    count_nodes(bdd_high(f));
+}
+
+static void row_of_theirs(void) {
+    memset(worked_out, 0, sizeof worked_out);
+    for (size_t k = 0; k < live; k++) {
+        BDD support = bdd_addref(bdd_support(roots[k]));
+        for (BDD f = support; f != bddtrue; f = bdd_high(f)) worked_out[bdd_var(f)].slots++;
+        bdd_delref(support);
+        count_nodes(roots[k]);
+    }
+    for (size_t k = 0; k < live; k++) forget(roots[k]);
+}
+
+static void profiles_of_theirs(void) {
+    for (size_t k = 0; k < live; k++) free(bdd_varprofile(roots[k]));
+}
+
+static void hold_row(void) {
+    if (memcmp(worked_out, signals, site_nodes.vars * sizeof *signals)) stop("the row is not the one kept");
+}
+
 /* A table of so many nodes, in which all conditions stand. */
 static void begin_theirs(size_t nodes) {
     int room_for = (int)(nodes + 2 * site_nodes.vars + 2);
@@ -187,16 +230,20 @@ static void end_theirs(void) {
 /* ---- rows */
 
 typedef struct {
-    double check[TURNS], drop[TURNS], add[TURNS], read[TURNS];
+    double check[TURNS], held[TURNS], drop[TURNS], add[TURNS], read[TURNS], row[TURNS], profile[TURNS];
 } Measured;
 
 static void measure_ours(Measured *m) {
     for (size_t i = 0; i < TURNS; i++) {
         size_t slot = script[i].slot, condition = script[i].condition;
         double start = now();
-        HouayletanVerdict said = drop(SLOTS);
+        HouayletanVerdict said = drop_beside(0, SLOTS);
         m->check[i] = now() - start;
-        if (said.number != 33) stop("no pool");
+        if (said.number != 37) stop("no pool");
+        start = now();
+        said = drop(SLOTS);
+        m->held[i] = now() - start;
+        if (said.number != 33) stop("no row");
         start = now();
         said = drop(slot);
         double between = now();
@@ -208,6 +255,10 @@ static void measure_ours(Measured *m) {
         said = read_slot(slot);
         m->read[i] = now() - start;
         hold(condition, said.nodes);
+        start = now();
+        summarize();
+        m->row[i] = now() - start;
+        hold_row();
     }
 }
 
@@ -226,6 +277,14 @@ static void measure_theirs(Measured *m) {
         read_theirs(roots[slot]);
         m->read[i] = now() - start;
         hold(condition, their_count);
+        if (i % ROW_ONE_IN) continue;
+        start = now();
+        row_of_theirs();
+        m->row[i / ROW_ONE_IN] = now() - start;
+        if (i + ROW_ONE_IN >= TURNS) hold_row(); /* ours has run the whole script */
+        start = now();
+        profiles_of_theirs();
+        m->profile[i / ROW_ONE_IN] = now() - start;
     }
     end_theirs();
 }
@@ -256,9 +315,11 @@ static void row(uint64_t seed, size_t with_places, uint32_t machines, uint32_t l
     measure_theirs(&theirs);
     double few, many, twice = turns_of_theirs(2 * places, &few), eight = turns_of_theirs(8 * places, &many);
     double drop_ns = median(ours.drop, TURNS), add_ns = median(ours.add, TURNS), n = (double)places;
-    printf("| %zu | %zu | %zu | %u | %zu | %.1f | %.1f | %.1f | %.1f | %.0f, %.0f | %.1f | %.1f | %.1f | %.1f (%.1f %%) | %.1f (%.1f %%) |\n", places, used, live, site_nodes.vars, nodes / TURNS,
-           median(ours.check, TURNS) / 1000, drop_ns / 1000, add_ns / 1000, median(ours.read, TURNS) / 1000, drop_ns / n, add_ns / n, median(theirs.drop, TURNS) / 1000,
-           median(theirs.add, TURNS) / 1000, median(theirs.read, TURNS) / 1000, twice / 1000, few, eight / 1000, many);
+    const size_t rows = (TURNS + ROW_ONE_IN - 1) / ROW_ONE_IN;
+    printf("| %zu | %zu | %zu | %u | %zu | %.1f | %.1f | %.1f | %.1f | %.1f | %.1f | %.0f, %.0f | %.1f | %.1f | %.1f | %.1f, %.1f | %.1f (%.1f %%) | %.1f (%.1f %%) |\n", places, used, live,
+           site_nodes.vars, nodes / TURNS, median(ours.check, TURNS) / 1000, median(ours.held, TURNS) / 1000, drop_ns / 1000, add_ns / 1000, median(ours.read, TURNS) / 1000,
+           median(ours.row, TURNS) / 1000, drop_ns / n, add_ns / n, median(theirs.drop, TURNS) / 1000, median(theirs.add, TURNS) / 1000, median(theirs.read, TURNS) / 1000,
+           median(theirs.row, rows) / 1000, median(theirs.profile, rows) / 1000, twice / 1000, few, eight / 1000, many);
     fflush(stdout);
     let_go();
 }
@@ -283,7 +344,7 @@ static void whole_row(size_t with_places, uint32_t k) {
     if (!other.words || houayletan_not(a.words, a.len, room, sizeof room / 4, other.words, a.len).verdict.number) stop("no negation");
     places = with_places, reserve = live = 0;
     conditions[0] = a;
-    houayletan_pool_empty(table, HOUAYLETAN_POOL(places), slots, SLOTS, site_nodes.vars);
+    empty();
     begin_theirs(2 * places);
     for (size_t i = 0; i < WHOLE_TURNS; i++) {
         double start = now();
@@ -326,8 +387,8 @@ int main(int argc, char **argv) {
     printf("seed %llu, BuDDy %d.%d\n\n", (unsigned long long)seed, bdd_versionnum() / 10, bdd_versionnum() % 10);
     sharing(seed);
     printf("\n%d turns; times in µs, medians. BuDDy's drop collects. Its turns are means of a drop and an add where it collects by itself, in so many of them.\n\n", TURNS);
-    printf("| places | nodes in use | conditions | signals | nodes of one | check 46 | drop | add | read | ns a place: drop, add | BuDDy: drop | add | read | turn, in twice the nodes | in eight times |\n"
-           "|--:|--:|--:|--:|--:|--:|--:|--:|--:|--:|--:|--:|--:|--:|--:|\n");
+    printf("| places | nodes in use | conditions | signals | nodes of one | check 46 | 46 and 47 | drop | add | read | summarize | ns a place: drop, add | BuDDy: drop | add | read | row, profiles | "
+           "turn, in twice the nodes | in eight times |\n|--:|--:|--:|--:|--:|--:|--:|--:|--:|--:|--:|--:|--:|--:|--:|--:|--:|--:|\n");
     row(seed, 256, 5, 3);
     row(seed, 512, 8, 4);
     row(seed, 1024, 14, 6);
