@@ -382,9 +382,9 @@ def walk(s, rng, v, places, calls, slots):
 def walks(s, rng):
     for places in range(2, 9):
         for v in (1, 2, 3):
-            walk(s, rng, v, places, 50, (0, 1, 2, 5, 63, rng.choice((3, 64, FAR))))
+            walk(s, rng, v, places, 32, (0, 1, 2, 5, 63, rng.choice((3, 64, FAR))))
     for places, v in ((9, 3), (10, 4), (12, 4), (13, 5), (16, 4), (18, 6), (20, 4), (28, 7), (32, 4), (40, 8), (64, 5)):
-        walk(s, rng, v, places, 220, (0, 1, 2, 3, 7, 8, 20, 41, 62, 63, rng.choice((64, 65, FAR))))
+        walk(s, rng, v, places, 170, (0, 1, 2, 3, 7, 8, 20, 41, 62, 63, rng.choice((64, 65, FAR))))
     for places, v in ((60, 30), (90, 100), (150, MAX_VARS), (40, MAX_VARS - 1)):
         walk(s, rng, v, places, 120, (0, 1, 2, 3, 4, 5, 30, 31, 32, 63, 64))
 
@@ -429,9 +429,11 @@ def main():
     orders(s)
     wrong_words(s, rng)
     lengths(s)
+    pool_cases.lengths(s)
     pool_cases.by_hand(s)
+    pool_cases.damaged(s, rng)                          # 46; or 47, where it is a pool still
     pool_cases.offered(s, rng, 150)
-    any_pool(s, rng, 500)
+    any_pool(s, rng, 400)
     walks(s, rng)
     pool_cases.sites(s, rng)
     widest(s, rng)

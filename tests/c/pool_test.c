@@ -180,6 +180,7 @@ static void rows(void) {
         const uint32_t v = vars[i], words[] = {v, 0, 0, v, 1, 1, v - 1, 0, 1}, second[] = {v, 0, 0, v, 1, 1, 0, 1, 0};
         const size_t len = v ? LEN(words) : 6;
         Pool p = lend_empty_pool(6, v, 16);
+        expect(zero_until(&p.row, 2 * (size_t)v) && kept_from(&p.row, 2 * (size_t)v) && guarded(&p.row), "the row's own records", "pool_empty");
         says(&p, adding(40, words, len), 0, 0);
         for (size_t count = v < 3 ? 0 : v - 3; count < v + 4; count++) {
             static uint32_t row[2 * (VARS + 4)];
