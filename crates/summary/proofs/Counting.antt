@@ -251,6 +251,9 @@ module _ (t s : List ℕ) where
         → drop (summaryWords t) kept′ ≡ drop (summaryWords t) kept → kept′ ≡ renewed t s kept
     renewed-is kept′ long nodes slots behind =
         sym (take-append-drop (summaryWords t) kept′)
-        ∙ rw (behind, fresh-is (take (summaryWords t) kept′) (length-take-le (summaryWords t) kept′ long)
-        (λ i h. getD-take (summaryWords t) kept′ (recordWords * i) 0 (omega arith) ∙ nodes i h)
-        (λ i h. getD-take (summaryWords t) kept′ (recordWords * i + 1) 0 (omega arith) ∙ slots i h)) refl
+        ∙ rw (
+          behind,
+          fresh-is (take (summaryWords t) kept′) (length-take-le (summaryWords t) kept′ long)
+              (λ i h. getD-take (summaryWords t) kept′ (recordWords * i) 0 (omega arith) ∙ nodes i h)
+              (λ i h. getD-take (summaryWords t) kept′ (recordWords * i + 1) 0 (omega arith) ∙ slots i h),
+        ) refl

@@ -1,5 +1,11 @@
 -- The proofs of what specs/ promises.
 --     Counting    what working a summary out goes by
 --     Agreeing    a summary agrees exactly where its words are those worked out afresh
+--     Numbers     how many numbers pass a test is a number of things
+--     Rows        the verdicts, row by row, and when each is given
+--     Renewing    what is kept after an addition or a drop
 pub mod Counting
 pub mod Agreeing
+pub mod Numbers
+pub mod Rows
+pub mod Renewing
