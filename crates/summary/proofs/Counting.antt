@@ -59,7 +59,7 @@ unfolding nodesAt
 nodes-all t i = refl
 
 module _ (t : List ℕ) (i : ℕ) where
-  at-terminal : (p : ℕ) → p < 2 → isNodeAt t i p ≡ false
+  pub at-terminal : (p : ℕ) → p < 2 → isNodeAt t i p ≡ false
   unfolding isNodeAt
   at-terminal p h = simp (lt-leb 2 p h)
 
