@@ -15,12 +15,11 @@ use Rattle.diagram.proofs.Tests.{by-eq, not-both}
 use Rattle.diagram.proofs.Reading.{Layered, layered, at-end, at-level, pass-tests, pass-skips}
 use Rattle.pool.specs.Pool.{WellFormed, Inner}
 use Rattle.pool.proofs.Walked.{walked-whole, walked-ordered}
-use Rattle.summary.proofs.Counting.{Place, place-inside, low-place, high-place}
+use Rattle.summary.proofs.Counting.{Place, place-node, place-inside, low-place, high-place}
 
 pub table-ordered : (t s : List ℕ) → WellFormed t s → 0 < vars t → Ordered t
 table-ordered t s f some = subst Ordered (walked-whole t some) (walked-ordered t s f)
 
--- Two terminals that are told apart by nothing are one.
 ends-apart : (p q : ℕ) → p < 2 → q < 2 → p ≢ q → eqb p 1 ≢ eqb q 1
 ends-apart p q a b ne e = by-eq p 1
     (λ one. not-both (eqb p 1) (eq-eqb p 1 one) (e ∙ ne-eqb q 1 (omega arith)))
@@ -35,13 +34,10 @@ module _ (t s : List ℕ) (f : WellFormed t s) (some : 0 < vars t) where
     pub place : Place t p
     pub level : j ≤ varOf t p
 
-  node-at : (j p : ℕ) → Place t p → 2 ≤ p → Inner t p
-  node-at j p place two = ⊎-elim (λ ends. absurd (omega arith)) (λ node. node) place
-
   -- It is a node that tests j, or it stands at a larger variable.
   pub by-level : {C : Type 0} (j p : ℕ) → j < vars t → Stands j p → (Inner t p → varOf t p ≡ j → C) → (j < varOf t p → C) → C
   by-level j p h st tests skips = ⊎-elim
-      (λ a. tests (node-at j p (st .place) (a .0)) (a .1))
+      (λ a. tests (place-node t p (st .place) (a .0)) (a .1))
       skips
       (at-level t (vars t) (size t) layers j p (place-inside t s f p (st .place)) (st .level) h)
 
@@ -54,7 +50,7 @@ module _ (t s : List ℕ) (f : WellFormed t s) (some : 0 < vars t) where
       (λ node e. rw (pass-tests t j p b (node .after) e) (subst (λ (x : ℕ). Stands (suc x) (cond b (highOf t p) (lowOf t p))) e (child-stands p b node)))
       (λ up. rw (pass-skips t j p b up) (record { place = st .place; level = up }))
 
-  -- Where a bit tells the way, a node goes to its two children.
+  -- Two places that go the same way for both bits are one: a node goes to its two children, and others stay.
   module _ (j p q : ℕ) (low : pass t j p false ≡ pass t j q false) (high : pass t j p true ≡ pass t j q true) where
     both-test : Inner t p → varOf t p ≡ j → Inner t q → varOf t q ≡ j → p ≡ q
     both-test x d y e =
@@ -70,7 +66,6 @@ module _ (t s : List ℕ) (f : WellFormed t s) (some : 0 < vars t) where
     none-tests : j < varOf t p → j < varOf t q → p ≡ q
     none-tests a b = sym (pass-skips t j p false a) ∙ low ∙ pass-skips t j q false b
 
-  -- So two places that go the same way for both bits are one.
   pass-once : (j p q : ℕ) → j < vars t → Stands j p → Stands j q → pass t j p false ≡ pass t j q false → pass t j p true ≡ pass t j q true → p ≡ q
   pass-once j p q h a b low high = by-level j p h a
       (λ x d. by-level j q h b (both-test j p q low high x d) (λ up. absurd (one-tests j p q low high x d up)))

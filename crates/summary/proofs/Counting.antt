@@ -119,6 +119,9 @@ module _ (t s : List ℕ) (i k : ℕ) where
 abbrev pub Place : List ℕ → ℕ → Type 0
 Place t p = (p < 2) ⊎ Inner t p
 
+pub place-node : (t : List ℕ) (p : ℕ) → Place t p → 2 ≤ p → Inner t p
+place-node t p place two = ⊎-elim (λ ends. absurd (omega arith)) (λ node. node) place
+
 -- No way leads on from a terminal.
 pub comes-end : (t : List ℕ) (i d p : ℕ) → p < 2 → comesTo t i d p ≡ false
 unfolding comesTo

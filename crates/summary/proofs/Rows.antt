@@ -12,7 +12,7 @@ use Rattle.diagram.specs.Diagram.{size, vars}
 use Rattle.diagram.specs.Verdict.{Outcome, accepted, refused, row, andThen, verdictOf}
 use Rattle.diagram.specs.declared.verdict.Output.the-variants.{Nothing}
 use Rattle.diagram.proofs.Tests.{by-test, not-both}
-use Rattle.diagram.proofs.Outcomes.{same-refusal, never-both}
+use Rattle.diagram.proofs.Outcomes.{same-refusal, same-counts, never-both}
 use Rattle.pool.specs.Pool.{slotCount, WellFormed, isPool, needs}
 use Rattle.pool.specs.Answers.{placeOf, withAdded, withDropped, addOf, liveOf, dropOf}
 use Rattle.pool.proofs.Testing.{pool-told, pool-tells}
@@ -165,8 +165,11 @@ drop-small t s k = live-below t s k (needs (vars t) (withDropped t s k))
 
 -- ---- working a summary out
 
-pub summarized-roomy : (t s kept : List ℕ) (n v : ℕ) → summarized t s kept ≡ accepted n v → Roomy t s kept
-summarized-roomy t s kept n v e = by-roomy t s kept (accepted (size t) (vars t))
-    (λ none d. absurd (never-both d e))
-    (λ f h d. absurd (never-both d e))
-    (λ r d. r)
+pub is-summarized : (t s kept : List ℕ) (n v : ℕ) → (summarized t s kept ≡ accepted n v) ↔ (Roomy t s kept × (n ≡ size t) × (v ≡ vars t))
+is-summarized t s kept n v = (
+  (λ e. by-roomy t s kept (accepted (size t) (vars t))
+      (λ none d. absurd (never-both d e))
+      (λ f h d. absurd (never-both d e))
+      (λ r d. (r, same-counts e d .0, same-counts e d .1))),
+  (λ h. roomy-on t s kept (accepted (size t) (vars t)) (h .0) ∙ rw (h .1, h .2) refl),
+)
