@@ -100,10 +100,10 @@ pub depends-live : (t : List ℕ) (i r : ℕ) → dependsOn t i (suc r) ≡ come
 unfolding dependsOn
 depends-live t i r = refl
 
-module _ (t s : List ℕ) (i k : ℕ) where
-  pub slots-none : slotsBelow t s i 0 ≡ 0
-  slots-none = many-none (λ j. dependsOn t i (getD s j 0))
+pub slots-none : (t s : List ℕ) (i : ℕ) → slotsBelow t s i 0 ≡ 0
+slots-none t s i = many-none (λ k. dependsOn t i (getD s k 0))
 
+module _ (t s : List ℕ) (i k : ℕ) where
   pub slots-empty : getD s k 0 ≡ 0 → slotsBelow t s i (suc k) ≡ slotsBelow t s i k
   slots-empty e = many-no k (λ j. dependsOn t i (getD s j 0)) (ap (dependsOn t i) e ∙ depends-empty t i)
 
