@@ -7,5 +7,5 @@
 pub mod Records
 pub mod Places
 pub mod Stamps
--- pub mod Turns
+pub mod Turns
 -- pub mod Keeping

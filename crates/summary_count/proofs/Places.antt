@@ -1,13 +1,13 @@
 -- Nodes counted place by place: after the places below p each record has the nodes among these.
 use Prim.Native.Nat.{ℕ, suc, _+_, _*_, _≤_, _<_}
-use mathlib.Core.Path.{_≡_, refl, sym, ap, _∙_}
+use mathlib.Core.Path.{_≡_, refl, sym, ap, _∙_, subst}
 use mathlib.Core.Bool.{true, false}
 use mathlib.Core.List.{List}
 use native.Mathlib.Omega.{arith}
 use lib.ListN.{length, set, length-set}
 use Rattle.diagram.specs.Limits.{maxNodes}
 use Rattle.diagram.specs.Diagram.{varOf, size, vars}
-use Rattle.diagram.proofs.Tests.{by-test, by-eq}
+use Rattle.diagram.proofs.Tests.{by-test, by-eq, cond-true, cond-false}
 use Rattle.pool.specs.Pool.{WellFormed, Inner, isFree}
 use Rattle.pool.proofs.Testing.{used-told}
 use Rattle.summary.specs.Summary.{recordWords, summaryWords, isNodeAt}
@@ -46,7 +46,7 @@ module _ (t kept : List ℕ) (ready : Ready t kept) where
       long : summaryWords t ≤ length kept′
       long = let e = below .behind .long in let l = ready .long in omega arith
 
-      pub few : nodesIn kept′ (varOf t p) < maxNodes
+      few : nodesIn kept′ (varOf t p) < maxNodes
       few =
           let e = below .nodes (varOf t p) in-range in
           let m = many-most p (isNodeAt t (varOf t p)) in
@@ -71,11 +71,17 @@ module _ (t kept : List ℕ) (ready : Ready t kept) where
             slots = λ i h. slots-by-nodes (vars t) kept′ long (varOf t p) in-range x i ∙ below .slots i h;
           }
 
-    pub next-place : 2 ≤ p → p < size t → Below t kept (suc p) (withNode t p kept′)
+    next-place : 2 ≤ p → p < size t → Below t kept (suc p) (withNode t p kept′)
     unfolding withNode
     next-place two inside = by-test (isFree t p)
         (λ free. rw free (pass-free free))
         (λ used. rw used (count-it two inside used))
+
+    pub few-there : 2 ≤ p → p < size t → isFree t p ≡ false → nodesIn kept′ (varOf t p) < maxNodes
+    few-there two inside used = few two inside used
+
+    pub next-at : 2 ≤ p → p < size t → {kept₂ : List ℕ} → kept₂ ≡ withNode t p kept′ → Below t kept (p + 1) kept₂
+    next-at two inside e = subst (λ (l : List ℕ). Below t kept (p + 1) l) (sym e) (subst (λ (n : ℕ). Below t kept n (withNode t p kept′)) (omega arith) (next-place two inside))
 
   pub all-counted : {p : ℕ} {kept′ : List ℕ} → Below t kept p kept′ → p ≡ size t → Counted t kept kept′
   all-counted below e = record {
@@ -83,3 +89,21 @@ module _ (t kept : List ℕ) (ready : Ready t kept) where
     nodes = λ i h. below .nodes i h ∙ ap (nodesBelow t i) e ∙ sym (nodes-all t i);
     slots = below .slots;
   }
+
+-- ---- one place
+
+module _ (t : List ℕ) (p : ℕ) (kept : List ℕ) where
+  pub free-stays : isFree t p ≡ true → kept ≡ withNode t p kept
+  unfolding withNode
+  free-stays free = sym (cond-true (isFree t p) kept (set kept (recordWords * varOf t p) (nodesIn kept (varOf t p) + 1)) free)
+
+  module _ (var x : ℕ) (is-var : var ≡ varOf t p) (is-x : x ≡ nodesIn kept var) where
+    pub small-count : nodesIn kept (varOf t p) < maxNodes → x < maxNodes
+    small-count few = let e = is-x ∙ ap (nodesIn kept) is-var in omega arith
+
+    pub used-counts : isFree t p ≡ false → {kept′ : List ℕ} → kept′ ≡ set kept (recordWords * var) (x + 1) → kept′ ≡ withNode t p kept
+    unfolding withNode
+    used-counts used e =
+        e ∙ ap (λ (y : ℕ). set kept (recordWords * var) (y + 1)) is-x
+        ∙ ap (λ (y : ℕ). set kept (recordWords * y) (nodesIn kept y + 1)) is-var
+        ∙ sym (cond-false (isFree t p) kept (set kept (recordWords * varOf t p) (nodesIn kept (varOf t p) + 1)) used)

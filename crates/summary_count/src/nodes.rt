@@ -15,7 +15,7 @@ ghost use Rattle.summary_count.specs.Counting.{nodesIn, withNode, Ready,
 
 // Adds one to the nodes of a place's variable, unless the place is free.
 fn count_node(table: &[u32], summary: &mut [u32], node: BddPointer)
-    requires { ⌜ isFree (now table) (node .0) ≡ false → nodesIn (now summary) (varOf (now table) (node .0)) < maxNodes ⌝ }
+    requires { ⌜ (isFree (now table) (node .0) ≡ false → nodesIn (now summary) (varOf (now table) (node .0)) < maxNodes) ⌝ }
     ensures { λ _. ⌜ now (summary .exit) ≡ withNode (now (table .entry)) (node .0) (now (summary .entry)) ⌝ }
 {
     if is_free(table, node) {
