@@ -1,7 +1,7 @@
 -- The walk from a slot's root: at a terminal, at a marked node, and at a node whose children have been walked.
 use Prim.Native.Nat.{ℕ, _+_, _-_, _≤_, _<_}
-use mathlib.Core.Path.{_≡_, refl, sym, ap, _∙_}
-use mathlib.Core.Logic.{inl, inr, ⊎-elim, _≢_}
+use mathlib.Core.Path.{_≡_, refl, sym, ap, _∙_, subst}
+use mathlib.Core.Logic.{⊎-elim, _≢_}
 use mathlib.Core.Bool.{Bool, true, false, cond, _||_}
 use mathlib.Core.List.{List}
 use native.Mathlib.Omega.{arith}
@@ -27,7 +27,7 @@ module _ (t work : List ℕ) (number p : ℕ) (s : Stamping t work number p) whe
     stamps = λ i h. sym (cond-false (comesTo t i (vars t) p) number (getD work i 0) (comes-end t i (vars t) p ends));
   }
 
-  pub at-node : 2 ≤ p → Inner t p
+  at-node : 2 ≤ p → Inner t p
   at-node two = ⊎-elim (λ ends. absurd (omega arith)) (λ i. i) (s .place)
 
   -- A marked node has been walked.
@@ -45,7 +45,7 @@ module _ (t work : List ℕ) (number p : ℕ) (s : Stamping t work number p) whe
     formed : WellFormed t (s .slots)
     formed = s .pool
 
-    pub to-low : Stamping t work number (lowOf t p)
+    to-low : Stamping t work number (lowOf t p)
     to-low = record {
       slots = s .slots;
       pool = s .pool;
@@ -56,14 +56,14 @@ module _ (t work : List ℕ) (number p : ℕ) (s : Stamping t work number p) whe
     }
 
     -- The variables left fall.
-    pub low-falls : vars t - varOf t (lowOf t p) < vars t - varOf t p
+    low-falls : vars t - varOf t (lowOf t p) < vars t - varOf t p
     low-falls = let up = formed .ordered p node .low in let v = formed .ranges p node .var in omega arith
 
-    pub high-falls : vars t - varOf t (highOf t p) < vars t - varOf t p
+    high-falls : vars t - varOf t (highOf t p) < vars t - varOf t p
     high-falls = let up = formed .ordered p node .high in let v = formed .ranges p node .var in omega arith
 
     module _ {work₁ : List ℕ} (low : Stamped t work number (lowOf t p) work₁) where
-      pub to-high : Stamping t work₁ number (highOf t p)
+      to-high : Stamping t work₁ number (highOf t p)
       to-high = record {
         slots = s .slots;
         pool = s .pool;
@@ -115,12 +115,12 @@ module _ (t work : List ℕ) (number p : ℕ) (s : Stamping t work number p) whe
         kept : (i : ℕ) → i < vars t → getD work₂ i 0 ≡ number → getD marked i 0 ≡ number
         kept i h e = by-eq i var (λ same. ap (λ (j : ℕ). getD marked j 0) same ∙ at-var) (λ other. at-other i h other ∙ e)
 
-        -- Three tests: the variable itself, low, and high.
-        three : (i : ℕ) (a b c : Bool) (x : ℕ) → cond c number (cond b number x) ≡ cond (b || c) number x
-        three i a true true x = refl
-        three i a true false x = refl
-        three i a false true x = refl
-        three i a false false x = refl
+        -- Stamped by low, by high, or by both.
+        either : (b c : Bool) (x : ℕ) → cond c number (cond b number x) ≡ cond (b || c) number x
+        either true true x = refl
+        either true false x = refl
+        either false true x = refl
+        either false false x = refl
 
         comes : (i : ℕ) → Bool
         comes i = comesTo t i (vars t) (lowOf t p) || comesTo t i (vars t) (highOf t p)
@@ -135,7 +135,7 @@ module _ (t work : List ℕ) (number p : ℕ) (s : Stamping t work number p) whe
             (λ other.
             at-other i h other ∙ high .stamps i h
             ∙ ap (cond (comesTo t i (vars t) (highOf t p)) number) (low .stamps i h)
-            ∙ three i (eqb var i) (comesTo t i (vars t) (lowOf t p)) (comesTo t i (vars t) (highOf t p)) (getD work i 0)
+            ∙ either (comesTo t i (vars t) (lowOf t p)) (comesTo t i (vars t) (highOf t p)) (getD work i 0)
             ∙ ap (λ (b : Bool). cond b number (getD work i 0))
             (sym (comes-node t (s .slots) formed i p node ∙ ap (λ (b : Bool). b || comes i) (ne-eqb var i (λ e. other (sym e))))))
 
@@ -161,10 +161,56 @@ module _ (t work : List ℕ) (number p : ℕ) (s : Stamping t work number p) whe
             let f = high .few j in
             omega arith))
 
-        pub at-both : Stamped t work number p marked
+        at-both : Stamped t work number p marked
         at-both = record {
           long = length-set stamped (marks + p) number ∙ long₃ ∙ sym (s .long);
           settled = settled-it;
           few = few-it;
           stamps = stamps-it;
         }
+
+-- ---- the same with the words that the code has read
+
+module _ {t work : List ℕ} {number p : ℕ} (s : Stamping t work number p) where
+  pub walk-end : p < 2 → Stamped t work number p work
+  walk-end = at-end t work number p s
+
+  pub walk-marked : 2 ≤ p → {at x : ℕ} → at ≡ p → x ≡ markOf work at → x ≡ number → Stamped t work number p work
+  walk-marked two is-p is-x e = at-mark t work number p s two (ap (markOf work) (sym is-p) ∙ sym is-x ∙ e)
+
+  pub walk-near : p < maxNodes
+  walk-near =
+      let few = s .pool .few in
+      ⊎-elim (λ ends. let two = s .pool .two in omega arith) (λ i. let h = i .inside in omega arith) (s .place)
+
+  module _ (two : 2 ≤ p) where
+    node-there : Inner t p
+    node-there = at-node t work number p s two
+
+    pub walk-var : varOf t p < vars t
+    walk-var = s .pool .ranges p node-there .var
+
+    module _ {l : ℕ} (is-low : l ≡ lowOf t p) where
+      pub walk-low : Stamping t work number l
+      walk-low = subst (λ (q : ℕ). Stamping t work number q) (sym is-low) (to-low t work number p s node-there)
+
+      pub walk-low-falls : vars t - varOf t l < vars t - varOf t p
+      walk-low-falls = subst (λ (q : ℕ). vars t - varOf t q < vars t - varOf t p) (sym is-low) (low-falls t work number p s node-there)
+
+      module _ {work₁ : List ℕ} (low : Stamped t work number l work₁) {h : ℕ} (is-high : h ≡ highOf t p) where
+        low-done : Stamped t work number (lowOf t p) work₁
+        low-done = subst (λ (q : ℕ). Stamped t work number q work₁) is-low low
+
+        pub walk-high : Stamping t work₁ number h
+        walk-high = subst (λ (q : ℕ). Stamping t work₁ number q) (sym is-high) (to-high t work number p s node-there low-done)
+
+        pub walk-high-falls : vars t - varOf t h < vars t - varOf t p
+        walk-high-falls = subst (λ (q : ℕ). vars t - varOf t q < vars t - varOf t p) (sym is-high) (high-falls t work number p s node-there)
+
+        pub walk-done : {work₂ work₃ work₄ : List ℕ} → Stamped t work₁ number h work₂ → {var at : ℕ} → var ≡ varOf t p → at ≡ p
+            → work₃ ≡ set work₂ var number → work₄ ≡ set work₃ (marks + at) number → Stamped t work number p work₄
+        walk-done {work₂} {work₃} {work₄} high {var} {at} is-var is-p e₃ e₄ =
+            subst (λ (l : List ℕ). Stamped t work number p l)
+            (sym (e₄ ∙ ap (λ (q : ℕ). set work₃ (marks + q) number) is-p
+            ∙ ap (λ (l : List ℕ). set l (marks + p) number) (e₃ ∙ ap (λ (i : ℕ). set work₂ i number) is-var)))
+            (at-both t work number p s node-there low-done (subst (λ (q : ℕ). Stamped t work₁ number q work₂) is-high high))

@@ -1,6 +1,6 @@
 -- Slots counted one after the other: variable by variable once a slot is walked, and then slot by slot.
 use Prim.Native.Nat.{ℕ, suc, _+_, _*_, _≤_, _<_}
-use mathlib.Core.Path.{_≡_, refl, sym, ap, _∙_}
+use mathlib.Core.Path.{_≡_, refl, sym, ap, _∙_, subst}
 use mathlib.Core.Bool.{Bool, true, false, cond}
 use mathlib.Core.List.{List}
 use native.Mathlib.Omega.{arith}
@@ -89,11 +89,14 @@ module _ (v number : ℕ) (work kept : List ℕ) (noting : Noting v kept) where
       left = λ i m h. through .left i (omega arith) h;
     }
 
-    pub one-more : Through v number work kept (suc n) (withSlot work number n kept′)
+    one-more : Through v number work kept (suc n) (withSlot work number n kept′)
     unfolding withSlot
     one-more = by-eq (getD work n 0) number
         (λ on. rw (eq-eqb (getD work n 0) number on) (one-on on))
         (λ off. rw (ne-eqb (getD work n 0) number off) (one-off off))
+
+    pub one-next : {kept₂ : List ℕ} → kept₂ ≡ withSlot work number n kept′ → Through v number work kept (n + 1) kept₂
+    one-next e = subst (λ (l : List ℕ). Through v number work kept (n + 1) l) (sym e) (subst (λ (m : ℕ). Through v number work kept m (withSlot work number n kept′)) (omega arith) one-more)
 
   pub all-through : {n : ℕ} {kept′ : List ℕ} → Through v number work kept n kept′ → v ≤ n → Noted v number work kept kept′
   all-through through e = record {

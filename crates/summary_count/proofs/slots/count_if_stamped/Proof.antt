@@ -1,3 +1,6 @@
+use denote.Ref.{now}
+use mathlib.Core.Path.{sym, _∙_}
+use Rattle.summary_count.proofs.Turns.{off-stays, on-counts}
 use native.Mathlib.Omega.{arith}
 use borrow.Author.Needs.{needs}
 use Rattle.summary_count.proofs.slots.count_if_stamped.Statement.{statement}
@@ -13,7 +16,7 @@ word-requires c κs = search needs
 
 -- src/slots.rt:51:9
 returns : tie.Need-returns
-returns c = ?
+returns c = off-stays _ _ _ _ (λ e. c .if1 .taken (c .before .word .ensures ∙ e))
 
 -- src/slots.rt:53:14
 mul-at : tie.Need-mul-at
@@ -29,7 +32,7 @@ word-requires-2 c κs = search needs
 
 -- src/slots.rt:54:22
 add-put : tie.Need-add-put
-add-put c = search needs
+add-put c = let few = c .before .before .before .before .before .before .before .pre .1 in let e = c .word2 .ensures in omega arith
 
 -- src/slots.rt:54:5
 put-requires : tie.Need-put-requires
@@ -41,7 +44,7 @@ same-length c = search needs
 
 -- src/slots.rt:46:1
 returns-2 : tie.Need-returns-2
-returns-2 c = ?
+returns-2 c = on-counts _ _ _ _ (sym (c .before .before .before .before .before .before .before .word .ensures) ∙ c .before .before .before .before .before .before .if1 .left) _ (c .before .before .before .word2 .ensures) (c .before .before .put .ensures)
 
 pub count-if-stamped-spec : {M : Type 1} → statement M
 count-if-stamped-spec =
