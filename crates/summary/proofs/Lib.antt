@@ -6,6 +6,7 @@
 --     Depending   a live slot depends on a variable exactly where a way leads to a node that tests it
 --     Rows        the verdicts, row by row, and when each is given
 --     Renewing    what is kept after an addition or a drop
+--     Fronts      a call on the first records of a row is the call on the whole row
 --     Promised    what is promised of the summary
 --     Calls       what is promised of any list of calls
 pub mod Counting
@@ -15,5 +16,6 @@ pub mod Apart
 pub mod Depending
 pub mod Rows
 pub mod Renewing
+pub mod Fronts
 pub mod Promised
 pub mod Calls
