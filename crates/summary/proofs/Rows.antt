@@ -28,17 +28,17 @@ no-pool t s e f = not-both (isPool t s) (pool-tells t s f) e
 -- ---- the rows
 
 module _ (t s kept : List ℕ) (below : Outcome) where
-  roomy-off : isPool t s ≡ false → roomy t s kept below ≡ refused 46 0
+  pub roomy-off : isPool t s ≡ false → roomy t s kept below ≡ refused 46 0
   unfolding roomy
   roomy-off e = row-on 46 0 (not (isPool t s)) _ (ap not e)
 
-  roomy-short : WellFormed t s → length kept < summaryWords t → roomy t s kept below ≡ refused 37 0
+  pub roomy-short : WellFormed t s → length kept < summaryWords t → roomy t s kept below ≡ refused 37 0
   unfolding roomy
   roomy-short f h =
       row-off 46 0 (not (isPool t s)) _ (ap not (pool-tells t s f))
       ∙ row-on 37 0 (ltb (length kept) (summaryWords t)) _ (lt-ltb (length kept) (summaryWords t) h)
 
-  roomy-on : Roomy t s kept → roomy t s kept below ≡ below
+  pub roomy-on : Roomy t s kept → roomy t s kept below ≡ below
   unfolding roomy
   roomy-on r =
       row-off 46 0 (not (isPool t s)) _ (ap not (pool-tells t s (r .pool)))
@@ -62,7 +62,7 @@ module _ (t s kept : List ℕ) (answer : Outcome) where
   unfolding beside
   beside-on r same = roomy-on t s kept _ r ∙ row-off 47 0 (not (agrees t s kept)) answer (ap not (agrees-tells t s kept same))
 
-  beside-other : Roomy t s kept → agrees t s kept ≡ false → beside t s kept answer ≡ refused 47 0
+  pub beside-other : Roomy t s kept → agrees t s kept ≡ false → beside t s kept answer ≡ refused 47 0
   unfolding beside
   beside-other r e = roomy-on t s kept _ r ∙ row-on 47 0 (not (agrees t s kept)) answer (ap not e)
 

@@ -8,4 +8,4 @@ pub mod Records
 pub mod Places
 pub mod Stamps
 pub mod Turns
--- pub mod Keeping
+pub mod Keeping

@@ -1,7 +1,8 @@
 -- Slots counted one after the other: variable by variable once a slot is walked, and then slot by slot.
-use Prim.Native.Nat.{ℕ, suc, _+_, _*_, _≤_, _<_}
+use Prim.Native.Nat.{ℕ, suc, _+_, _-_, _*_, _≤_, _<_}
 use mathlib.Core.Path.{_≡_, refl, sym, ap, _∙_, subst}
-use mathlib.Core.Bool.{Bool, true, false, cond}
+use mathlib.Core.Logic.{_≢_}
+use mathlib.Core.Bool.{cond}
 use mathlib.Core.List.{List}
 use native.Mathlib.Omega.{arith}
 use lib.ListN.{length, getD, set, drop, replicate, length-set, length-replicate, getD-replicate, List·getD-eq-default}
@@ -110,7 +111,7 @@ module _ (v number : ℕ) (work kept : List ℕ) (noting : Noting v kept) where
 
 module _ (t s kept work : List ℕ) (k : ℕ) (slotting : Slotting t s kept work k) where
   -- An empty one counts nowhere.
-  pub slot-empty : getD s k 0 ≡ 0 → Slotted t s k kept kept work work
+  slot-empty : getD s k 0 ≡ 0 → Slotted t s k kept kept work work
   slot-empty e = record {
     behind = record { long = refl; rest = refl };
     nodes = λ i h. refl;
@@ -120,12 +121,12 @@ module _ (t s kept work : List ℕ) (k : ℕ) (slotting : Slotting t s kept work
   }
 
   module _ (r : ℕ) (named : getD s k 0 ≡ suc r) where
-    pub inside-slots : k < slotCount
+    inside-slots : k < slotCount
     inside-slots = by-eq k slotCount
         (λ e. absurd (let z = List·getD-eq-default s 0 {n = k} (let l = slotting .pool .slots in omega arith) in omega arith))
         (λ other. let i = slotting .inside in omega arith)
 
-    pub from-root : Stamping t work (suc k) r
+    from-root : Stamping t work (suc k) r
     from-root = record {
       slots = s;
       pool = slotting .pool;
@@ -135,7 +136,7 @@ module _ (t s kept work : List ℕ) (k : ℕ) (slotting : Slotting t s kept work
       few = λ j. let f = slotting .few j in omega arith;
     }
 
-    pub ready-to-note : Noting (vars t) kept
+    ready-to-note : Noting (vars t) kept
     ready-to-note = record {
       variables = slotting .pool .variables;
       long = slotting .long;
@@ -161,7 +162,7 @@ module _ (t s kept work : List ℕ) (k : ℕ) (slotting : Slotting t s kept work
           ∙ cond-false (eqb (getD work′ i 0) (suc k)) (suc (slotsIn kept i)) (slotsIn kept i) (ne-eqb (getD work′ i 0) (suc k) (λ e. absurd (omega arith)))
           ∙ slotting .slots i h ∙ sym (slots-off t s i k r named off))
 
-      pub slot-counted : Slotted t s k kept kept′ work work′
+      slot-counted : Slotted t s k kept kept′ work work′
       slot-counted = record {
         behind = record { long = noted .long; rest = noted .rest };
         nodes = noted .nodes;
@@ -169,6 +170,31 @@ module _ (t s kept work : List ℕ) (k : ℕ) (slotting : Slotting t s kept work
         room = stamped .long;
         few = stamped .few;
       }
+
+-- The same with the words that the code has read.
+module _ {t s kept work : List ℕ} {k : ℕ} (slotting : Slotting t s kept work k) {name : ℕ} (is-name : name ≡ getD s k 0) where
+  pub slot-skipped : name ≡ 0 → Slotted t s k kept kept work work
+  slot-skipped none = slot-empty t s kept work k slotting (sym is-name ∙ none)
+
+  module _ (some : name ≢ 0) where
+    named : getD s k 0 ≡ suc (name - 1)
+    named = sym is-name ∙ omega arith
+
+    number : suc k ≡ k + 1
+    number = omega arith
+
+    pub slot-root : Stamping t work (k + 1) (name - 1)
+    slot-root = subst (λ (n : ℕ). Stamping t work n (name - 1)) number (from-root t s kept work k slotting (name - 1) named)
+
+    module _ {v : ℕ} (is-vars : v ≡ vars t) where
+      pub slot-ready : Noting v kept
+      slot-ready = subst (λ (n : ℕ). Noting n kept) (sym is-vars) (ready-to-note t s kept work k slotting (name - 1) named)
+
+      pub slot-done : {work′ kept′ : List ℕ} → Stamped t work (k + 1) (name - 1) work′ → Noted v (k + 1) work′ kept kept′ → Slotted t s k kept kept′ work work′
+      slot-done {work′} {kept′} stamped noted =
+          slot-counted t s kept work k slotting (name - 1) named
+          (subst (λ (n : ℕ). Stamped t work n (name - 1) work′) (sym number) stamped)
+          (subst (λ (n : ℕ). Noted (vars t) n work′ kept kept′) (sym number) (subst (λ (n : ℕ). Noted n (k + 1) work′ kept kept′) is-vars noted))
 
 -- ---- all slots
 
@@ -193,9 +219,9 @@ module _ (t s kept : List ℕ) where
   pub up-none : {work : List ℕ} → Slotting t s kept work 0 → Up t s kept 0 kept work
   up-none slotting = record { slotting = slotting; behind = record { long = refl; rest = refl }; nodes = λ i h. refl }
 
-  pub up-next : (k : ℕ) {kept₁ kept₂ work₁ work₂ : List ℕ} → k < slotCount → Up t s kept k kept₁ work₁ → Slotted t s k kept₁ kept₂ work₁ work₂
+  up-suc : (k : ℕ) {kept₁ kept₂ work₁ work₂ : List ℕ} → k < slotCount → Up t s kept k kept₁ work₁ → Slotted t s k kept₁ kept₂ work₁ work₂
       → Up t s kept (suc k) kept₂ work₂
-  up-next k inside up slotted = record {
+  up-suc k inside up slotted = record {
     slotting = record {
       pool = up .slotting .pool;
       long = let e = slotted .behind .long in let l = up .slotting .long in omega arith;
@@ -207,6 +233,11 @@ module _ (t s kept : List ℕ) where
     behind = record { long = slotted .behind .long ∙ up .behind .long; rest = slotted .behind .rest ∙ up .behind .rest };
     nodes = λ i h. slotted .nodes i h ∙ up .nodes i h;
   }
+
+  pub up-next : (k : ℕ) {kept₁ kept₂ work₁ work₂ : List ℕ} → k < slotCount → Up t s kept k kept₁ work₁ → Slotted t s k kept₁ kept₂ work₁ work₂
+      → Up t s kept (k + 1) kept₂ work₂
+  up-next k {kept₁} {kept₂} {work₁} {work₂} inside up slotted =
+      subst (λ (n : ℕ). Up t s kept n kept₂ work₂) (omega arith) (up-suc k inside up slotted)
 
   pub up-all : {k : ℕ} {kept′ work : List ℕ} → slotCount ≤ k → Up t s kept k kept′ work → Worked t s kept kept′
   up-all {k} end up =

@@ -1,3 +1,5 @@
+use mathlib.Core.Path.{_∙_}
+use Rattle.summary_count.proofs.Turns.{slot-skipped, slot-root, slot-ready, slot-done}
 use native.Mathlib.Omega.{arith}
 use borrow.Author.Needs.{needs}
 use Rattle.summary_count.proofs.slots.count_slot.Statement.{statement}
@@ -14,15 +16,15 @@ word-requires c κs = search needs
 
 -- src/slots.rt:76:9
 returns : tie.Need-returns
-returns c = ?
+returns c = slot-skipped (c .before .before .before .before .before .before .pre) (c .before .word .ensures) (c .if1 .taken)
 
 -- src/slots.rt:78:18
 cast-number : tie.Need-cast-number
-cast-number c = search needs
+cast-number c = let i = c .before .before .before .before .before .before .pre .inside in omega arith
 
 -- src/slots.rt:78:18
 add-number : tie.Need-add-number
-add-number c = search needs
+add-number c = let i = c .before .before .before .before .before .before .pre .inside in omega arith
 
 -- src/slots.rt:79:43
 sub-count-stamped : tie.Need-sub-count-stamped
@@ -30,7 +32,7 @@ sub-count-stamped c = search needs
 
 -- src/slots.rt:79:5
 stamp-requires : tie.Need-stamp-requires
-stamp-requires c κs = search needs
+stamp-requires c κs = slot-root (c .before .before .before .before .before .before .before .pre) (c .before .before .word .ensures) (c .before .if1 .left)
 
 -- src/slots.rt:80:34
 word-requires-2 : tie.Need-word-requires-2
@@ -42,7 +44,7 @@ cast-count-stamped c = search needs
 
 -- src/slots.rt:80:5
 count-stamped-requires : tie.Need-count-stamped-requires
-count-stamped-requires c κs = search needs
+count-stamped-requires c κs = slot-ready (c .before .before .before .before .before .before .before .before .before .before .before .before .before .pre) (c .before .before .before .before .before .before .before .before .word .ensures) (c .before .before .before .before .before .before .before .if1 .left) (c .word2 .ensures)
 
 -- src/slots.rt:70:1
 same-length : tie.Need-same-length
@@ -54,7 +56,7 @@ same-length-2 c = search needs
 
 -- src/slots.rt:70:1
 returns-2 : tie.Need-returns-2
-returns-2 c = ?
+returns-2 c = slot-done (c .before .before .before .before .before .before .before .before .before .before .before .before .before .before .before .before .pre) (c .before .before .before .before .before .before .before .before .before .before .before .word .ensures) (c .before .before .before .before .before .before .before .before .before .before .if1 .left) (c .before .before .before .word2 .ensures) (c .before .before .before .before .before .before .before .before .stamp .ensures) (c .before .before .count-stamped .ensures)
 
 pub count-slot-spec : {M : Type 1} → statement M
 count-slot-spec =

@@ -1,3 +1,5 @@
+use mathlib.Core.Path.{refl}
+use Rattle.summary_count.proofs.Turns.{work-begins}
 use native.Mathlib.Omega.{arith}
 use borrow.Author.Needs.{needs}
 use Rattle.summary_count.proofs.slots.count_slots.Statement.{statement}
@@ -12,7 +14,7 @@ slice-aggregate-count-each c = search needs
 
 -- src/slots.rt:100:5
 count-each-requires : tie.Need-count-each-requires
-count-each-requires c κs = search needs
+count-each-requires c κs = work-begins _ _ _ (c .before .before .before .before .before .pre) _ refl
 
 -- src/slots.rt:95:1
 same-length : tie.Need-same-length
