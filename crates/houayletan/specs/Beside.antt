@@ -2,7 +2,7 @@
 use Prim.Native.Nat.{ℕ, _*_}
 use mathlib.Core.Path.{_≡_}
 use mathlib.Core.List.{List}
-use lib.ListN.{length, take}
+use lib.ListN.{take}
 use Rattle.diagram.specs.Verdict.{said}
 use Rattle.diagram.specs.declared.verdict.Verdict.{Verdict}
 use Rattle.summary.specs.Summary.{recordWords}
@@ -15,6 +15,6 @@ pub record Tells (v : Verdict) (r : Told) : Type 0 where
   pub records : r .records ≡ r .verdict .vars
 
 -- What an operation promises, of the words of so many records; the words behind them stay.
-pub record Worded (count : ℕ) (promise : List ℕ → List ℕ → Verdict → Type 0) (kept kept′ : List ℕ) (r : Told) : Type 0 where
-  pub kept : Flat (promise (take (recordWords * count) kept) (take (recordWords * count) kept′)) (r .verdict)
+pub record Worded (count : ℕ) (promise : List ℕ → List ℕ → Verdict → Type 0) (words words′ : List ℕ) (r : Told) : Type 0 where
+  pub kept : Flat (promise (take (recordWords * count) words) (take (recordWords * count) words′)) (r .verdict)
   pub records : r .records ≡ r .verdict .vars

@@ -35,14 +35,14 @@ pub struct Told {
 }
 
 // How many of a row's records are copied: a pool has no more variables.
-fn records(row: usize) -> usize
+pub fn records(row: usize) -> usize
     ensures { λ r. ⌜ r ≡ min row maxVariables ⌝ }
 {
     least(row, MAX_VARIABLES)
 }
 
 // The verdict laid flat has the variables where it is accepted, and else none: so many records have changed.
-fn told(verdict: Verdict) -> Told
+fn tell(verdict: Verdict) -> Told
     ensures { λ r. ⌜ Tells verdict r ⌝ }
 {
     let flat = flat(verdict);
@@ -65,7 +65,7 @@ fn add_words(
     ensures { λ r. ⌜ Worded count (λ kept kept′. AddsBeside (now (table .entry)) (now (slots .entry)) kept (now (words .entry)) slot (now (table .exit)) (now (slots .exit)) kept′ (now (room .entry)) (now (room .exit))) (now (summary .entry)) (now (summary .exit)) r ⌝ }
 {
     let end = RECORD * count;
-    told(add(table, slots, &mut summary[..end], words, slot, room))
+    tell(add(table, slots, &mut summary[..end], words, slot, room))
 }
 
 fn drop_words(
@@ -79,7 +79,7 @@ fn drop_words(
     ensures { λ r. ⌜ Worded count (λ kept kept′. DropsBeside (now (table .entry)) (now (slots .entry)) kept slot (now (table .exit)) (now (slots .exit)) kept′) (now (summary .entry)) (now (summary .exit)) r ⌝ }
 {
     let end = RECORD * count;
-    told(drop(table, slots, &mut summary[..end], slot))
+    tell(drop(table, slots, &mut summary[..end], slot))
 }
 
 fn summarize_words(table: &[u32], slots: &[u32], summary: &mut [u32], count: usize) -> Told
@@ -87,7 +87,7 @@ fn summarize_words(table: &[u32], slots: &[u32], summary: &mut [u32], count: usi
     ensures { λ r. ⌜ Worded count (Summarizes (now (table .entry)) (now (slots .entry))) (now (summary .entry)) (now (summary .exit)) r ⌝ }
 {
     let end = RECORD * count;
-    told(summarize(table, slots, &mut summary[..end]))
+    tell(summarize(table, slots, &mut summary[..end]))
 }
 
 // Puts a condition in an empty slot. Accepted, the verdict has the number of the nodes in use afterwards.

@@ -59,7 +59,7 @@ unfolding nodesAt
 nodes-all t i = refl
 
 module _ (t : List ℕ) (i : ℕ) where
-  at-terminal : (p : ℕ) → p < 2 → isNodeAt t i p ≡ false
+  pub at-terminal : (p : ℕ) → p < 2 → isNodeAt t i p ≡ false
   unfolding isNodeAt
   at-terminal p h = simp (lt-leb 2 p h)
 
@@ -100,10 +100,10 @@ pub depends-live : (t : List ℕ) (i r : ℕ) → dependsOn t i (suc r) ≡ come
 unfolding dependsOn
 depends-live t i r = refl
 
-module _ (t s : List ℕ) (i k : ℕ) where
-  pub slots-none : slotsBelow t s i 0 ≡ 0
-  slots-none = many-none (λ j. dependsOn t i (getD s j 0))
+pub slots-none : (t s : List ℕ) (i : ℕ) → slotsBelow t s i 0 ≡ 0
+slots-none t s i = many-none (λ k. dependsOn t i (getD s k 0))
 
+module _ (t s : List ℕ) (i k : ℕ) where
   pub slots-empty : getD s k 0 ≡ 0 → slotsBelow t s i (suc k) ≡ slotsBelow t s i k
   slots-empty e = many-no k (λ j. dependsOn t i (getD s j 0)) (ap (dependsOn t i) e ∙ depends-empty t i)
 
@@ -118,6 +118,9 @@ module _ (t s : List ℕ) (i k : ℕ) where
 -- A terminal or a node, as live slots and links name them.
 abbrev pub Place : List ℕ → ℕ → Type 0
 Place t p = (p < 2) ⊎ Inner t p
+
+pub place-node : (t : List ℕ) (p : ℕ) → Place t p → 2 ≤ p → Inner t p
+place-node t p place two = ⊎-elim (λ ends. absurd (omega arith)) (λ node. node) place
 
 -- No way leads on from a terminal.
 pub comes-end : (t : List ℕ) (i d p : ℕ) → p < 2 → comesTo t i d p ≡ false
@@ -251,6 +254,9 @@ module _ (t s : List ℕ) where
         → drop (summaryWords t) kept′ ≡ drop (summaryWords t) kept → kept′ ≡ renewed t s kept
     renewed-is kept′ long nodes slots behind =
         sym (take-append-drop (summaryWords t) kept′)
-        ∙ rw (behind, fresh-is (take (summaryWords t) kept′) (length-take-le (summaryWords t) kept′ long)
-        (λ i h. getD-take (summaryWords t) kept′ (recordWords * i) 0 (omega arith) ∙ nodes i h)
-        (λ i h. getD-take (summaryWords t) kept′ (recordWords * i + 1) 0 (omega arith) ∙ slots i h)) refl
+        ∙ rw (
+          behind,
+          fresh-is (take (summaryWords t) kept′) (length-take-le (summaryWords t) kept′ long)
+              (λ i h. getD-take (summaryWords t) kept′ (recordWords * i) 0 (omega arith) ∙ nodes i h)
+              (λ i h. getD-take (summaryWords t) kept′ (recordWords * i + 1) 0 (omega arith) ∙ slots i h),
+        ) refl

@@ -5,7 +5,7 @@ use mathlib.Core.Logic.{_↔_, _≢_}
 use mathlib.Core.Bool.{Bool, false, not}
 use mathlib.Core.List.{List}
 use lib.ListN.{length, getD, set, take, drop}
-use Rattle.diagram.specs.Diagram.{varOf, vars}
+use Rattle.diagram.specs.Diagram.{varOf, size, vars}
 use Rattle.diagram.specs.Verdict.{Outcome, accepted, refused, said}
 use Rattle.diagram.specs.declared.verdict.Verdict.{Verdict}
 use Rattle.counts.specs.Counting.{Number}
@@ -55,8 +55,8 @@ pub record Summaries : Type 0 where
   -- where all is well, the answer is the one without a summary
   pub as-without : (t s kept : List ℕ) (answer : Outcome) → Roomy t s kept → take (summaryWords t) kept ≡ freshSummary t s
       → beside t s kept answer ≡ answer
-  -- a summary can be worked out for any pool
-  pub worked-out : (t s kept : List ℕ) (n v : ℕ) → (summarized t s kept ≡ accepted n v) → Roomy t s kept
+  -- a summary can be worked out exactly where there is a pool, and a record for each variable
+  pub worked-out : (t s kept : List ℕ) (n v : ℕ) → (summarized t s kept ≡ accepted n v) ↔ (Roomy t s kept × (n ≡ size t) × (v ≡ vars t))
   -- after an addition or a drop that is answered, what is kept is what is worked out afresh, and nothing behind it has changed
   pub kept-by-add : (t s kept w : List ℕ) (k : ℕ) (t′ s′ kept′ room room′ : List ℕ) (r : Verdict) (n v : ℕ)
       → AddsBeside t s kept w k t′ s′ kept′ room room′ r → said r ≡ accepted n v → Renewed t′ s′ kept kept′

@@ -1,10 +1,11 @@
 -- Nodes counted by variable, for the code inside. A record's first number is the nodes', its second the slots'.
 use Prim.Native.Nat.{ℕ, _+_, _*_, _≤_, _<_}
 use mathlib.Core.Path.{_≡_}
+use mathlib.Core.Bool.{cond}
 use mathlib.Core.List.{List}
-use lib.ListN.{length, getD, drop}
-use Rattle.diagram.specs.Diagram.{vars}
-use Rattle.pool.specs.Pool.{WellFormed}
+use lib.ListN.{length, getD, set, drop}
+use Rattle.diagram.specs.Diagram.{varOf, vars}
+use Rattle.pool.specs.Pool.{WellFormed, isFree}
 use Rattle.summary.specs.Summary.{recordWords, summaryWords, nodesAt}
 
 -- The numbers of a record.
@@ -30,6 +31,10 @@ pub record Ready (t kept : List ℕ) : Type 0 where
   pub pool : WellFormed t slots
   pub long : summaryWords t ≤ length kept
   pub none : (i : ℕ) → i < vars t → nodesIn kept i ≡ 0
+
+-- One more node of place p's variable, unless the place is free.
+unfoldable pub withNode : List ℕ → ℕ → List ℕ → List ℕ
+withNode t p kept = cond (isFree t p) kept (set kept (recordWords * varOf t p) (nodesIn kept (varOf t p) + 1))
 
 pub record Counted (t kept kept′ : List ℕ) : Type 0 where
   pub behind : Behind t kept kept′

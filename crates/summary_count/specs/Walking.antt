@@ -4,7 +4,7 @@ use mathlib.Core.Path.{_≡_}
 use mathlib.Core.Logic.{_⊎_}
 use mathlib.Core.Bool.{Bool, true, cond}
 use mathlib.Core.List.{List}
-use lib.ListN.{length, getD, drop}
+use lib.ListN.{length, getD, set, drop}
 use lib.Dec.{eqb}
 use Rattle.diagram.specs.Limits.{maxNodes, maxVariables}
 use Rattle.diagram.specs.Diagram.{vars}
@@ -38,8 +38,13 @@ pub record Stamped (t work : List ℕ) (number p : ℕ) (work′ : List ℕ) : T
   pub few : (j : ℕ) → getD work′ j 0 ≤ number
   pub stamps : (i : ℕ) → i < vars t → getD work′ i 0 ≡ cond (comesTo t i (vars t) p) number (getD work i 0)
 
--- One is added to the slots of each stamped variable, which are fewer than all.
+-- One more slot of variable i, if it is stamped.
+unfoldable pub withSlot : List ℕ → ℕ → ℕ → List ℕ → List ℕ
+withSlot work number i kept = cond (eqb (getD work i 0) number) (set kept (recordWords * i + 1) (slotsIn kept i + 1)) kept
+
+-- So of each variable, which have fewer slots than there are.
 pub record Noting (v : ℕ) (kept : List ℕ) : Type 0 where
+  pub variables : v ≤ maxVariables
   pub long : recordWords * v ≤ length kept
   pub few : (i : ℕ) → i < v → slotsIn kept i < slotCount
 
@@ -57,7 +62,7 @@ slotsBefore t s k i = howMany k (λ j. dependsOn t i (getD s j 0))
 pub record Slotting (t s kept work : List ℕ) (k : ℕ) : Type 0 where
   pub pool : WellFormed t s
   pub long : summaryWords t ≤ length kept
-  pub inside : k < slotCount
+  pub inside : k ≤ slotCount
   pub slots : (i : ℕ) → i < vars t → slotsIn kept i ≡ slotsBefore t s k i
   pub room : length work ≡ marks + maxNodes
   pub few : (j : ℕ) → getD work j 0 ≤ k

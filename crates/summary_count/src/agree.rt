@@ -4,7 +4,8 @@ use diagram::limits::MAX_VARIABLES;
 use diagram::node::word;
 use summary::RECORD;
 ghost use mathlib.Core.Path.{_≡_};
-ghost use lib.ListN.{take};
+ghost use Prim.Native.Nat.{_≤_};
+ghost use lib.ListN.{length, take};
 ghost use Rattle.summary.specs.Kept.{same, agrees as agreesWith};
 ghost use Rattle.summary_count.specs.Counting.{Recounting};
 
@@ -12,6 +13,7 @@ const FRESH: usize = RECORD * MAX_VARIABLES;
 
 // Whether the first words are the same.
 fn is_same(kept: &[u32], fresh: &[u32], count: usize) -> bool
+    requires { ⌜ (count ≤ length (now kept)) × (count ≤ length (now fresh)) ⌝ }
     ensures { λ r. ⌜ r ≡ same (take count (now (kept .entry))) (take count (now (fresh .entry))) ⌝ }
 {
     let mut at = 0;

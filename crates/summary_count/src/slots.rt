@@ -12,7 +12,12 @@ use diagram::node::word;
 use diagram::room::put;
 use pool::SLOTS;
 use summary::RECORD;
-ghost use Rattle.summary_count.specs.Walking.{Stamping, Stamped, Noting, Noted, Slotting, Slotted, Working, Worked};
+ghost use Prim.Native.Nat.{_<_};
+ghost use mathlib.Core.Path.{_≡_};
+ghost use Rattle.diagram.specs.Limits.{maxVariables};
+ghost use Rattle.pool.specs.Pool.{slotCount};
+ghost use Rattle.summary_count.specs.Counting.{slotsIn};
+ghost use Rattle.summary_count.specs.Walking.{Stamping, Stamped, withSlot, Noting, Noted, Slotting, Slotted, Working, Worked};
 
 const MARKS: usize = MAX_VARIABLES;
 
@@ -37,6 +42,18 @@ fn stamp(table: &[u32], work: &mut [u32], number: u32, node: BddPointer)
     put(work, mark, number);
 }
 
+// Adds one to the slots of a variable, if it is stamped.
+fn count_if_stamped(work: &[u32], summary: &mut [u32], i: usize, number: u32)
+    requires { ⌜ (i < maxVariables) × (slotsIn (now summary) i < slotCount) ⌝ }
+    ensures { λ _. ⌜ now (summary .exit) ≡ withSlot (now (work .entry)) number i (now (summary .entry)) ⌝ }
+{
+    if word(work, i) != number {
+        return;
+    }
+    let at = RECORD * i + 1;
+    put(summary, at, word(summary, at) + 1);
+}
+
 // Adds one to the second number of each stamped variable's record.
 fn count_stamped(work: &[u32], summary: &mut [u32], vars: usize, number: u32)
     requires { ⌜ Noting vars (now summary) ⌝ }
@@ -44,10 +61,7 @@ fn count_stamped(work: &[u32], summary: &mut [u32], vars: usize, number: u32)
 {
     let mut i = 0;
     while i < vars {
-        if word(work, i) == number {
-            let at = RECORD * i + 1;
-            put(summary, at, word(summary, at) + 1);
-        }
+        count_if_stamped(work, summary, i, number);
         i += 1;
     }
 }

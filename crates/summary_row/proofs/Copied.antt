@@ -2,6 +2,7 @@
 --     blank            a record to name where a list is too short
 --     taken rs ws i    the words ws once the first i of the records rs stand in them, by the stores that `take` makes
 --     given ws rs i    the records rs once the first i are made of the words ws, by the stores that `give` makes
+--     length-words                  two words for each record
 --     taken-length, given-length    no store changes a length
 --     taken-is, given-is            what the contracts say of the list at the end
 --     Bounds, bounds                what a turn computes is in range
@@ -40,7 +41,7 @@ front-two i xs ys l m =
     twice = omega arith
 
 -- ---- the words of a row
-length-words : (rs : List Signal) → length (wordsOf rs) ≡ 2 * length rs
+pub length-words : (rs : List Signal) → length (wordsOf rs) ≡ 2 * length rs
 unfolding wordsOf
 length-words [] = refl
 length-words (r ∷ rs) = ap (λ (k : ℕ). suc (suc k)) (length-words rs) ∙ omega arith

@@ -1,3 +1,7 @@
+use denote.Ref.{now}
+use mathlib.Core.Path.{sym, _∙_}
+use borrow.Author.Tests.{not-true, not-false}
+use Rattle.summary_count.proofs.Keeping.{no-pool-there, too-short, long-enough}
 use native.Mathlib.Omega.{arith}
 use borrow.Author.Needs.{needs}
 use Rattle.summary_count.proofs.keep.roomy.Statement.{statement}
@@ -18,7 +22,7 @@ refused-requires c κs = search needs
 
 -- src/keep.rt:29:9
 returns : tie.Need-returns
-returns c = ?
+returns c = c .refused .ensures ∙ sym (no-pool-there (now (c .before .before .before .before .before .before .args .table)) (now (c .before .before .before .before .before .before .args .slots)) (now (c .before .before .before .before .before .before .args .summary)) (sym (c .before .before .is-pool .ensures) ∙ not-true _ (c .before .if1 .taken)))
 
 -- src/keep.rt:31:9
 word-requires : tie.Need-word-requires
@@ -38,11 +42,11 @@ refused-requires-2 c κs = search needs
 
 -- src/keep.rt:33:9
 returns-2 : tie.Need-returns-2
-returns-2 c = ?
+returns-2 c = c .refused2 .ensures ∙ sym (too-short (now (c .before .before .before .before .before .before .before .before .args .table)) (now (c .before .before .before .before .before .before .before .before .args .slots)) (now (c .before .before .before .before .before .before .before .before .args .summary)) (sym (c .before .before .before .before .is-pool .ensures) ∙ not-false _ (c .before .before .before .if1 .left)) (c .before .before .word .ensures) (c .before .if2 .taken))
 
 -- src/keep.rt:25:1
 returns-3 : tie.Need-returns-3
-returns-3 c = ?
+returns-3 c = sym (long-enough (now (c .before .before .before .before .before .before .before .args .table)) (now (c .before .before .before .before .before .before .before .args .slots)) (now (c .before .before .before .before .before .before .before .args .summary)) (sym (c .before .before .before .is-pool .ensures) ∙ not-false _ (c .before .before .if1 .left)) (c .before .word .ensures) (let h = c .if2 .left in omega arith))
 
 pub roomy-spec : {M : Type 1} → statement M
 roomy-spec =

@@ -1,3 +1,9 @@
+use mathlib.Core.Path.{_∙_, sym, ap, subst}
+use Prim.Native.Nat.{suc, _+_, _-_, _*_, _≤_}
+use mathlib.Core.List.{List}
+use denote.Ref.{now}
+use Rattle.diagram.specs.Diagram.{size}
+use Rattle.summary_count.proofs.Places.{Below, nothing-yet, few-there, next-at, all-counted}
 use borrow.Author.Needs.{needs}
 use native.Mathlib.Omega.{arith}
 use Rattle.summary_count.proofs.nodes.count_nodes.Statement.{statement}
@@ -5,72 +11,45 @@ use Rattle.summary_count.proofs.nodes.count_nodes.Tie as tie
 use Rattle.summary_count.proofs.nodes.count_nodes.Reads as reads
 use Rattle.summary_count.proofs.nodes.count_nodes.Lts as lts
 use Rattle.diagram.proofs.node.BddPointer.to_index.Reads as to-index-reads
-use Rattle.diagram.proofs.node.var_of.Reads as var-of-reads
-use Rattle.diagram.proofs.node.word.Reads as word-reads
-use Rattle.diagram.proofs.room.put.Reads as put-reads
-use Rattle.pool_check.proofs.nodes.is_free.Reads as is-free-reads
+use Rattle.summary_count.proofs.nodes.count_node.Reads as count-node-reads
 
 abbrev Inv-loop : tie.InvT-loop
-Inv-loop table summary₀ places node₀ summary node = ?
+Inv-loop table summary₀ places node₀ summary node = Below table summary₀ (node .0) summary × (2 ≤ node .0) × (node .0 ≤ size table)
 
 abbrev μ-loop : tie.MeasureT-loop
-μ-loop table summary₀ places node₀ summary node = ?
+μ-loop table summary₀ places node₀ summary node = places - node .0
 
--- src/nodes.rt:17:5
+-- src/nodes.rt:35:5
 loop-holds : tie.Need-loop-holds Inv-loop μ-loop
-loop-holds c = ?
+loop-holds c = (nothing-yet _ _ (c .before .before .pre), omega arith, c .before .before .pre .pool .two)
 
--- src/nodes.rt:17:11
+-- src/nodes.rt:35:11
 to-index-requires : tie.Need-to-index-requires Inv-loop μ-loop
 to-index-requires c κs = search needs
 
--- src/nodes.rt:18:13
-is-free-requires : tie.Need-is-free-requires Inv-loop μ-loop
-is-free-requires c κs = search needs
+-- src/nodes.rt:36:9
+count-node-requires : tie.Need-count-node-requires Inv-loop μ-loop
+count-node-requires c κs = few-there _ _ (c .before .before .before .before .before .before .pre) _ (c .before .before .before .loop .inv .0) (c .before .before .before .loop .inv .1) (let e = c .before .before .to-index .ensures in let h = c .before .if1 .taken in omega arith)
 
--- src/nodes.rt:19:32
-var-of-requires : tie.Need-var-of-requires Inv-loop μ-loop
-var-of-requires c κs = search needs
+-- src/nodes.rt:37:27
+add-t11 : tie.Need-add-t11 Inv-loop μ-loop
+add-t11 c = let e = c .before .before .before .before .before .before .to-index .ensures in let h = c .before .before .before .before .before .if1 .taken in let f = c .before .before .before .before .before .before .before .before .before .before .pre .pool .few in omega arith
 
--- src/nodes.rt:19:32
-cast-at : tie.Need-cast-at Inv-loop μ-loop
-cast-at c = search needs
-
--- src/nodes.rt:19:22
-mul-at : tie.Need-mul-at Inv-loop μ-loop
-mul-at c = search needs
-
--- src/nodes.rt:20:30
-word-requires : tie.Need-word-requires Inv-loop μ-loop
-word-requires c κs = search needs
-
--- src/nodes.rt:20:30
-add-put : tie.Need-add-put Inv-loop μ-loop
-add-put c = search needs
-
--- src/nodes.rt:20:13
-put-requires : tie.Need-put-requires Inv-loop μ-loop
-put-requires c κs = search needs
-
--- src/nodes.rt:22:27
-add-t19 : tie.Need-add-t19 Inv-loop μ-loop
-add-t19 c = search needs
-
--- src/nodes.rt:17:5
+-- src/nodes.rt:35:5
 loop-less : tie.Need-loop-less Inv-loop μ-loop
-loop-less c = search needs
+loop-less c = let e = c .before .before .before .before .before .before .to-index .ensures in let h = c .before .before .before .before .before .if1 .taken in omega arith
 
--- src/nodes.rt:17:5
+-- src/nodes.rt:35:5
 loop-again : tie.Need-loop-again Inv-loop μ-loop
-loop-again c = ?
+loop-again c = (next-at _ _ (c .before .before .before .before .before .before .before .before .before .before .pre) _ (c .before .before .before .before .before .before .before .loop .inv .0) (c .before .before .before .before .before .before .before .loop .inv .1) (let e = c .before .before .before .before .before .before .to-index .ensures in let h = c .before .before .before .before .before .if1 .taken in omega arith) (c .before .before .before .count-node .ensures), omega arith, (let e = c .before .before .before .before .before .before .to-index .ensures in let h = c .before .before .before .before .before .if1 .taken in omega arith))
 
--- src/nodes.rt:11:1
+-- src/nodes.rt:29:1
 same-length : tie.Need-same-length Inv-loop μ-loop
-same-length c = search needs
+same-length c = c .before .before .loop .inv .0 .behind .long
 
--- src/nodes.rt:11:1
+-- src/nodes.rt:29:1
 returns : tie.Need-returns Inv-loop μ-loop
-returns c = ?
+returns c = all-counted _ _ (c .before .before .before .before .before .pre) (c .before .before .loop .inv .0) (let e = c .before .to-index .ensures in let h = c .if1 .left in let l = c .before .before .loop .inv .2 in omega arith)
 
 pub count-nodes-spec : {M : Type 1} → statement M
 count-nodes-spec =
@@ -80,14 +59,8 @@ count-nodes-spec =
     μ-loop
     loop-holds
     to-index-requires
-    is-free-requires
-    var-of-requires
-    cast-at
-    mul-at
-    word-requires
-    add-put
-    put-requires
-    add-t19
+    count-node-requires
+    add-t11
     loop-less
     loop-again
     same-length
