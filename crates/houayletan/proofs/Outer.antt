@@ -2,8 +2,9 @@
 --     arrayWords       the words of the array, those of the longest summary
 --     few-rows, few-words, in-array    the records that are copied are in the row, and their words in the array
 --     added-few, dropped-few, summed-few       how many records have changed
+--     worded           what the inner functions ensure
 --     concludes, concludes-drop, concludes-sum     what the exported function ensures, from what `take`, the inner function and `give` ensure, and the lengths
-use mathlib.Core.Path.{_≡_, refl, ap, _∙_}
+use mathlib.Core.Path.{_≡_, refl, sym, ap, _∙_, subst}
 use Prim.Native.Nat.{ℕ, min, _*_, _≤_}
 use native.Mathlib.Omega.{arith}
 use mathlib.Core.List.{List, _++_}
@@ -19,7 +20,7 @@ use Rattle.summary_row.specs.Row.{wordsOf}
 use Rattle.summary_row.specs.declared.Signal.{Signal}
 use Rattle.summary_row.proofs.Copied.{length-words}
 use Rattle.houayletan.specs.Flat.{flatOf, Flat}
-use Rattle.houayletan.specs.Beside.{Worded}
+use Rattle.houayletan.specs.Beside.{Tells, Worded}
 use Rattle.houayletan.specs.declared.HouayletanVerdict.{HouayletanVerdict}
 use Rattle.houayletan.specs.declared.pooling.Told.{Told}
 
@@ -115,3 +116,17 @@ concludes-sum t s xs z₀ n r z₂ xs′ e₀ en i l₂ e₂ lx = record {
   where
     long : length z₀ ≡ arrayWords
     long = ap (λ (l : List ℕ). length l) e₀ ∙ length-replicate {A = ℕ} arrayWords 0
+
+-- ---- the inner functions: a part of the array is lent, and comes back
+pub worded : {promise : List ℕ → List ℕ → Verdict → Type 0} (count : ℕ) (words part : List ℕ) → recordWords * count ≤ length words
+    → length part ≡ length (take (recordWords * count) words) → {v : Verdict} → promise (take (recordWords * count) words) part v
+    → {r : Told} → Tells v r → Worded count promise words (part ++ drop (recordWords * count) words) r
+worded {promise} count words part long same {v} kept {r} tells = record {
+  kept = record {
+    verdict = v;
+    kept = subst (λ (l : List ℕ). promise (take (recordWords * count) words) l v)
+        (sym (take-at part (drop (recordWords * count) words) (recordWords * count) (same ∙ length-take-le (recordWords * count) words long))) kept;
+    flat = tells .flat;
+  };
+  records = tells .records;
+}

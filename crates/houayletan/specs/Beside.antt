@@ -14,7 +14,7 @@ pub record Tells (v : Verdict) (r : Told) : Type 0 where
   pub flat : r .verdict ≡ flatOf (said v)
   pub records : r .records ≡ r .verdict .vars
 
--- What an operation promises, of the words of so many records; the words behind them stay.
+-- What an operation promises, of the words of so many records.
 pub record Worded (count : ℕ) (promise : List ℕ → List ℕ → Verdict → Type 0) (words words′ : List ℕ) (r : Told) : Type 0 where
   pub kept : Flat (promise (take (recordWords * count) words) (take (recordWords * count) words′)) (r .verdict)
   pub records : r .records ≡ r .verdict .vars

@@ -1,12 +1,12 @@
 -- The summary worked out and compared, and each of the returns of the operations.
 use Prim.Native.Nat.{ℕ, min, _+_, _*_, _≤_, _<_}
-use mathlib.Core.Path.{_≡_, refl, sym, ap, _∙_, subst}
+use mathlib.Core.Path.{_≡_, refl, sym, ap, _∙_}
 use mathlib.Core.Logic.{_≢_}
-use mathlib.Core.Bool.{Bool, true, false, cond}
+use mathlib.Core.Bool.{Bool, true, false}
 use mathlib.Core.List.{List, _++_}
 use native.Mathlib.Omega.{arith}
 use lib.ListN.{length, getD, set, take, drop, replicate, length-set, length-append, length-replicate, getD-replicate, List·getD-append}
-use lib.Seq.{length-take-le, drop-at}
+use lib.Seq.{drop-at}
 use Rattle.diagram.specs.Limits.{maxVariables}
 use Rattle.diagram.specs.Diagram.{size, vars, holds}
 use Rattle.diagram.specs.Verdict.{Outcome, accepted, refused, said, ifAccepted, roomAfter}
@@ -29,7 +29,7 @@ use Rattle.summary.specs.Summaries.{Roomy}
 use Rattle.summary.proofs.Counting.{renewed-is, renewed-front, renewed-length}
 use Rattle.summary.proofs.Agreeing.{same-front, same-fails, agrees-told}
 use Rattle.summary.proofs.Rows.{by-roomy, roomy-off, roomy-short, roomy-on, by-beside, beside-on, beside-other}
-use Rattle.summary_count.specs.Counting.{nodesIn, slotsIn, Recounting, Ready, Counted}
+use Rattle.summary_count.specs.Counting.{Recounting, Ready, Counted}
 use Rattle.summary_count.specs.Walking.{Working, Worked}
 
 -- ---- worked out: cleared, nodes counted, slots counted

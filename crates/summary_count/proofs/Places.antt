@@ -8,7 +8,7 @@ use lib.ListN.{length, set, length-set}
 use Rattle.diagram.specs.Limits.{maxNodes}
 use Rattle.diagram.specs.Diagram.{varOf, size, vars}
 use Rattle.diagram.proofs.Tests.{by-test, by-eq, cond-true, cond-false}
-use Rattle.pool.specs.Pool.{WellFormed, Inner, isFree}
+use Rattle.pool.specs.Pool.{Inner, isFree}
 use Rattle.pool.proofs.Testing.{used-told}
 use Rattle.summary.specs.Summary.{recordWords, summaryWords, isNodeAt}
 use Rattle.summary.proofs.Counting.{nodesBelow, nodes-all, nodes-none, nodes-free, nodes-here, nodes-other, many-most}

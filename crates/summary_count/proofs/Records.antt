@@ -1,10 +1,10 @@
 -- A number of a record is changed: the others are as they were, and so are the words behind the records.
 use Prim.Native.Nat.{ℕ, _+_, _*_, _≤_, _<_}
-use mathlib.Core.Path.{_≡_, ap, _∙_}
+use mathlib.Core.Path.{_≡_}
 use mathlib.Core.Logic.{_≢_}
 use mathlib.Core.List.{List}
 use native.Mathlib.Omega.{arith}
-use lib.ListN.{length, set, drop, length-set}
+use lib.ListN.{length, set, drop}
 use lib.Seq.{getD-set-same, getD-set-other, drop-set-lt}
 use Rattle.summary.specs.Summary.{recordWords}
 use Rattle.summary_count.specs.Counting.{nodesIn, slotsIn}

@@ -7,10 +7,9 @@ use mathlib.Core.List.{List}
 use native.Mathlib.Omega.{arith}
 use lib.ListN.{length, getD, set, length-set}
 use lib.Seq.{getD-set-same, getD-set-other}
-use lib.Dec.{eqb}
 use borrow.Author.Tests.{eq-eqb, ne-eqb}
-use Rattle.diagram.specs.Limits.{maxNodes, maxVariables}
-use Rattle.diagram.specs.Diagram.{varOf, lowOf, highOf, size, vars}
+use Rattle.diagram.specs.Limits.{maxNodes}
+use Rattle.diagram.specs.Diagram.{varOf, lowOf, highOf, vars}
 use Rattle.diagram.proofs.Tests.{by-test, by-eq, cond-true, cond-false}
 use Rattle.pool.specs.Pool.{WellFormed, Inner}
 use Rattle.summary.specs.Summary.{comesTo}

@@ -8,11 +8,11 @@ use native.Mathlib.Omega.{arith}
 use lib.ListN.{length, getD, set, drop, replicate, length-set, length-replicate, getD-replicate, List·getD-eq-default}
 use lib.Dec.{eqb, ltb}
 use borrow.Author.Tests.{eq-eqb, ne-eqb, ltb-true, ltb-false}
-use Rattle.diagram.specs.Limits.{maxNodes, maxVariables}
+use Rattle.diagram.specs.Limits.{maxNodes}
 use Rattle.diagram.specs.Diagram.{vars}
 use Rattle.diagram.proofs.Tests.{by-test, by-eq, cond-true, cond-false}
-use Rattle.pool.specs.Pool.{slotCount, WellFormed}
-use Rattle.summary.specs.Summary.{recordWords, summaryWords, comesTo, dependsOn}
+use Rattle.pool.specs.Pool.{slotCount}
+use Rattle.summary.specs.Summary.{recordWords, comesTo, dependsOn}
 use Rattle.summary.proofs.Counting.{many-most, slots-none, slots-empty, slots-on, slots-off, slots-all}
 use Rattle.summary_count.specs.Counting.{nodesIn, slotsIn, Behind}
 use Rattle.summary_count.specs.Walking.{marks, withSlot, Noting, Noted, Stamping, Stamped, slotsBefore, Slotting, Slotted, Working, Worked}

@@ -2,53 +2,37 @@ use denote.Ref.{now}
 use mathlib.Core.Path.{sym, _∙_}
 use borrow.Author.Tests.{not-true, not-false}
 use Rattle.pool_calls.proofs.Calling.{add-nothing}
-use native.Mathlib.Omega.{arith}
 use borrow.Author.Needs.{needs}
 use Rattle.pool_calls.proofs.add.add.Statement.{statement}
 use Rattle.pool_calls.proofs.add.add.Tie as tie
-use Rattle.pool_calls.proofs.add.add.Reads as reads
-use Rattle.pool_calls.proofs.add.add.Lts as lts
-use Rattle.pool_calls.proofs.add.add_known.Reads as add-known-reads
-use Rattle.pool_calls.proofs.slot.refused.Reads as refused-reads
-use Rattle.pool_check.proofs.check.is_pool.Reads as is-pool-reads
 
--- src/add.rt:80:9
 is-pool-requires : tie.Need-is-pool-requires
 is-pool-requires c κs = search needs
 
--- src/add.rt:81:9
 refused-requires : tie.Need-refused-requires
 refused-requires c κs = search needs
 
--- src/add.rt:81:9
 same-length : tie.Need-same-length
 same-length c = search needs
 
--- src/add.rt:81:9
 same-length-2 : tie.Need-same-length-2
 same-length-2 c = search needs
 
--- src/add.rt:81:9
 returns : tie.Need-returns
 returns c = add-nothing _ _ _ _ (now (c .before .before .before .before .before .before .before .before .before .args .room)) (sym (c .before .before .is-pool .ensures) ∙ not-true _ (c .before .if1 .taken)) (c .refused .ensures)
 
--- src/add.rt:83:5
 add-known-requires : tie.Need-add-known-requires
 add-known-requires c κs = sym (c .before .before .before .before .is-pool .ensures) ∙ not-false _ (c .before .before .before .if1 .left)
 
--- src/add.rt:71:1
 same-length-3 : tie.Need-same-length-3
 same-length-3 c = search needs
 
--- src/add.rt:71:1
 same-length-4 : tie.Need-same-length-4
 same-length-4 c = search needs
 
--- src/add.rt:71:1
 same-length-5 : tie.Need-same-length-5
 same-length-5 c = search needs
 
--- src/add.rt:71:1
 returns-2 : tie.Need-returns-2
 returns-2 c = search needs
 

@@ -1,50 +1,35 @@
 use Rattle.pool_calls.proofs.Calling.{drop-refused, live-pool, drop-done}
-use native.Mathlib.Omega.{arith}
 use borrow.Author.Needs.{needs}
 use Rattle.pool_calls.proofs.drop.drop_known.Statement.{statement}
 use Rattle.pool_calls.proofs.drop.drop_known.Tie as tie
-use Rattle.pool_calls.proofs.drop.drop_known.Reads as reads
-use Rattle.pool_calls.proofs.drop.drop_known.Lts as lts
-use Rattle.pool_build.proofs.remove.remove.Reads as remove-reads
-use Rattle.pool_calls.proofs.slot.live_known.Reads as live-known-reads
 
--- src/drop.rt:18:9
 live-known-requires : tie.Need-live-known-requires
 live-known-requires c κs = search needs
 
--- src/drop.rt:19:39
 enum-known-verdict : tie.Need-enum-known-verdict
 enum-known-verdict c = search needs
 
--- src/drop.rt:20:9
 enum-told : tie.Need-enum-told
 enum-told c = search needs
 
--- src/drop.rt:20:9
 same-length : tie.Need-same-length
 same-length c = search needs
 
--- src/drop.rt:20:9
 same-length-2 : tie.Need-same-length-2
 same-length-2 c = search needs
 
--- src/drop.rt:20:9
 returns : tie.Need-returns
 returns c = drop-refused _ _ _ (c .before .before .live-known .ensures) (c .enum-told .given .1)
 
--- src/drop.rt:22:9
 remove-requires : tie.Need-remove-requires
 remove-requires c κs = live-pool _ _ _ (c .before .before .before .before .before .live-known .ensures) (c .before .before .before .verdict .given .1)
 
--- src/drop.rt:14:1
 same-length-3 : tie.Need-same-length-3
 same-length-3 c = search needs
 
--- src/drop.rt:14:1
 same-length-4 : tie.Need-same-length-4
 same-length-4 c = search needs
 
--- src/drop.rt:14:1
 returns-2 : tie.Need-returns-2
 returns-2 c = drop-done _ _ _ (c .before .before .before .before .before .before .before .before .before .before .live-known .ensures) (c .before .before .before .before .before .before .before .before .verdict .given .1) (c .before .before .before .before .remove .ensures)
 

@@ -1,33 +1,22 @@
 use mathlib.Core.Path.{sym, _∙_}
 use borrow.Author.Tests.{not-true, not-false}
 use Rattle.pool.proofs.Rows.{live-no-pool}
-use native.Mathlib.Omega.{arith}
 use borrow.Author.Needs.{needs}
 use Rattle.pool_calls.proofs.slot.live.Statement.{statement}
 use Rattle.pool_calls.proofs.slot.live.Tie as tie
-use Rattle.pool_calls.proofs.slot.live.Reads as reads
-use Rattle.pool_calls.proofs.slot.live.Lts as lts
-use Rattle.pool_calls.proofs.slot.live_known.Reads as live-known-reads
-use Rattle.pool_calls.proofs.slot.refused.Reads as refused-reads
-use Rattle.pool_check.proofs.check.is_pool.Reads as is-pool-reads
 
--- src/slot.rt:44:9
 is-pool-requires : tie.Need-is-pool-requires
 is-pool-requires c κs = search needs
 
--- src/slot.rt:45:9
 refused-requires : tie.Need-refused-requires
 refused-requires c κs = search needs
 
--- src/slot.rt:45:9
 returns : tie.Need-returns
 returns c = c .refused .ensures ∙ sym (live-no-pool _ _ _ _ (sym (c .before .before .is-pool .ensures) ∙ not-true _ (c .before .if1 .taken)))
 
--- src/slot.rt:47:5
 live-known-requires : tie.Need-live-known-requires
 live-known-requires c κs = sym (c .before .is-pool .ensures) ∙ not-false _ (c .if1 .left)
 
--- src/slot.rt:41:1
 returns-2 : tie.Need-returns-2
 returns-2 c = search needs
 

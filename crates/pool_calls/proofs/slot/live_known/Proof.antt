@@ -7,36 +7,25 @@ use native.Mathlib.Omega.{arith}
 use borrow.Author.Needs.{needs}
 use Rattle.pool_calls.proofs.slot.live_known.Statement.{statement}
 use Rattle.pool_calls.proofs.slot.live_known.Tie as tie
-use Rattle.pool_calls.proofs.slot.live_known.Reads as reads
-use Rattle.pool_calls.proofs.slot.live_known.Lts as lts
-use Rattle.diagram.proofs.node.word.Reads as word-reads
-use Rattle.pool_calls.proofs.slot.refused.Reads as refused-reads
 
--- src/slot.rt:29:9
 refused-requires : tie.Need-refused-requires
 refused-requires c κs = search needs
 
--- src/slot.rt:29:9
 returns : tie.Need-returns
 returns c = c .refused .ensures ∙ sym (live-no-slot _ _ _ _ (c .before .before .before .before .pre) (c .before .if1 .taken))
 
--- src/slot.rt:31:8
 word-requires : tie.Need-word-requires
 word-requires c κs = search needs
 
--- src/slot.rt:32:9
 refused-requires-2 : tie.Need-refused-requires-2
 refused-requires-2 c κs = search needs
 
--- src/slot.rt:32:9
 returns-2 : tie.Need-returns-2
 returns-2 c = c .refused2 .ensures ∙ sym (live-empty _ _ _ _ (c .before .before .before .before .before .before .pre) (let h = c .before .before .before .if1 .left in omega arith) (sym (c .before .before .word .ensures) ∙ c .before .if2 .taken))
 
--- src/slot.rt:36:15
 word-requires-2 : tie.Need-word-requires-2
 word-requires-2 c κs = search needs
 
--- src/slot.rt:24:1
 returns-3 : tie.Need-returns-3
 returns-3 c = ap (accepted (size (now (c .before .before .before .before .before .before .args .table)))) (c .word2 .ensures) ∙ sym (live-there _ _ _ _ (c .before .before .before .before .before .before .pre) (let h = c .before .before .before .if1 .left in omega arith) (λ e. c .before .if2 .left (c .before .before .word .ensures ∙ e)))
 

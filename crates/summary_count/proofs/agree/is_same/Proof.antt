@@ -5,9 +5,6 @@ use borrow.Author.Needs.{needs}
 use native.Mathlib.Omega.{arith}
 use Rattle.summary_count.proofs.agree.is_same.Statement.{statement}
 use Rattle.summary_count.proofs.agree.is_same.Tie as tie
-use Rattle.summary_count.proofs.agree.is_same.Reads as reads
-use Rattle.summary_count.proofs.agree.is_same.Lts as lts
-use Rattle.diagram.proofs.node.word.Reads as word-reads
 
 abbrev Inv-loop : tie.InvT-loop
 Inv-loop kept fresh count at₀ at = SameBelow kept fresh at × (at ≤ count)
@@ -15,35 +12,27 @@ Inv-loop kept fresh count at₀ at = SameBelow kept fresh at × (at ≤ count)
 abbrev μ-loop : tie.MeasureT-loop
 μ-loop kept fresh count at₀ at = count - at
 
--- src/agree.rt:18:5
 loop-holds : tie.Need-loop-holds Inv-loop μ-loop
 loop-holds c = (same-none _ _, omega arith)
 
--- src/agree.rt:19:12
 word-requires : tie.Need-word-requires Inv-loop μ-loop
 word-requires c κs = search needs
 
--- src/agree.rt:19:30
 word-requires-2 : tie.Need-word-requires-2 Inv-loop μ-loop
 word-requires-2 c κs = search needs
 
--- src/agree.rt:20:13
 returns : tie.Need-returns Inv-loop μ-loop
 returns c = same-not (now (c .before .before .before .before .before .before .before .args .kept)) (now (c .before .before .before .before .before .before .before .args .fresh)) (c .before .before .before .loop-test .taken) (c .before .before .word .ensures) (c .before .word2 .ensures) (c .if1 .taken)
 
--- src/agree.rt:22:9
 add-at : tie.Need-add-at Inv-loop μ-loop
 add-at c = search needs
 
--- src/agree.rt:18:5
 loop-less : tie.Need-loop-less Inv-loop μ-loop
 loop-less c = search needs
 
--- src/agree.rt:18:5
 loop-again : tie.Need-loop-again Inv-loop μ-loop
 loop-again c = (same-next _ _ (c .before .before .before .before .loop .inv .0) (c .before .before .word .ensures) (c .before .word2 .ensures) (c .if1 .left), (let h = c .before .before .before .loop-test .taken in omega arith))
 
--- src/agree.rt:14:1
 returns-2 : tie.Need-returns-2 Inv-loop μ-loop
 returns-2 c = same-all (now (c .before .before .before .before .args .kept)) (now (c .before .before .before .before .args .fresh)) (c .before .loop .inv .0) (let h = c .loop-test .left in omega arith) (c .before .before .before .before .pre .0) (c .before .before .before .before .pre .1)
 

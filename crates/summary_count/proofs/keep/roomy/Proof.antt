@@ -6,45 +6,31 @@ use native.Mathlib.Omega.{arith}
 use borrow.Author.Needs.{needs}
 use Rattle.summary_count.proofs.keep.roomy.Statement.{statement}
 use Rattle.summary_count.proofs.keep.roomy.Tie as tie
-use Rattle.summary_count.proofs.keep.roomy.Reads as reads
-use Rattle.summary_count.proofs.keep.roomy.Lts as lts
-use Rattle.diagram.proofs.node.word.Reads as word-reads
-use Rattle.pool_check.proofs.check.is_pool.Reads as is-pool-reads
-use Rattle.summary_count.proofs.keep.refused.Reads as refused-reads
 
--- src/keep.rt:28:9
 is-pool-requires : tie.Need-is-pool-requires
 is-pool-requires c κs = search needs
 
--- src/keep.rt:29:9
 refused-requires : tie.Need-refused-requires
 refused-requires c κs = search needs
 
--- src/keep.rt:29:9
 returns : tie.Need-returns
 returns c = c .refused .ensures ∙ sym (no-pool-there (now (c .before .before .before .before .before .before .args .table)) (now (c .before .before .before .before .before .before .args .slots)) (now (c .before .before .before .before .before .before .args .summary)) (sym (c .before .before .is-pool .ensures) ∙ not-true _ (c .before .if1 .taken)))
 
--- src/keep.rt:31:9
 word-requires : tie.Need-word-requires
 word-requires c κs = search needs
 
--- src/keep.rt:32:34
 cast-if2 : tie.Need-cast-if2
 cast-if2 c = search needs
 
--- src/keep.rt:32:24
 mul-if2 : tie.Need-mul-if2
 mul-if2 c = search needs
 
--- src/keep.rt:33:9
 refused-requires-2 : tie.Need-refused-requires-2
 refused-requires-2 c κs = search needs
 
--- src/keep.rt:33:9
 returns-2 : tie.Need-returns-2
 returns-2 c = c .refused2 .ensures ∙ sym (too-short (now (c .before .before .before .before .before .before .before .before .args .table)) (now (c .before .before .before .before .before .before .before .before .args .slots)) (now (c .before .before .before .before .before .before .before .before .args .summary)) (sym (c .before .before .before .before .is-pool .ensures) ∙ not-false _ (c .before .before .before .if1 .left)) (c .before .before .word .ensures) (c .before .if2 .taken))
 
--- src/keep.rt:25:1
 returns-3 : tie.Need-returns-3
 returns-3 c = sym (long-enough (now (c .before .before .before .before .before .before .before .args .table)) (now (c .before .before .before .before .before .before .before .args .slots)) (now (c .before .before .before .before .before .before .before .args .summary)) (sym (c .before .before .before .is-pool .ensures) ∙ not-false _ (c .before .before .if1 .left)) (c .before .word .ensures) (let h = c .if2 .left in omega arith))
 

@@ -2,44 +2,31 @@ use denote.Ref.{now}
 use mathlib.Core.Path.{sym, _∙_}
 use borrow.Author.Tests.{not-true, not-false}
 use Rattle.summary_count.proofs.Keeping.{stands-refused, to-recount, stands-other, stands-told}
-use native.Mathlib.Omega.{arith}
 use borrow.Author.Needs.{needs}
 use Rattle.summary_count.proofs.keep.stands.Statement.{statement}
 use Rattle.summary_count.proofs.keep.stands.Tie as tie
-use Rattle.summary_count.proofs.keep.stands.Reads as reads
-use Rattle.summary_count.proofs.keep.stands.Lts as lts
-use Rattle.summary_count.proofs.agree.agrees.Reads as agrees-reads
-use Rattle.summary_count.proofs.keep.refused.Reads as refused-reads
-use Rattle.summary_count.proofs.keep.roomy.Reads as roomy-reads
 
--- src/keep.rt:45:9
 roomy-requires : tie.Need-roomy-requires
 roomy-requires c κs = search needs
 
 enum-told : tie.Need-enum-told
 enum-told c = search needs
 
--- src/keep.rt:47:9
 enum-told-2 : tie.Need-enum-told-2
 enum-told-2 c = search needs
 
--- src/keep.rt:47:9
 returns : tie.Need-returns
 returns c = stands-refused (now (c .before .before .before .before .before .before .args .table)) (now (c .before .before .before .before .before .before .args .slots)) (now (c .before .before .before .before .before .before .args .summary)) (c .before .before .roomy .ensures) (c .enum-told2 .given .1)
 
--- src/keep.rt:49:9
 agrees-requires : tie.Need-agrees-requires
 agrees-requires c κs = to-recount (now (c .before .before .before .before .before .before .args .table)) (now (c .before .before .before .before .before .before .args .slots)) (now (c .before .before .before .before .before .before .args .summary)) (c .before .before .roomy .ensures) (c .enum-told .given .1)
 
--- src/keep.rt:50:9
 refused-requires : tie.Need-refused-requires
 refused-requires c κs = search needs
 
--- src/keep.rt:50:9
 returns-2 : tie.Need-returns-2
 returns-2 c = c .refused .ensures ∙ sym (stands-other (now (c .before .before .before .before .before .before .before .before .before .args .table)) (now (c .before .before .before .before .before .before .before .before .before .args .slots)) (now (c .before .before .before .before .before .before .before .before .before .args .summary)) (c .before .before .before .before .before .roomy .ensures) (c .before .before .before .enum-told .given .1) (sym (c .before .before .agrees .ensures) ∙ not-true _ (c .before .if1 .taken)))
 
--- src/keep.rt:42:1
 returns-3 : tie.Need-returns-3
 returns-3 c = stands-told (now (c .before .before .before .before .before .before .before .before .args .table)) (now (c .before .before .before .before .before .before .before .before .args .slots)) (now (c .before .before .before .before .before .before .before .before .args .summary)) (c .before .before .before .before .roomy .ensures) (c .before .before .enum-told .given .1) (sym (c .before .agrees .ensures) ∙ not-false _ (c .if1 .left))
 

@@ -1,42 +1,30 @@
 use denote.Ref.{now}
 use Rattle.summary_count.proofs.Keeping.{sum-refused, to-recount, sum-done}
-use native.Mathlib.Omega.{arith}
 use borrow.Author.Needs.{needs}
 use Rattle.summary_count.proofs.keep.summarize.Statement.{statement}
 use Rattle.summary_count.proofs.keep.summarize.Tie as tie
-use Rattle.summary_count.proofs.keep.summarize.Reads as reads
-use Rattle.summary_count.proofs.keep.summarize.Lts as lts
-use Rattle.summary_count.proofs.keep.roomy.Reads as roomy-reads
-use Rattle.summary_count.proofs.recount.recount.Reads as recount-reads
 
--- src/keep.rt:96:9
 roomy-requires : tie.Need-roomy-requires
 roomy-requires c κs = search needs
 
 enum-told : tie.Need-enum-told
 enum-told c = search needs
 
--- src/keep.rt:98:9
 enum-told-2 : tie.Need-enum-told-2
 enum-told-2 c = search needs
 
--- src/keep.rt:98:9
 same-length : tie.Need-same-length
 same-length c = search needs
 
--- src/keep.rt:98:9
 returns : tie.Need-returns
 returns c = sum-refused (now (c .before .before .before .before .before .before .before .args .table)) (now (c .before .before .before .before .before .before .before .args .slots)) (now (c .before .before .before .before .before .before .before .args .summary)) (c .before .before .roomy .ensures) (c .enum-told2 .given .1)
 
--- src/keep.rt:100:5
 recount-requires : tie.Need-recount-requires
 recount-requires c κs = to-recount (now (c .before .before .before .before .before .before .before .before .args .table)) (now (c .before .before .before .before .before .before .before .before .args .slots)) (now (c .before .before .before .before .before .before .before .before .args .summary)) (c .before .before .before .roomy .ensures) (c .before .enum-told .given .1)
 
--- src/keep.rt:93:1
 same-length-2 : tie.Need-same-length-2
 same-length-2 c = search needs
 
--- src/keep.rt:93:1
 returns-2 : tie.Need-returns-2
 returns-2 c = sum-done (now (c .before .before .before .before .before .before .before .before .before .before .before .args .table)) (now (c .before .before .before .before .before .before .before .before .before .before .before .args .slots)) (now (c .before .before .before .before .before .before .before .before .before .before .before .args .summary)) (c .before .before .before .before .before .before .roomy .ensures) (c .before .before .before .before .enum-told .given .1) (c .before .before .recount .ensures)
 

@@ -1,9 +1,9 @@
-use mathlib.Core.Path.{sym, ap, _∙_}
+use mathlib.Core.Path.{sym, _∙_}
 use Prim.Native.Nat.{_-_}
 use denote.Ref.{now}
 use borrow.Author.Tests.{ltb-true, ltb-false}
 use Rattle.diagram.specs.Diagram.{varOf, vars}
-use Rattle.summary_count.proofs.Stamps.{walk-end, walk-marked, walk-near, walk-var, walk-low, walk-low-falls, walk-high, walk-high-falls, walk-done}
+use Rattle.summary_count.proofs.Stamps.{walk-end, walk-marked, walk-near, walk-low, walk-low-falls, walk-high, walk-high-falls, walk-done}
 use borrow.Author.Needs.{needs}
 use native.Mathlib.Omega.{arith}
 use Prim.Native.Nat.{ℕ, _<_}
@@ -31,74 +31,57 @@ stamp-at t = and 2 stamp-kinds.ps (is 2 stamp-kinds.ps μ-stamp t) stamp.Pre
 abbrev stamp-below : ℕ → In 2 stamp-kinds.ps
 stamp-below t = and 2 stamp-kinds.ps (falls 2 stamp-kinds.ps _<_ μ-stamp t) stamp.Pre
 
--- src/slots.rt:26:8
 abbrev known : ℕ → stamp-lts.Claims
 known t = (is-terminal-reads.Asked, is-terminal-reads.Learnt, to-index-reads.Asked, to-index-reads.Learnt, word-reads.Asked, word-reads.Learnt, low-link-of-reads.Asked, low-link-of-reads.Learnt, stamp-below t, stamp.Post, high-link-of-reads.Asked, high-link-of-reads.Learnt, var-of-reads.Asked, var-of-reads.Learnt, put-reads.Asked, put-reads.Learnt)
 
 stamp-is-terminal-requires : (t : ℕ) → stamp-lts.Need-is-terminal-requires (known t) (stamp-at t) stamp.Post
 stamp-is-terminal-requires t c κs = search needs
 
--- src/slots.rt:27:9
 stamp-returns : (t : ℕ) → stamp-lts.Need-returns (known t) (stamp-at t) stamp.Post
 stamp-returns t c = walk-end (c .before .before .before .before .pre .1) (ltb-true (c .before .before .before .before .args .node .0) 2 (sym (c .before .is-terminal .ensures) ∙ c .if1 .taken))
 
--- src/slots.rt:29:24
 stamp-to-index-requires : (t : ℕ) → stamp-lts.Need-to-index-requires (known t) (stamp-at t) stamp.Post
 stamp-to-index-requires t c κs = search needs
 
--- src/slots.rt:29:16
 stamp-add-mark : (t : ℕ) → stamp-lts.Need-add-mark (known t) (stamp-at t) stamp.Post
 stamp-add-mark t c = omega (arith, c .to-index .ensures, walk-near (c .before .before .before .before .before .pre .1))
 
--- src/slots.rt:30:8
 stamp-word-requires : (t : ℕ) → stamp-lts.Need-word-requires (known t) (stamp-at t) stamp.Post
 stamp-word-requires t c κs = search needs
 
--- src/slots.rt:31:9
 stamp-same-length : (t : ℕ) → stamp-lts.Need-same-length (known t) (stamp-at t) stamp.Post
 stamp-same-length t c = search needs
 
--- src/slots.rt:31:9
 stamp-returns-2 : (t : ℕ) → stamp-lts.Need-returns-2 (known t) (stamp-at t) stamp.Post
 stamp-returns-2 t c = walk-marked (c .before .before .before .before .before .before .before .before .pre .1) (ltb-false (c .before .before .before .before .before .before .before .before .args .node .0) 2 (sym (c .before .before .before .before .before .is-terminal .ensures) ∙ c .before .before .before .before .if1 .left)) (c .before .before .before .to-index .ensures) (c .before .word .ensures) (c .if2 .taken)
 
--- src/slots.rt:33:32
 stamp-low-link-of-requires : (t : ℕ) → stamp-lts.Need-low-link-of-requires (known t) (stamp-at t) stamp.Post
 stamp-low-link-of-requires t c κs = search needs
 
--- src/slots.rt:33:5
 stamp-stamp-requires : (t : ℕ) → stamp-lts.Need-stamp-requires (known t) (stamp-at t) stamp.Post
 stamp-stamp-requires t c κs = let two = ltb-false (c .before .before .before .before .before .before .before .before .before .before .args .node .0) 2 (sym (c .before .before .before .before .before .before .before .is-terminal .ensures) ∙ c .before .before .before .before .before .before .if1 .left) in (rw (c .before .before .before .before .before .before .before .before .before .before .pre .0) at (walk-low-falls (c .before .before .before .before .before .before .before .before .before .before .pre .1) two (c .low-link-of .ensures)), walk-low (c .before .before .before .before .before .before .before .before .before .before .pre .1) two (c .low-link-of .ensures))
 
--- src/slots.rt:34:32
 stamp-high-link-of-requires : (t : ℕ) → stamp-lts.Need-high-link-of-requires (known t) (stamp-at t) stamp.Post
 stamp-high-link-of-requires t c κs = search needs
 
--- src/slots.rt:34:5
 stamp-stamp-requires-2 : (t : ℕ) → stamp-lts.Need-stamp-requires-2 (known t) (stamp-at t) stamp.Post
 stamp-stamp-requires-2 t c κs = let two = ltb-false (c .before .before .before .before .before .before .before .before .before .before .before .before .before .before .before .args .node .0) 2 (sym (c .before .before .before .before .before .before .before .before .before .before .before .before .is-terminal .ensures) ∙ c .before .before .before .before .before .before .before .before .before .before .before .if1 .left) in (rw (c .before .before .before .before .before .before .before .before .before .before .before .before .before .before .before .pre .0) at (walk-high-falls (c .before .before .before .before .before .before .before .before .before .before .before .before .before .before .before .pre .1) two (c .before .before .before .before .before .low-link-of .ensures) (c .before .before .before .before .stamp .ensures) (c .high-link-of .ensures)), walk-high (c .before .before .before .before .before .before .before .before .before .before .before .before .before .before .before .pre .1) two (c .before .before .before .before .before .low-link-of .ensures) (c .before .before .before .before .stamp .ensures) (c .high-link-of .ensures))
 
--- src/slots.rt:35:9
 stamp-var-of-requires : (t : ℕ) → stamp-lts.Need-var-of-requires (known t) (stamp-at t) stamp.Post
 stamp-var-of-requires t c κs = search needs
 
--- src/slots.rt:36:15
 stamp-cast-put : (t : ℕ) → stamp-lts.Need-cast-put (known t) (stamp-at t) stamp.Post
 stamp-cast-put t c = search needs
 
--- src/slots.rt:36:5
 stamp-put-requires : (t : ℕ) → stamp-lts.Need-put-requires (known t) (stamp-at t) stamp.Post
 stamp-put-requires t c κs = search needs
 
--- src/slots.rt:37:5
 stamp-put-requires-2 : (t : ℕ) → stamp-lts.Need-put-requires-2 (known t) (stamp-at t) stamp.Post
 stamp-put-requires-2 t c κs = search needs
 
--- src/slots.rt:22:1
 stamp-same-length-2 : (t : ℕ) → stamp-lts.Need-same-length-2 (known t) (stamp-at t) stamp.Post
 stamp-same-length-2 t c = c .before .before .put2 .kept .0 ∙ c .before .before .before .before .before .before .put .kept .0 ∙ c .before .before .before .before .before .before .before .before .before .before .before .before .stamp2 .kept .1 .0 ∙ c .before .before .before .before .before .before .before .before .before .before .before .before .before .before .before .before .before .stamp .kept .1 .0
 
--- src/slots.rt:22:1
 stamp-returns-3 : (t : ℕ) → stamp-lts.Need-returns-3 (known t) (stamp-at t) stamp.Post
 stamp-returns-3 t c = walk-done (c .before .before .before .before .before .before .before .before .before .before .before .before .before .before .before .before .before .before .before .before .before .before .before .before .before .before .before .before .pre .1) (ltb-false (c .before .before .before .before .before .before .before .before .before .before .before .before .before .before .before .before .before .before .before .before .before .before .before .before .before .before .before .before .args .node .0) 2 (sym (c .before .before .before .before .before .before .before .before .before .before .before .before .before .before .before .before .before .before .before .before .before .before .before .before .before .is-terminal .ensures) ∙ c .before .before .before .before .before .before .before .before .before .before .before .before .before .before .before .before .before .before .before .before .before .before .before .before .if1 .left)) (c .before .before .before .before .before .before .before .before .before .before .before .before .before .before .before .before .before .before .low-link-of .ensures) (c .before .before .before .before .before .before .before .before .before .before .before .before .before .before .before .before .before .stamp .ensures) (c .before .before .before .before .before .before .before .before .before .before .before .before .before .high-link-of .ensures) (c .before .before .before .before .before .before .before .before .before .before .before .before .stamp2 .ensures) (c .before .before .before .before .before .before .before .before .before .var-of .ensures) (c .before .before .before .before .before .before .before .before .before .before .before .before .before .before .before .before .before .before .before .before .before .before .before .to-index .ensures) (c .before .before .before .before .before .before .put .ensures) (c .before .before .put2 .ensures)
 

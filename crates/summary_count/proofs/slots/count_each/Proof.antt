@@ -6,9 +6,6 @@ use borrow.Author.Needs.{needs}
 use native.Mathlib.Omega.{arith}
 use Rattle.summary_count.proofs.slots.count_each.Statement.{statement}
 use Rattle.summary_count.proofs.slots.count_each.Tie as tie
-use Rattle.summary_count.proofs.slots.count_each.Reads as reads
-use Rattle.summary_count.proofs.slots.count_each.Lts as lts
-use Rattle.summary_count.proofs.slots.count_slot.Reads as count-slot-reads
 
 abbrev Inv-loop : tie.InvT-loop
 Inv-loop table slots summary₀ work₀ k₀ summary work k = Up table slots summary₀ k summary work
@@ -16,35 +13,27 @@ Inv-loop table slots summary₀ work₀ k₀ summary work k = Up table slots sum
 abbrev μ-loop : tie.MeasureT-loop
 μ-loop table slots summary₀ work₀ k₀ summary work k = slotCount - k
 
--- src/slots.rt:88:5
 loop-holds : tie.Need-loop-holds Inv-loop μ-loop
 loop-holds c = up-none _ _ _ (c .before .before .before .before .pre)
 
--- src/slots.rt:89:9
 count-slot-requires : tie.Need-count-slot-requires Inv-loop μ-loop
 count-slot-requires c κs = c .before .before .before .loop .inv .slotting
 
--- src/slots.rt:90:9
 add-k : tie.Need-add-k Inv-loop μ-loop
 add-k c = search needs
 
--- src/slots.rt:88:5
 loop-less : tie.Need-loop-less Inv-loop μ-loop
 loop-less c = search needs
 
--- src/slots.rt:88:5
 loop-again : tie.Need-loop-again Inv-loop μ-loop
 loop-again c = up-next _ _ _ _ (c .before .before .before .before .before .before .before .loop-test .taken) (c .before .before .before .before .before .before .before .before .loop .inv) (c .before .before .before .before .count-slot .ensures)
 
--- src/slots.rt:83:1
 same-length : tie.Need-same-length Inv-loop μ-loop
 same-length c = c .before .loop .inv .behind .long
 
--- src/slots.rt:83:1
 same-length-2 : tie.Need-same-length-2 Inv-loop μ-loop
 same-length-2 c = c .before .loop .inv .slotting .room ∙ sym (c .before .before .before .before .before .before .pre .room)
 
--- src/slots.rt:83:1
 returns : tie.Need-returns Inv-loop μ-loop
 returns c = up-all _ _ _ (let h = c .loop-test .left in omega arith) (c .before .loop .inv)
 

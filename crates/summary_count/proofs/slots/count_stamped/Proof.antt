@@ -1,13 +1,9 @@
-use mathlib.Core.Path.{_∙_, sym, ap, subst}
-use Prim.Native.Nat.{_-_, _≤_, _+_}
+use Prim.Native.Nat.{_-_, _≤_}
 use Rattle.summary_count.proofs.Turns.{Through, none-through, few-slots, one-next, all-through}
 use borrow.Author.Needs.{needs}
 use native.Mathlib.Omega.{arith}
 use Rattle.summary_count.proofs.slots.count_stamped.Statement.{statement}
 use Rattle.summary_count.proofs.slots.count_stamped.Tie as tie
-use Rattle.summary_count.proofs.slots.count_stamped.Reads as reads
-use Rattle.summary_count.proofs.slots.count_stamped.Lts as lts
-use Rattle.summary_count.proofs.slots.count_if_stamped.Reads as count-if-stamped-reads
 
 abbrev Inv-loop : tie.InvT-loop
 Inv-loop work summary₀ vars number i₀ summary i = Through vars number work summary₀ i summary × (i ≤ vars)
@@ -15,31 +11,24 @@ Inv-loop work summary₀ vars number i₀ summary i = Through vars number work s
 abbrev μ-loop : tie.MeasureT-loop
 μ-loop work summary₀ vars number i₀ summary i = vars - i
 
--- src/slots.rt:63:5
 loop-holds : tie.Need-loop-holds Inv-loop μ-loop
 loop-holds c = (none-through _ _ _ _ (c .before .before .pre), omega arith)
 
--- src/slots.rt:64:9
 count-if-stamped-requires : tie.Need-count-if-stamped-requires Inv-loop μ-loop
 count-if-stamped-requires c κs = ((let m = c .before .before .before .before .before .pre .variables in let h = c .before .loop-test .taken in omega arith), few-slots _ _ _ _ (c .before .before .before .before .before .pre) _ (c .before .before .loop .inv .0) (c .before .loop-test .taken))
 
--- src/slots.rt:65:9
 add-i : tie.Need-add-i Inv-loop μ-loop
 add-i c = search needs
 
--- src/slots.rt:63:5
 loop-less : tie.Need-loop-less Inv-loop μ-loop
 loop-less c = search needs
 
--- src/slots.rt:63:5
 loop-again : tie.Need-loop-again Inv-loop μ-loop
 loop-again c = (one-next _ _ _ _ (c .before .before .before .before .before .before .before .before .pre) _ (c .before .before .before .before .before .loop .inv .0) (c .before .before .before .before .loop-test .taken) (c .before .before .count-if-stamped .ensures), (let h = c .before .before .before .before .loop-test .taken in omega arith))
 
--- src/slots.rt:58:1
 same-length : tie.Need-same-length Inv-loop μ-loop
 same-length c = c .before .loop .inv .0 .long
 
--- src/slots.rt:58:1
 returns : tie.Need-returns Inv-loop μ-loop
 returns c = all-through _ _ _ _ (c .before .before .before .before .pre) (c .before .loop .inv .0) (let h = c .loop-test .left in omega arith)
 
