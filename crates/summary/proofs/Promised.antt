@@ -5,7 +5,7 @@ use Rattle.summary.proofs.Counting.{fresh-length}
 use Rattle.summary.proofs.Numbers.{nodes-number}
 use Rattle.summary.proofs.Depending.{slots-number}
 use Rattle.summary.proofs.Rows.{beside-on, is-46, is-37, is-47, add-small, drop-small, is-summarized}
-use Rattle.summary.proofs.Renewing.{renewed-by-add, renewed-by-drop}
+use Rattle.summary.proofs.Renewing.{renewed-by-add, renewed-by-drop, renewed-by-summarize}
 
 pub summaries : Summaries
 summaries = record {
@@ -22,4 +22,5 @@ summaries = record {
   worked-out = is-summarized;
   kept-by-add = renewed-by-add;
   kept-by-drop = renewed-by-drop;
+  kept-by-summarize = renewed-by-summarize;
 }

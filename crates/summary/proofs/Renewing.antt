@@ -1,11 +1,11 @@
--- After an addition or a drop that is answered the summary is the one worked out afresh, and nothing behind it has changed.
+-- After an addition, a drop or a summary that is answered the summary is the one worked out afresh, and nothing behind it has changed.
 use Prim.Native.Nat.{ℕ}
 use mathlib.Core.Path.{_≡_, sym, ap, _∙_}
 use mathlib.Core.List.{List}
 use lib.ListN.{length}
 use Rattle.diagram.specs.Verdict.{Outcome, accepted, said, ifAccepted}
 use Rattle.diagram.specs.declared.verdict.Verdict.{Verdict}
-use Rattle.summary.specs.Kept.{renewed, addBeside, dropBeside, AddsBeside, DropsBeside}
+use Rattle.summary.specs.Kept.{renewed, addBeside, dropBeside, summarized, AddsBeside, DropsBeside, Summarizes}
 use Rattle.summary.specs.Summaries.{Renewed}
 use Rattle.summary.proofs.Counting.{renewed-front, renewed-behind}
 
@@ -25,3 +25,6 @@ pub renewed-by-drop : (t s kept : List ℕ) (k : ℕ) (t′ s′ kept′ : List 
     → DropsBeside t s kept k t′ s′ kept′ r → said r ≡ accepted n v → Renewed t′ s′ kept kept′
 renewed-by-drop t s kept k t′ s′ kept′ r n v d e =
     when-accepted (dropBeside t s kept k) n v t′ s′ kept kept′ (sym (d .verdict) ∙ e) (d .summary)
+
+pub renewed-by-summarize : (t s kept kept′ : List ℕ) (r : Verdict) (n v : ℕ) → Summarizes t s kept kept′ r → said r ≡ accepted n v → Renewed t s kept kept′
+renewed-by-summarize t s kept kept′ r n v d e = when-accepted (summarized t s kept) n v t s kept kept′ (sym (d .verdict) ∙ e) (d .summary)

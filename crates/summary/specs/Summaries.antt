@@ -11,7 +11,7 @@ use Rattle.diagram.specs.declared.verdict.Verdict.{Verdict}
 use Rattle.counts.specs.Counting.{Number}
 use Rattle.pool.specs.Pool.{WellFormed, Inner, Live, holdsFrom}
 use Rattle.summary.specs.Summary.{summaryWords, nodesAt, slotsAt, freshSummary}
-use Rattle.summary.specs.Kept.{beside, addBeside, dropBeside, summarized, AddsBeside, DropsBeside}
+use Rattle.summary.specs.Kept.{beside, addBeside, dropBeside, summarized, AddsBeside, DropsBeside, Summarizes}
 
 -- A valuation with signal i the other way round.
 abbrev pub switched : ℕ → List Bool → List Bool
@@ -57,8 +57,9 @@ pub record Summaries : Type 0 where
       → beside t s kept answer ≡ answer
   -- a summary can be worked out exactly where there is a pool, and a record for each variable
   pub worked-out : (t s kept : List ℕ) (n v : ℕ) → (summarized t s kept ≡ accepted n v) ↔ (Roomy t s kept × (n ≡ size t) × (v ≡ vars t))
-  -- after an addition or a drop that is answered, what is kept is what is worked out afresh, and nothing behind it has changed
+  -- after an addition, a drop or a summary that is answered, what is kept is what is worked out afresh, and nothing behind it has changed
   pub kept-by-add : (t s kept w : List ℕ) (k : ℕ) (t′ s′ kept′ room room′ : List ℕ) (r : Verdict) (n v : ℕ)
       → AddsBeside t s kept w k t′ s′ kept′ room room′ r → said r ≡ accepted n v → Renewed t′ s′ kept kept′
   pub kept-by-drop : (t s kept : List ℕ) (k : ℕ) (t′ s′ kept′ : List ℕ) (r : Verdict) (n v : ℕ)
       → DropsBeside t s kept k t′ s′ kept′ r → said r ≡ accepted n v → Renewed t′ s′ kept kept′
+  pub kept-by-summarize : (t s kept kept′ : List ℕ) (r : Verdict) (n v : ℕ) → Summarizes t s kept kept′ r → said r ≡ accepted n v → Renewed t s kept kept′
