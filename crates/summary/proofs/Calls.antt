@@ -18,7 +18,7 @@ use Rattle.pool.proofs.Histories.{history}
 use Rattle.summary.specs.Summary.{recordWords, summaryWords, isNodeAt, dependsOn, nodesAt, slotsAt, freshSummary}
 use Rattle.summary.specs.Kept.{renewed}
 use Rattle.summary.specs.Summaries.{Roomy, Renewed}
-use Rattle.summary.specs.Nights.{Evening, changed, next, through, begun, Nights}
+use Rattle.summary.specs.Evenings.{Evening, changed, next, through, begun, Evenings}
 use Rattle.summary.proofs.Counting.{many-never, at-terminal, at-free, nodes-all, slots-all, depends-empty, fresh-is, renewed-front, renewed-behind, renewed-length}
 use Rattle.summary.proofs.Rows.{beside-on}
 
@@ -217,5 +217,5 @@ module _ (n v : ℕ) (two : 2 ≤ n) (few : n ≤ maxNodes) (variables : v ≤ m
       (still-renewed n v two few variables (begun n v behind .kept) (through calls (begun n v behind))
       (through-stands n v two few variables (begun n v behind .kept) calls (begun n v behind) begins))
 
-pub nights : Nights
-nights = record { pools = pools-after; keeps = kept-after }
+pub evenings : Evenings
+evenings = record { pools = pools-after; keeps = kept-after }

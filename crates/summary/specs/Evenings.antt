@@ -1,4 +1,4 @@
--- What is promised of any list of calls that begins with the empty pool and a summary of zeros (`nights` of proofs/Calls.antt): the summary is
+-- What is promised of any list of calls that begins with the empty pool and a summary of zeros (`evenings` of proofs/Calls.antt): the summary is
 -- always the one worked out afresh, and the pool is the one that the calls make of it without a summary.
 use Prim.Native.Nat.{ℕ, _*_, _≤_}
 use mathlib.Core.Path.{_≡_}
@@ -37,7 +37,7 @@ through (c ∷ cs) e = through cs (next c e)
 abbrev pub begun : (n v : ℕ) → List ℕ → Evening
 begun n v behind = evening (emptyPool n v) (replicate (recordWords * v) 0 ++ behind)
 
-pub record Nights : Type 0 where
+pub record Evenings : Type 0 where
   pub pools : (n v : ℕ) → 2 ≤ n → n ≤ maxNodes → v ≤ maxVariables → (behind : List ℕ) (calls : List Call)
       → through calls (begun n v behind) .pool ≡ run calls (emptyPool n v)
   pub keeps : (n v : ℕ) → 2 ≤ n → n ≤ maxNodes → v ≤ maxVariables → (behind : List ℕ) (calls : List Call)
