@@ -460,7 +460,7 @@ mod tests {
             let sentence = Refusal { number, place: 0 }.sentence();
             assert_eq!(sentence.replace(',', ""), format!("there are more than {MOST_NODES} nodes"));
         }
-        for number in (1..=19).filter(|n| *n != 15).chain(31..=36).chain([46]).chain(51..=55) {
+        for number in (1..=19).filter(|n| *n != 15).chain(31..=37).chain([46, 47]).chain(51..=55) {
             let refusal = Refusal { number, place: 7 };
             assert!(!refusal.sentence().contains("no table"), "{number}");
             assert!(refusal.to_string().starts_with(&format!("refused {number} at 7: ")));
