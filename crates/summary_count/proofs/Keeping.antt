@@ -29,12 +29,12 @@ use Rattle.summary.specs.Summaries.{Roomy}
 use Rattle.summary.proofs.Counting.{renewed-is, renewed-front, renewed-length}
 use Rattle.summary.proofs.Agreeing.{same-front, same-fails, agrees-told}
 use Rattle.summary.proofs.Rows.{by-roomy, roomy-off, roomy-short, roomy-on, by-beside, beside-on, beside-other}
-use Rattle.summary_count.specs.Counting.{Recounting, Ready, Counted}
+use Rattle.summary_count.specs.Counting.{Ready, Counted}
 use Rattle.summary_count.specs.Walking.{Working, Worked}
 
 -- ---- worked out: cleared, nodes counted, slots counted
 
-module _ (t s kept : List ℕ) (g : Recounting t s kept) {v : ℕ} (is-v : v ≡ vars t) {kept₁ : List ℕ}
+module _ (t s kept : List ℕ) (g : Roomy t s kept) {v : ℕ} (is-v : v ≡ vars t) {kept₁ : List ℕ}
     (cleared : kept₁ ≡ replicate (min (recordWords * v) (length kept)) 0 ++ drop (recordWords * v) kept) where
   zeros : List ℕ
   zeros = replicate (summaryWords t) 0
@@ -112,8 +112,8 @@ blank = replicate (recordWords * maxVariables) 0
 blank-long : length blank ≡ recordWords * maxVariables
 blank-long = length-replicate {A = ℕ} (recordWords * maxVariables) 0
 
-module _ (t s kept : List ℕ) (g : Recounting t s kept) where
-  pub blank-ready : Recounting t s blank
+module _ (t s kept : List ℕ) (g : Roomy t s kept) where
+  pub blank-ready : Roomy t s blank
   blank-ready = record { pool = g .pool; long = let few = g .pool .variables in let e = blank-long in omega arith }
 
   module _ {fresh : List ℕ} (is-fresh : fresh ≡ renewed t s blank) {v : ℕ} (is-v : v ≡ vars t) where
@@ -165,9 +165,6 @@ module _ (t s kept : List ℕ) {r : Verdict} (told : said r ≡ summarized t s k
         (λ none d. absurd (never-both d (sym told ∙ ap said yes-it)))
         (λ f h d. absurd (never-both d (sym told ∙ ap said yes-it)))
         (λ y d. y)
-
-    pub to-recount : Recounting t s kept
-    to-recount = record { pool = roomy-told .pool; long = roomy-told .long }
 
     pub stands-other : agrees t s kept ≡ false → standing t s kept ≡ refused 47 0
     stands-other e = beside-other t s kept (accepted (size t) (vars t)) roomy-told e
@@ -225,7 +222,7 @@ module _ (t s kept : List ℕ) {r : Verdict} (told : said r ≡ standing t s kep
     answer-is answer = beside-on t s kept answer (stands .0) (stands .1)
 
     changed-pool : (cs : List Slot) → length cs ≡ slotCount → needs (vars t) cs ≤ size t → {t′ s′ : List ℕ}
-        → t′ ≡ tableOf (size t) (vars t) cs → s′ ≡ slotsOf (vars t) cs → Recounting t′ s′ kept
+        → t′ ≡ tableOf (size t) (vars t) cs → s′ ≡ slotsOf (vars t) cs → Roomy t′ s′ kept
     changed-pool cs count fits {t′} {s′} et es =
         let f = stands .0 .pool in
         let formed : WellFormed t′ s′ = rw (et, es) (table-formed (size t) (vars t) cs count (f .few) (f .variables) fits) in
@@ -260,7 +257,7 @@ module _ (t s kept : List ℕ) {r : Verdict} (told : said r ≡ standing t s kep
         add-accepted : addOf t s w (length room) k ≡ accepted m u
         add-accepted = sym (adds .verdict) ∙ ap said added
 
-        pub add-recounting : Recounting t′ s′ kept
+        pub add-recounting : Roomy t′ s′ kept
         add-recounting = changed-pool (withAdded t s w k) (put-long k (live (holds w))) (added-fits t s w (length room) k add-accepted)
             (adds .table ∙ ap (λ (o : Outcome). ifAccepted o (tableOf (size t) (vars t) (withAdded t s w k)) t) add-accepted)
             (adds .slots ∙ ap (λ (o : Outcome). ifAccepted o (slotsOf (vars t) (withAdded t s w k)) s) add-accepted)
@@ -289,7 +286,7 @@ module _ (t s kept : List ℕ) {r : Verdict} (told : said r ≡ standing t s kep
         drop-accepted : dropOf t s k ≡ accepted m u
         drop-accepted = sym (drops .verdict) ∙ ap said dropped
 
-        pub drop-recounting : Recounting t′ s′ kept
+        pub drop-recounting : Roomy t′ s′ kept
         drop-recounting = changed-pool (withDropped t s k) (put-long k empty) (dropped-fit t s (stands .0 .pool) k)
             (drops .table ∙ ap (λ (o : Outcome). ifAccepted o (tableOf (size t) (vars t) (withDropped t s k)) t) drop-accepted)
             (drops .slots ∙ ap (λ (o : Outcome). ifAccepted o (slotsOf (vars t) (withDropped t s k)) s) drop-accepted)

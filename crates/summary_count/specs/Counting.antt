@@ -15,11 +15,6 @@ nodesIn kept i = getD kept (recordWords * i) 0
 abbrev pub slotsIn : List ℕ → ℕ → ℕ
 slotsIn kept i = getD kept (recordWords * i + 1) 0
 
--- There is a pool, and a record for each variable.
-pub record Recounting (t s kept : List ℕ) : Type 0 where
-  pub pool : WellFormed t s
-  pub long : summaryWords t ≤ length kept
-
 -- Words behind the records are as they were.
 pub record Behind (t kept kept′ : List ℕ) : Type 0 where
   pub long : length kept′ ≡ length kept

@@ -7,7 +7,7 @@ ghost use mathlib.Core.Path.{_≡_};
 ghost use Prim.Native.Nat.{_≤_};
 ghost use lib.ListN.{length, take};
 ghost use Rattle.summary.specs.Kept.{same, agrees as agreesWith};
-ghost use Rattle.summary_count.specs.Counting.{Recounting};
+ghost use Rattle.summary.specs.Summaries.{Roomy};
 
 const FRESH: usize = RECORD * MAX_VARIABLES;
 
@@ -27,7 +27,7 @@ fn is_same(kept: &[u32], fresh: &[u32], count: usize) -> bool
 }
 
 pub(crate) fn agrees(table: &[u32], slots: &[u32], summary: &[u32]) -> bool
-    requires { ⌜ Recounting (now table) (now slots) (now summary) ⌝ }
+    requires { ⌜ Roomy (now table) (now slots) (now summary) ⌝ }
     ensures { λ r. ⌜ r ≡ agreesWith (now (table .entry)) (now (slots .entry)) (now (summary .entry)) ⌝ }
 {
     let mut fresh = [0; FRESH];

@@ -1,7 +1,7 @@
 use denote.Ref.{now}
 use mathlib.Core.Path.{sym, _∙_}
 use borrow.Author.Tests.{not-true, not-false}
-use Rattle.summary_count.proofs.Keeping.{stands-refused, to-recount, stands-other, stands-told}
+use Rattle.summary_count.proofs.Keeping.{stands-refused, roomy-told, stands-other, stands-told}
 use borrow.Author.Needs.{needs}
 use Rattle.summary_count.proofs.keep.stands.Statement.{statement}
 use Rattle.summary_count.proofs.keep.stands.Tie as tie
@@ -19,7 +19,7 @@ returns : tie.Need-returns
 returns c = stands-refused (now (c .before .before .before .before .before .before .args .table)) (now (c .before .before .before .before .before .before .args .slots)) (now (c .before .before .before .before .before .before .args .summary)) (c .before .before .roomy .ensures) (c .enum-told2 .given .1)
 
 agrees-requires : tie.Need-agrees-requires
-agrees-requires c κs = to-recount (now (c .before .before .before .before .before .before .args .table)) (now (c .before .before .before .before .before .before .args .slots)) (now (c .before .before .before .before .before .before .args .summary)) (c .before .before .roomy .ensures) (c .enum-told .given .1)
+agrees-requires c κs = roomy-told (now (c .before .before .before .before .before .before .args .table)) (now (c .before .before .before .before .before .before .args .slots)) (now (c .before .before .before .before .before .before .args .summary)) (c .before .before .roomy .ensures) (c .enum-told .given .1)
 
 refused-requires : tie.Need-refused-requires
 refused-requires c κs = search needs

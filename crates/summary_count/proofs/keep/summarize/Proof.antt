@@ -1,5 +1,5 @@
 use denote.Ref.{now}
-use Rattle.summary_count.proofs.Keeping.{sum-refused, to-recount, sum-done}
+use Rattle.summary_count.proofs.Keeping.{sum-refused, roomy-told, sum-done}
 use borrow.Author.Needs.{needs}
 use Rattle.summary_count.proofs.keep.summarize.Statement.{statement}
 use Rattle.summary_count.proofs.keep.summarize.Tie as tie
@@ -20,7 +20,7 @@ returns : tie.Need-returns
 returns c = sum-refused (now (c .before .before .before .before .before .before .before .args .table)) (now (c .before .before .before .before .before .before .before .args .slots)) (now (c .before .before .before .before .before .before .before .args .summary)) (c .before .before .roomy .ensures) (c .enum-told2 .given .1)
 
 recount-requires : tie.Need-recount-requires
-recount-requires c κs = to-recount (now (c .before .before .before .before .before .before .before .before .args .table)) (now (c .before .before .before .before .before .before .before .before .args .slots)) (now (c .before .before .before .before .before .before .before .before .args .summary)) (c .before .before .before .roomy .ensures) (c .before .enum-told .given .1)
+recount-requires c κs = roomy-told (now (c .before .before .before .before .before .before .before .before .args .table)) (now (c .before .before .before .before .before .before .before .before .args .slots)) (now (c .before .before .before .before .before .before .before .before .args .summary)) (c .before .before .before .roomy .ensures) (c .before .enum-told .given .1)
 
 same-length-2 : tie.Need-same-length-2
 same-length-2 c = search needs
