@@ -18,8 +18,8 @@ ghost use mathlib.Core.Path.{_≡_};
 ghost use Prim.Native.Nat.{min, _*_, _≤_};
 ghost use lib.ListN.{length};
 ghost use Rattle.diagram.specs.Limits.{maxVariables};
-ghost use Rattle.diagram.specs.Verdict.{said};
 ghost use Rattle.pool.specs.Answers.{Reads};
+ghost use Rattle.summary.specs.Summary.{recordWords};
 ghost use Rattle.summary.specs.Kept.{AddsBeside, DropsBeside, Summarizes};
 ghost use Rattle.summary_row.specs.Row.{wordsOf};
 ghost use Rattle.houayletan.specs.Flat.{Flat};
@@ -61,7 +61,7 @@ fn add_words(
     slot: usize,
     room: &mut [u32],
 ) -> Told
-    requires { ⌜ 2 * count ≤ length (now summary) ⌝ }
+    requires { ⌜ recordWords * count ≤ length (now summary) ⌝ }
     ensures { λ r. ⌜ Worded count (λ kept kept′. AddsBeside (now (table .entry)) (now (slots .entry)) kept (now (words .entry)) slot (now (table .exit)) (now (slots .exit)) kept′ (now (room .entry)) (now (room .exit))) (now (summary .entry)) (now (summary .exit)) r ⌝ }
 {
     let end = RECORD * count;
@@ -75,7 +75,7 @@ fn drop_words(
     count: usize,
     slot: usize,
 ) -> Told
-    requires { ⌜ 2 * count ≤ length (now summary) ⌝ }
+    requires { ⌜ recordWords * count ≤ length (now summary) ⌝ }
     ensures { λ r. ⌜ Worded count (λ kept kept′. DropsBeside (now (table .entry)) (now (slots .entry)) kept slot (now (table .exit)) (now (slots .exit)) kept′) (now (summary .entry)) (now (summary .exit)) r ⌝ }
 {
     let end = RECORD * count;
@@ -83,7 +83,7 @@ fn drop_words(
 }
 
 fn summarize_words(table: &[u32], slots: &[u32], summary: &mut [u32], count: usize) -> Told
-    requires { ⌜ 2 * count ≤ length (now summary) ⌝ }
+    requires { ⌜ recordWords * count ≤ length (now summary) ⌝ }
     ensures { λ r. ⌜ Worded count (Summarizes (now (table .entry)) (now (slots .entry))) (now (summary .entry)) (now (summary .exit)) r ⌝ }
 {
     let end = RECORD * count;

@@ -42,15 +42,15 @@ by-outcome (refused k p) f g = g k p refl
 abbrev pub Below : ℕ → Outcome → Type 0
 Below most o = (k p : ℕ) → o ≡ refused k p → k < most
 
-accepted-below : (most n v : ℕ) → Below most (accepted n v)
+pub accepted-below : (most n v : ℕ) → Below most (accepted n v)
 accepted-below most n v k p e = absurd (never-both e refl)
 
-row-below : (most number : ℕ) (test : Bool) (place : ℕ) {below : Outcome} → number < most → Below most below → Below most (row number test place below)
+pub row-below : (most number : ℕ) (test : Bool) (place : ℕ) {below : Outcome} → number < most → Below most below → Below most (row number test place below)
 unfolding row
 row-below most number true place h rest k p e = let same : number ≡ k = cc in omega arith
 row-below most number false place h rest k p e = rest k p e
 
-then-below : (most : ℕ) (a : Outcome) {b : Outcome} → Below most a → Below most b → Below most (andThen a b)
+pub then-below : (most : ℕ) (a : Outcome) {b : Outcome} → Below most a → Below most b → Below most (andThen a b)
 then-below most (accepted n v) first rest = rest
 then-below most (refused k p) first rest = first
 

@@ -2,4 +2,4 @@
 pub mod add;
 pub mod drop;
 pub mod read;
-mod slot;
+pub mod slot;

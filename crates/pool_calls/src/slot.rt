@@ -14,7 +14,7 @@ ghost use Rattle.pool.specs.Pool.{isPool};
 ghost use Rattle.pool.specs.Answers.{liveOf};
 
 // A refusal with place 0.
-pub(crate) fn refused(number: u32) -> Verdict
+pub fn refused(number: u32) -> Verdict
     ensures { λ r. ⌜ said r ≡ refusedAt number 0 ⌝ }
 {
     Verdict::Refused { number, place: 0 }

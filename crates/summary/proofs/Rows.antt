@@ -2,21 +2,21 @@
 use Prim.Native.Nat.{ℕ, _<_}
 use mathlib.Core.Path.{_≡_, refl, sym, ap, _∙_}
 use mathlib.Core.Logic.{_↔_, _≢_}
-use mathlib.Core.Bool.{Bool, true, false, not}
+use mathlib.Core.Bool.{false, not}
 use mathlib.Core.List.{List}
 use native.Mathlib.Omega.{arith}
 use lib.ListN.{length, getD, take}
 use lib.Dec.{leb, ltb, eqb}
 use borrow.Author.Tests.{ltb-true, ltb-false, lt-ltb, le-ltb}
 use Rattle.diagram.specs.Diagram.{size, vars}
-use Rattle.diagram.specs.Verdict.{Outcome, accepted, refused, row, andThen, verdictOf}
+use Rattle.diagram.specs.Verdict.{Outcome, accepted, refused, row, verdictOf}
 use Rattle.diagram.specs.declared.verdict.Output.the-variants.{Nothing}
 use Rattle.diagram.proofs.Tests.{by-test, not-both}
 use Rattle.diagram.proofs.Outcomes.{same-refusal, same-counts, never-both}
 use Rattle.pool.specs.Pool.{slotCount, WellFormed, isPool, needs}
 use Rattle.pool.specs.Answers.{placeOf, withAdded, withDropped, addOf, liveOf, dropOf}
 use Rattle.pool.proofs.Testing.{pool-told, pool-tells}
-use Rattle.pool.proofs.Rows.{row-on, row-off, Below, own-below, add-pool}
+use Rattle.pool.proofs.Rows.{row-on, row-off, Below, accepted-below, row-below, then-below, own-below, add-pool}
 use Rattle.summary.specs.Summary.{summaryWords, freshSummary}
 use Rattle.summary.specs.Kept.{agrees, roomy, beside, summarized}
 use Rattle.summary.specs.Summaries.{Roomy}
@@ -124,18 +124,6 @@ module _ (t s kept : List ℕ) (answer : Outcome) where
     )
 
 -- ---- the answers' own refusals: below 33 a diagram's, 33 to 36 a pool's
-
-row-below : (most number : ℕ) (test : Bool) (place : ℕ) {below : Outcome} → number < most → Below most below → Below most (row number test place below)
-unfolding row
-row-below most number true place h rest k p e = let same : number ≡ k = cc in omega arith
-row-below most number false place h rest k p e = rest k p e
-
-then-below : (most : ℕ) (a : Outcome) {b : Outcome} → Below most a → Below most b → Below most (andThen a b)
-then-below most (accepted n v) first rest = rest
-then-below most (refused k p) first rest = first
-
-accepted-below : (most n v : ℕ) → Below most (accepted n v)
-accepted-below most n v k p e = absurd (never-both e refl)
 
 place-below : (t s w : List ℕ) (k : ℕ) → Below 37 (placeOf t s w k)
 unfolding placeOf

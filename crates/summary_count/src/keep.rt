@@ -8,18 +8,12 @@ use diagram::refusal::SHORT_SUMMARY;
 use diagram::verdict::Verdict;
 use pool_calls::add::add_known;
 use pool_calls::drop::drop_known;
+use pool_calls::slot::refused;
 use pool_check::check::is_pool;
 use summary::RECORD;
 ghost use mathlib.Core.Path.{_≡_};
-ghost use Rattle.diagram.specs.Verdict.{refused as refusedAt, said};
+ghost use Rattle.diagram.specs.Verdict.{said};
 ghost use Rattle.summary.specs.Kept.{standing, summarized, AddsBeside, DropsBeside, Summarizes};
-
-// A refusal with place 0.
-fn refused(number: u32) -> Verdict
-    ensures { λ r. ⌜ said r ≡ refusedAt number 0 ⌝ }
-{
-    Verdict::Refused { number, place: 0 }
-}
 
 // Whether there is a pool, and a record for each variable.
 fn roomy(table: &[u32], slots: &[u32], summary: &[u32]) -> Verdict
