@@ -7,7 +7,7 @@ use mathlib.Core.List.{List, [], ◌∷◌}
 use native.Mathlib.Omega.{arith}
 use native.Mathlib.Decide.{dec_lt}
 use lib.ListN.{length}
-use borrow.Author.Tests.{le-leb, lt-leb, eq-eqb, ne_eqb, not_true}
+use borrow.Author.Tests.{le-leb, lt-leb, eq-eqb, ne_eqb, not-true}
 use Rattle.diagram.specs.Diagram.{size, vars, holds, Ordered, Accepted}
 use Rattle.diagram.specs.Valuations.{tally, count_of}
 use Rattle.diagram.proofs.Tests.{by_test, by-eq, not_both}
@@ -135,7 +135,7 @@ over_by_negation w u a under =
       implied = λ bs l h.
           negated_holds u under.accepted bs
           ∙ by_test (holds u bs)
-          (λ e. absurd (not_both (holds w bs) h (not_true (holds w bs) (sym (negated_holds w a bs) ∙ under.implies bs (l ∙ sym n) e))))
+          (λ e. absurd (not_both (holds w bs) h (not-true (holds w bs) (sym (negated_holds w a bs) ∙ under.implies bs (l ∙ sym n) e))))
           (λ e. ap not e);
     }
 

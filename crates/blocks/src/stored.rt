@@ -1,5 +1,5 @@
 // What reading and writing answer.
-#[derive(Drop)]
+#[derive(Clone, Copy)]
 pub enum Stored {
     // The number of nodes in the file.
     Nodes(usize),

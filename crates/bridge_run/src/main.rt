@@ -4,6 +4,7 @@
 // two words that are no diagram in second place. Then node files: a variable is too wide, and the bytes read as they were; D, there and
 // back; and a byte is missing. Then settings of version 2, read by both readers; in version 1 their flag is refused, and the block reads as it
 // was; without it they are written; and there are no bytes at all.
+#![tactic(auto)]
 use blocks::layout::BLOCK;
 use diagram::limits::ROOM_PER_NODE;
 use diagram::node::word;

@@ -1,4 +1,5 @@
 // The count of a diagram's valuations as an f64: exact up to 2^53, and rounded once at each node beyond.
+#![tactic(auto)]
 mod floats;
 mod table;
 mod total;
@@ -12,7 +13,7 @@ use floats::nought;
 use total::total;
 
 // A verdict, and a count, which is 0.0 where the words are refused.
-#[derive(Drop)]
+#[derive(Clone, Copy)]
 pub struct CountedFloat {
     pub verdict: Verdict,
     pub count: f64,

@@ -1,16 +1,17 @@
 // Cases of a test program as lines of decimal numbers, and what a test looks at in a lent room.
+#![tactic(auto)]
 ghost use Rattle.std.specs.Prelude.{◌≡◌, ◌≤◌, ◌<◌, min, length, drop, replicate};
 ghost use Rattle.cases.specs.Lines.{is_digit, with_digit, number_at, after, line_ends, Reads, run_of};
 
 // A number of the text and where the next one begins.
-#[derive(Drop)]
+#[derive(Clone, Copy)]
 pub struct Token {
     pub value: u32,
     pub next: usize,
 }
 
 // How many words a line had, and where the next line begins.
-#[derive(Drop)]
+#[derive(Clone, Copy)]
 pub struct Line {
     pub count: usize,
     pub next: usize,

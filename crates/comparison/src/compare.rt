@@ -17,7 +17,7 @@ use pairs::table::PAIR_WORDS;
 // A verdict, and which diagram a refusal is about: 0 the first, or none, and 1 the second. Accepted, `nodes` are the pairs reached. How
 // many valuations hold in the first only, in the second only and in both; whether there is one in which they differ, and the smallest
 // such as a number, in which variable 0 is the highest bit. All zero where it is refused.
-#[derive(Drop)]
+#[derive(Clone, Copy)]
 pub struct Compared {
     pub verdict: Verdict,
     pub which: u32,

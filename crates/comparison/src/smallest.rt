@@ -11,7 +11,7 @@ use worths::flags::differs_at;
 use worths::sums::level_at;
 
 // Where a pair goes at a variable, and by which bit.
-#[derive(Drop)]
+#[derive(Clone, Copy)]
 struct Step {
     pub place: usize,
     pub bit: u32,

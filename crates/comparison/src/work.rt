@@ -16,7 +16,7 @@ use worths::sums::{count_from, level_at, note_all};
 
 // What was found: that there are more pairs than places, and nothing else; or how many pairs there are, how many valuations both diagrams
 // hold for, whether they differ, and the smallest valuation in which they do, zero where there is none.
-#[derive(Drop)]
+#[derive(Clone, Copy)]
 pub(crate) struct Found {
     pub pairs: usize,
     pub full: bool,

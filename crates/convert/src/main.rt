@@ -1,6 +1,7 @@
 // `convert blocks to nodes`, `convert nodes to blocks`: a file on standard input, the same nodes in the other form on standard output.
 // How many nodes there are, the one line of a refusal and the help go to standard error. What is written is decided by `answer` of
 // crates/converting alone: here the words are fetched, the input is read, and both channels are written.
+#![tactic(auto)]
 ghost use Rattle.std.specs.Prelude.{◌≤◌, length};
 ghost use Rattle.convert.specs.Program.{Answered, Ran};
 

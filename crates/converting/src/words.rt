@@ -9,7 +9,7 @@ use request::words::same;
 pub const WORD: usize = 6;
 
 // `Convert` has the form of the input; the output is in the other one.
-#[derive(Drop)]
+#[derive(Clone, Copy)]
 pub enum Conversion {
     Help,
     Unknown,

@@ -1,6 +1,7 @@
 // The search for a count (document 01, "The evening's cut"): nodes are taken by priority until their weights cover what is to
 // be removed, and all that are taken are cut; while the count is still too large, the walk goes on where it stopped. The
 // answer stands in the working room. The diagram is counted once: weights and rounds go on from that count.
+#![tactic(auto)]
 mod rounds;
 
 ghost use Rattle.std.specs.Prelude.{◌≡◌, replicate};

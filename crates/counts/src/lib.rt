@@ -1,5 +1,6 @@
 // Counts of a decision diagram, the valuations that it holds for and the paths from its root to node 1: what they are, and one node's from its
 // children's. They are worked out in crates/exact_counts, so that an edit of either is checked in seconds.
+#![tactic(auto)]
 pub mod links;
 pub mod root;
 pub mod table;
@@ -8,7 +9,7 @@ use diagram::verdict::Verdict;
 use naturals::Natural;
 
 // A verdict, and a count, which is zero where the words are refused.
-#[derive(Drop)]
+#[derive(Clone, Copy)]
 pub struct Counted {
     pub verdict: Verdict,
     pub count: Natural,

@@ -6,7 +6,7 @@ use mathlib.Core.Bool.{Bool, true, false, not, ◌&&◌}
 use mathlib.Core.List.{List}
 use mathlib.Core.Logic.{◌↔◌}
 use native.Mathlib.Omega.{arith}
-use borrow.Author.Tests.{ltb-true, ltb-false, lt-ltb, le-ltb, eq-eqb, ne_eqb, not_true, not-false}
+use borrow.Author.Tests.{ltb-true, ltb-false, lt-ltb, le-ltb, eq-eqb, ne_eqb, not-true, not-false}
 use lib.ListN.{length}
 use lib.Dec.{ltb, eqb}
 use Rattle.diagram.specs.Limits.{max_nodes, max_variables}
@@ -43,7 +43,7 @@ module _ (w : List ℕ) (formed : Formed w) where
   unfolding is_broken
   broken_told p e =
       let b = and_both (reaches w p) (not (is_above w p)) e in
-      (reaches_sound w p b.0, λ a. not_both (is_above w p) (above_tells w p a) (not_true (is_above w p) b.1))
+      (reaches_sound w p b.0, λ a. not_both (is_above w p) (above_tells w p a) (not-true (is_above w p) b.1))
 
   broken_tells : (p : ℕ) → is_broken w p ≡ false → Broken w p → ⊥
   unfolding is_broken
@@ -53,7 +53,7 @@ module _ (w : List ℕ) (formed : Formed w) where
       (λ f. not_both (reaches w p && not (is_above w p)) (both_and (reaches w p) (not (is_above w p)) (reaches_complete w formed p b.0) (ap not f)) e)
 
   lost_told : (p : ℕ) → not (reaches w p) ≡ true → Lost w p
-  lost_told p e = reach_test p (not_true (reaches w p) e)
+  lost_told p e = reach_test p (not-true (reaches w p) e)
 
   lost_tells : (p : ℕ) → not (reaches w p) ≡ false → Lost w p → ⊥
   lost_tells p e l = l (reaches_sound w p (not-false (reaches w p) e))

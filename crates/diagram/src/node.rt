@@ -2,10 +2,10 @@
 ghost use Rattle.std.specs.Prelude.{◌≡◌, Bool, length, get_or, ltb};
 ghost use Rattle.diagram.specs.Diagram.{var_of, low_of, high_of};
 
-#[derive(Drop)]
+#[derive(Clone, Copy)]
 pub struct BddPointer(pub u32);
 
-#[derive(Drop)]
+#[derive(Clone, Copy)]
 pub struct BddVariable(pub u32);
 
 impl BddPointer {

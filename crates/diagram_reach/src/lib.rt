@@ -1,6 +1,7 @@
 // Which nodes the root reaches, on any graph of links that are in range: a walk with a stack in the working room, since
 // before order is known links may go round in circles and a path may be as long as the array.
 // The marks of the n nodes stand at [0, n) of the room and the stack at [n, 2n).
+#![tactic(auto)]
 ghost use Rattle.std.specs.Prelude.{◌≡◌, ◌+◌, ◌-◌, ◌*◌, ◌<◌, ◌≤◌, length, get_or, eqb};
 ghost use Rattle.diagram.specs.Limits.{max_nodes};
 ghost use Rattle.diagram.specs.Diagram.{size, Formed};

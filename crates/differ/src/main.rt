@@ -1,6 +1,7 @@
 // `differ OLD NEW`, `differ nodes OLD NEW`: how the conditions of two files differ, on standard output. The one line of a refusal and the
 // help go to standard error. What is written is decided by `answer` of crates/differing alone: here the words are fetched, the files are
 // read, and the channels are written.
+#![tactic(auto)]
 ghost use Rattle.differ.specs.Program.{Words, Answered, Ran};
 
 use differ_texts::lines::LINES;

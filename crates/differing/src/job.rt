@@ -23,7 +23,7 @@ const ROOM: usize = ROOM_PER_NODE * MAX_NODES;
 const TABLE: usize = PAIR_WORDS * LENT_PAIRS;
 
 // What a file comes to: it was not found, it is refused, or so many nodes were read.
-#[derive(Drop)]
+#[derive(Clone, Copy)]
 pub enum Loading {
     Missing,
     Refused { number: u32, place: usize },

@@ -6,7 +6,7 @@ use forms::Form;
 use request::words::same;
 
 // `Compare` has the form of both files.
-#[derive(Drop)]
+#[derive(Clone, Copy)]
 pub enum Asked {
     Help,
     Unknown,

@@ -1,5 +1,6 @@
 // The answers of the operations as C and Rust see them: the structs, and what lays an answer's cases flat.
 // They are apart from the exported functions, whose check is long, so that an edit of them costs little.
+#![tactic(auto)]
 pub mod asking;
 pub mod comparing;
 pub mod cutting;
@@ -16,7 +17,7 @@ use reduction::reduce::Reduced;
 
 // A verdict without an enum: number 0 where it is accepted, and all else zero where it is refused.
 #[repr(C)]
-#[derive(Drop)]
+#[derive(Clone, Copy)]
 pub struct HouayletanVerdict {
     pub number: u32,
     pub place: usize,
@@ -26,7 +27,7 @@ pub struct HouayletanVerdict {
 
 // A verdict with a number of naturals::WORDS words, least first, which is zero where the words are refused.
 #[repr(C)]
-#[derive(Drop)]
+#[derive(Clone, Copy)]
 pub struct HouayletanCount {
     pub verdict: HouayletanVerdict,
     pub count: [u32; naturals::WORDS],
@@ -34,7 +35,7 @@ pub struct HouayletanCount {
 
 // A verdict with a count as an f64, which is 0.0 where the words are refused.
 #[repr(C)]
-#[derive(Drop)]
+#[derive(Clone, Copy)]
 pub struct HouayletanFloat {
     pub verdict: HouayletanVerdict,
     pub count: f64,
@@ -42,7 +43,7 @@ pub struct HouayletanFloat {
 
 // A verdict with the number of nodes in the output, which is zero where the words are refused.
 #[repr(C)]
-#[derive(Drop)]
+#[derive(Clone, Copy)]
 pub struct HouayletanDiagram {
     pub verdict: HouayletanVerdict,
     pub nodes: usize,
@@ -50,7 +51,7 @@ pub struct HouayletanDiagram {
 
 // A verdict with an amount, or a yes as 1 and a no as 0; zero where the words are refused.
 #[repr(C)]
-#[derive(Drop)]
+#[derive(Clone, Copy)]
 pub struct HouayletanAmount {
     pub verdict: HouayletanVerdict,
     pub amount: usize,
@@ -58,7 +59,7 @@ pub struct HouayletanAmount {
 
 // A verdict with the number of nodes in the output, and of cuts by a list that were made for them.
 #[repr(C)]
-#[derive(Drop)]
+#[derive(Clone, Copy)]
 pub struct HouayletanApproximation {
     pub verdict: HouayletanVerdict,
     pub nodes: usize,
@@ -68,7 +69,7 @@ pub struct HouayletanApproximation {
 // What two diagrams are beside each other: the verdict's nodes are the pairs reached; which diagram a refusal is about; a yes as 1 and a
 // no as 0; and numbers of naturals::WORDS words, least first. All but the verdict and which is zero where one is refused.
 #[repr(C)]
-#[derive(Drop)]
+#[derive(Clone, Copy)]
 pub struct HouayletanComparison {
     pub verdict: HouayletanVerdict,
     pub which: u32,
@@ -81,7 +82,7 @@ pub struct HouayletanComparison {
 
 // What reading or writing a file says, without an enum: number 0 with the nodes, or a refusal, whose nodes are 0.
 #[repr(C)]
-#[derive(Drop)]
+#[derive(Clone, Copy)]
 pub struct HouayletanStored {
     pub number: u32,
     pub place: usize,
@@ -90,7 +91,7 @@ pub struct HouayletanStored {
 
 // A number of naturals::WORDS words, least first.
 #[repr(C)]
-#[derive(Drop)]
+#[derive(Clone, Copy)]
 pub struct HouayletanNatural {
     pub words: [u32; naturals::WORDS],
 }

@@ -1,4 +1,5 @@
 // The two forms of a file, chosen by who asks and never guessed from the bytes: block files and node files.
+#![tactic(auto)]
 ghost use Rattle.std.specs.Prelude.{◌≡◌, ◌≤◌};
 ghost use Rattle.diagram.specs.Limits.{max_nodes};
 ghost use Rattle.forms.specs.Form.{bytes_as, FormReads, FormWrites};
@@ -10,7 +11,7 @@ use blocks::stored::Stored;
 use node_file::read::read_as_bytes;
 use node_file::write::write_as_bytes;
 
-#[derive(Drop)]
+#[derive(Clone, Copy)]
 pub enum Form {
     // At most 120 nodes, in blocks of 512 bytes with two sums.
     Blocks,

@@ -23,7 +23,7 @@ use summary_row::{Signal, give, take};
 const SUMMARY: usize = RECORD * MAX_VARIABLES;
 
 // A verdict, and how many of the first records have changed.
-#[derive(Drop)]
+#[derive(Clone, Copy)]
 pub struct Told {
     pub verdict: HouayletanVerdict,
     pub records: usize,

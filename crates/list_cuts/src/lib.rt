@@ -1,4 +1,5 @@
 // Cutting by a list (document 01, port 8): links to listed nodes are sent to a terminal, and what is left is reduced.
+#![tactic(auto)]
 mod listing;
 
 ghost use Rattle.std.specs.Prelude.{◌<◌};
@@ -17,7 +18,7 @@ use reduction::answer::copy;
 use room_map::{ANSWER, TABLES_END};
 
 // A verdict, and how many nodes stand in the output: none where the words or the list are refused.
-#[derive(Drop)]
+#[derive(Clone, Copy)]
 pub struct Approximation {
     pub verdict: Verdict,
     pub nodes: usize,

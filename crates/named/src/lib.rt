@@ -1,8 +1,9 @@
 // Files that are read by their names.
+#![tactic(auto)]
 ghost use Rattle.std.specs.Prelude.{◌≡◌, ◌≤◌, length};
 
 // What was read of a file: whether it could be, and how many bytes there are.
-#[derive(Drop)]
+#[derive(Clone, Copy)]
 pub struct Input {
     pub found: bool,
     pub length: usize,

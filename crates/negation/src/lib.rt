@@ -1,4 +1,5 @@
 // Negation of a decision diagram, word by word: every node keeps its place.
+#![tactic(auto)]
 ghost use Rattle.std.specs.Prelude.{◌≡◌, ◌<◌, ◌≤◌, length, get_or};
 ghost use Rattle.diagram.specs.Diagram.{size};
 ghost use Rattle.negation.specs.Negation.{exchanged as exchangedOf, nodes_of, negated, over, Negates, Ready};
@@ -8,7 +9,7 @@ use diagram::verdict::{Output, Verdict};
 use diagram_check::validate::admit;
 
 // A verdict, and how many nodes stand in the output: none where the words are refused.
-#[derive(Drop)]
+#[derive(Clone, Copy)]
 pub struct Negated {
     pub verdict: Verdict,
     pub nodes: usize,

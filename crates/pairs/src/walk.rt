@@ -8,7 +8,7 @@ use diagram::node::BddPointer;
 use diagram::room::clear;
 
 // The place of a pair, and how many pairs there are: one more than there are places where one found none.
-#[derive(Drop)]
+#[derive(Clone, Copy)]
 pub struct Met {
     pub place: usize,
     pub count: usize,

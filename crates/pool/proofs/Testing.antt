@@ -6,7 +6,7 @@ use mathlib.Core.Bool.{Bool, true, false, not, ◌&&◌, ◌||◌}
 use mathlib.Core.List.{List}
 use mathlib.Core.Logic.{◌⊎◌, inl, inr, ⊎_elim, ◌≢◌}
 use native.Mathlib.Omega.{arith}
-use borrow.Author.Tests.{ltb-true, ltb-false, leb-true, eqb-true, eqb-false, not_true, not-false, lt-ltb, le-leb, eq-eqb, ne_eqb}
+use borrow.Author.Tests.{ltb-true, ltb-false, leb-true, eqb-true, eqb-false, not-true, not-false, lt-ltb, le-leb, eq-eqb, ne_eqb}
 use lib.ListN.{length, get_or, get_or-eq_default}
 use lib.Dec.{leb, ltb, eqb}
 use Rattle.diagram.specs.Limits.{max_nodes, max_variables}
@@ -54,7 +54,7 @@ pub fails_told : (t : List ℕ) (test : ℕ → Bool) (p : ℕ) → p < size t �
 fails_told t test p l e =
     let a = and_both (leb 2 p) (not (is_free t p) && not (test p)) e in
     let b = and_both (not (is_free t p)) (not (test p)) a.1 in
-    (record { after = leb-true 2 p a.0; inside = l; used = used_told t p (not_true (is_free t p) b.0) }, not_true (test p) b.1)
+    (record { after = leb-true 2 p a.0; inside = l; used = used_told t p (not-true (is_free t p) b.0) }, not-true (test p) b.1)
 
 pub fails_tells : (t : List ℕ) (test : ℕ → Bool) (p : ℕ) → Inner t p → test p ≡ false → fails t test p ≡ true
 fails_tells t test p i e = simp (le-leb 2 p i.after, used_tells t p i.used, e)
@@ -64,7 +64,7 @@ module _ (t : List ℕ) (test : ℕ → Bool) where
   unfolding each_node
   each_told e p i = by_test (test p)
       (λ a. a)
-      (λ a. absurd (not_both (fails t test p) (fails_tells t test p i a) (none_any (size t) (fails t test) (not_true (any (size t) (fails t test)) e) p i.inside)))
+      (λ a. absurd (not_both (fails t test p) (fails_tells t test p i a) (none_any (size t) (fails t test) (not-true (any (size t) (fails t test)) e) p i.inside)))
 
   pub each_tells : ((p : ℕ) → Inner t p → test p ≡ true) → each_node t test ≡ true
   unfolding each_node
@@ -135,7 +135,7 @@ name_told t x r is e =
     (λ a.
     let b = and_both (leb x (size t)) (not (is_free t (x - 1))) a in
     let same : x - 1 ≡ r = omega arith in
-    let free : is_free t r ≡ false = rw same at (not_true (is_free t (x - 1)) b.1) in
+    let free : is_free t r ≡ false = rw same at (not-true (is_free t (x - 1)) b.1) in
     let inside = leb-true x (size t) b.0 in
     by_test (ltb r 2)
     (λ l. inl (ltb-true r 2 l))
@@ -169,7 +169,7 @@ right_told t p e =
     record {
       range = record { var = ltb-true (var_of t p) (vars t) a.0; low = ltb-true (low_of t p) (size t) b.0; high = ltb-true (high_of t p) (size t) c.0 };
       above = above_told t p d.0;
-      lean = eqb-false (low_of t p) (high_of t p) (not_true (eqb (low_of t p) (high_of t p)) d.1);
+      lean = eqb-false (low_of t p) (high_of t p) (not-true (eqb (low_of t p) (high_of t p)) d.1);
     }
 
 right_tells : (t : List ℕ) (p : ℕ) → Right t p → is_right t p ≡ true
@@ -333,7 +333,7 @@ never_again t p none = by_test (is_again t p) (λ e. let a = again_told t p e in
 
 module _ (t : List ℕ) (once : (p : ℕ) → Inner t p → not (is_again t p) ≡ true) where
   later_apart : (p q : ℕ) → Inner t p → 2 ≤ q → Alike t q p → q < p → ⊥
-  later_apart p q i two a l = not_both (is_again t p) (again_tells t p q l two a) (not_true (is_again t p) (once p i))
+  later_apart p q i two a l = not_both (is_again t p) (again_tells t p q l two a) (not-true (is_again t p) (once p i))
 
   apart : (p q : ℕ) → Inner t p → Inner t q → Alike t q p → p ≡ q
   apart p q i j a =
@@ -370,7 +370,7 @@ passed_told t s e =
     record {
       measured = a.0;
       ended = b.0;
-      names = not_true (any slot_count (λ k. not (is_name t (get_or s k 0)))) c.0;
+      names = not-true (any slot_count (λ k. not (is_name t (get_or s k 0)))) c.0;
       right = d.0;
       wanted = f.0;
       distinct = f.1;

@@ -1,4 +1,5 @@
 // The operations on a pool, for any words.
+#![tactic(auto)]
 pub mod add;
 pub mod drop;
 pub mod read;

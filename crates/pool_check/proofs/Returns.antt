@@ -6,7 +6,7 @@ use mathlib.Core.Bool.{Bool, true, false, not, ◌&&◌, and-true, and-false}
 use mathlib.Core.List.{List}
 use native.Mathlib.Omega.{arith}
 use native.Mathlib.Numerals.{add-one}
-use borrow.Author.Tests.{lt-ltb, le-ltb, le-leb, lt-leb, eq-eqb, ne_eqb, not_true, not-false}
+use borrow.Author.Tests.{lt-ltb, le-ltb, le-leb, lt-leb, eq-eqb, ne_eqb, not-true, not-false}
 use lib.ListN.{length, get_or, set}
 use lib.Dec.{leb, ltb, eqb}
 use Rattle.diagram.specs.Limits.{max_nodes, max_variables}
@@ -140,12 +140,12 @@ module _ (table slots : ℕ) where
 module _ (t : List ℕ) {zero_ok : Bool} (e₀ : zero_ok ≡ is_terminal t 0) where
   pub ended_not_zero : not zero_ok ≡ true → false ≡ is_ended t
   unfolding is_ended
-  ended_not_zero a = simp (← e₀, not_true zero_ok a)
+  ended_not_zero a = simp (← e₀, not-true zero_ok a)
 
   module _ (a : not zero_ok ≡ false) {one_ok : Bool} (e₁ : one_ok ≡ is_terminal t 1) where
     pub ended_not_one : not one_ok ≡ true → false ≡ is_ended t
     unfolding is_ended
-    ended_not_one b = simp (← e₀, not-false zero_ok a, ← e₁, not_true one_ok b)
+    ended_not_one b = simp (← e₀, not-false zero_ok a, ← e₁, not-true one_ok b)
 
     pub ended_by : not one_ok ≡ false → {v : ℕ} → v ≡ vars t → leb v max_variables ≡ is_ended t
     unfolding is_ended
@@ -157,27 +157,27 @@ measured_few t s {measured} e a = (measured_told t s (sym e ∙ not-false measur
 module _ (t s : List ℕ) {measured : Bool} (e₁ : measured ≡ is_measured (length t) (length s)) where
   pub pool_1 : not measured ≡ true → false ≡ is_pool t s
   unfolding is_pool
-  pool_1 a = simp (← e₁, not_true measured a)
+  pool_1 a = simp (← e₁, not-true measured a)
 
   module _ (a₁ : not measured ≡ false) {ended : Bool} (e₂ : ended ≡ is_ended t) where
     pub pool_2 : not ended ≡ true → false ≡ is_pool t s
     unfolding is_pool
-    pool_2 a = simp (← e₁, not-false measured a₁, ← e₂, not_true ended a)
+    pool_2 a = simp (← e₁, not-false measured a₁, ← e₂, not-true ended a)
 
     module _ (a₂ : not ended ≡ false) {names : Bool} (e₃ : names ≡ not (any slot_count (λ k. not (is_name t (get_or s k 0))))) where
       pub pool_3 : not names ≡ true → false ≡ is_pool t s
       unfolding is_pool
-      pool_3 a = simp (← e₁, not-false measured a₁, ← e₂, not-false ended a₂, ← e₃, not_true names a)
+      pool_3 a = simp (← e₁, not-false measured a₁, ← e₂, not-false ended a₂, ← e₃, not-true names a)
 
       module _ (a₃ : not names ≡ false) {right : Bool} (e₄ : right ≡ each_node t (is_right t)) where
         pub pool_4 : not right ≡ true → false ≡ is_pool t s
         unfolding is_pool
-        pool_4 a = simp (← e₁, not-false measured a₁, ← e₂, not-false ended a₂, ← e₃, not-false names a₃, ← e₄, not_true right a)
+        pool_4 a = simp (← e₁, not-false measured a₁, ← e₂, not-false ended a₂, ← e₃, not-false names a₃, ← e₄, not-true right a)
 
         module _ (a₄ : not right ≡ false) {wanted : Bool} (e₅ : wanted ≡ each_node t (is_wanted t s)) where
           pub pool_5 : not wanted ≡ true → false ≡ is_pool t s
           unfolding is_pool
-          pool_5 a = simp (← e₁, not-false measured a₁, ← e₂, not-false ended a₂, ← e₃, not-false names a₃, ← e₄, not-false right a₄, ← e₅, not_true wanted a)
+          pool_5 a = simp (← e₁, not-false measured a₁, ← e₂, not-false ended a₂, ← e₃, not-false names a₃, ← e₄, not-false right a₄, ← e₅, not-true wanted a)
 
           pub pool_6 : not wanted ≡ false → {distinct : Bool} → distinct ≡ each_node t (λ p. not (is_again t p)) → distinct ≡ is_pool t s
           unfolding is_pool

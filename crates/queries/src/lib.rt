@@ -1,4 +1,5 @@
 // Small queries of a decision diagram. Each begins with the check.
+#![tactic(auto)]
 pub mod per_variable;
 mod sole;
 
@@ -12,14 +13,14 @@ use diagram_check::validate::admit;
 use sole::{ends_at_one, tests_every_variable};
 
 // A verdict, and a number, which is zero where the words are refused.
-#[derive(Drop)]
+#[derive(Clone, Copy)]
 pub struct Amount {
     pub verdict: Verdict,
     pub amount: usize,
 }
 
 // A verdict, and whether it is so, which is false where the words are refused.
-#[derive(Drop)]
+#[derive(Clone, Copy)]
 pub struct Answer {
     pub verdict: Verdict,
     pub yes: bool,

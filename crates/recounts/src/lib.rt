@@ -1,6 +1,7 @@
 // The count of a cut, kept while more and more nodes are taken away (document 01, "The evening's cut": a count after each walk).
 // Taking a node away changes what is left at the nodes above it only; so a count works out those again whose children have
 // changed, and reads the others where they stand. What was counted of a diagram can be turned to its negation.
+#![tactic(auto)]
 pub mod changes;
 mod renewal;
 pub mod turning;

@@ -6,7 +6,7 @@ use diagram::verdict::{Output, Verdict};
 use diagram_check::validate::admit;
 
 // The check's verdict, and the number of nodes of the answer: 0 where the words were refused.
-#[derive(Drop)]
+#[derive(Clone, Copy)]
 pub struct Reduced {
     pub verdict: Verdict,
     pub nodes: usize,

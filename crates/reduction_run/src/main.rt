@@ -3,6 +3,7 @@
 // answer is the verdict; how many nodes were answered; of the room afterwards how many words at its front are zero and how many
 // after these are as they were; how many words of the output beyond the result are as they were; and the result's words. Both
 // files are made by tests/reduction_cases.py, from a reading of the rules in force that shares nothing with this code.
+#![tactic(auto)]
 ghost use Rattle.std.specs.Prelude.{◌≤◌, ◌<◌, length};
 
 use cases::{fill, least, number, run_of, words_of};

@@ -1,5 +1,6 @@
 // The words of a request to shrink: `nodes` where it is a node file; `keep` or `suppress`; `size`, `cases` or `hex`; a number; and where
 // it is wanted `as_is`.
+#![tactic(auto)]
 pub mod form;
 pub mod words;
 
@@ -16,7 +17,7 @@ use words::same;
 pub const WORD: usize = DECIMAL;
 
 // What the words come to. `Which` is for the word `count`, which does not say whether its number is decimal.
-#[derive(Drop)]
+#[derive(Clone, Copy)]
 pub enum Asked {
     Help,
     Unknown,
@@ -26,7 +27,7 @@ pub enum Asked {
 
 // What to cut to: a number of cases where `counted`, else a number of nodes. There is no field that says to
 // underapproximate or to overapproximate: `keep` decides it. Where `as_is`, a diagram that meets the target already keeps its words.
-#[derive(Drop)]
+#[derive(Clone, Copy)]
 pub struct Target {
     pub keep: bool,
     pub as_is: bool,
@@ -35,7 +36,7 @@ pub struct Target {
     pub count: Natural,
 }
 
-#[derive(Drop)]
+#[derive(Clone, Copy)]
 pub struct Request {
     pub asked: Asked,
     pub target: Target,

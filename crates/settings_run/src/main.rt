@@ -4,6 +4,7 @@
 //     1  read by both readers: the length of the block, then places and bytes, all other bytes being zero; prints both answers
 // Of bytes and words each that is not as the one before it is printed with its place, from a zero on, and then how many there are.
 // Both files are made by tests/settings_cases.py, from a reading of the rules in force that shares nothing with this code.
+#![tactic(auto)]
 ghost use Rattle.std.specs.Prelude.{◌≤◌, ◌<◌, length};
 
 use blocks::layout::BLOCK;

@@ -1,4 +1,5 @@
 // The program: see crates/shrink_program.
+#![tactic(auto)]
 use shrink_program::run_program;
 
 fn main() {

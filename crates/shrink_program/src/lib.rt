@@ -2,6 +2,7 @@
 // output; with `nodes` before the other words a node file. The summary, the one line of a refusal and the help go to standard error. What is
 // written is decided by `answer_evening` of crates/evening alone: here the words are fetched, the settings file and the input are read, and
 // both channels are written.
+#![tactic(auto)]
 ghost use Rattle.std.specs.Prelude.{◌≤◌, length};
 ghost use Rattle.shrink_program.specs.Program.{Answered, Ran};
 

@@ -2,6 +2,7 @@
 // the bytes of the file and behind them those of the text. The last call has a byte of the check sum changed: no byte of a file may
 // come out of it. With `nodes` in front the bytes are a node file: the same nodes, as they stand in the block, and then the block itself,
 // which is none. Both files are made by tests/shrink_cases.py.
+#![tactic(auto)]
 use blocks::layout::{BLOCK, PLACE, PLACES};
 use libc::STDOUT_FILENO;
 use shrinking::answer::answer;

@@ -19,7 +19,7 @@ pub const HEADS: usize = 4;
 pub const END: usize = 5;
 
 // A pointer into the store, and how many nodes the store has: one more than its capacity where a node found no place.
-#[derive(Drop)]
+#[derive(Clone, Copy)]
 pub struct Made {
     pub pointer: BddPointer,
     pub count: usize,

@@ -6,7 +6,7 @@ use mathlib.Core.Bool.{Bool, true, not, ◌&&◌}
 use mathlib.Core.List.{List, [], ◌∷◌}
 use native.Mathlib.Omega.{arith}
 use lib.Dec.{leb, eqb}
-use borrow.Author.Tests.{leb-true, le-leb, eqb-true, eq-eqb, not_true}
+use borrow.Author.Tests.{leb-true, le-leb, eqb-true, eq-eqb, not-true}
 use Rattle.diagram.specs.Diagram.{var_of, size}
 use Rattle.diagram.proofs.Tests.{by_test, by-eq, not_both, and_both, both_and}
 use Rattle.counts.specs.Counting.{In, here, there, none, more, Number}
@@ -68,7 +68,7 @@ module _ (t : List ℕ) (i p : ℕ) where
   node_told inside e =
       let a = and_both (leb 2 p) (not (is_free t p) && eqb (var_of t p) i) e in
       let b = and_both (not (is_free t p)) (eqb (var_of t p) i) a.1 in (
-        record { after = leb-true 2 p a.0; inside = inside; used = used_told t p (not_true (is_free t p) b.0) },
+        record { after = leb-true 2 p a.0; inside = inside; used = used_told t p (not-true (is_free t p) b.0) },
         eqb-true (var_of t p) i b.1,
       )
 

@@ -1,11 +1,12 @@
 // The summary as a lent row of small structures, one for each signal, and its way to and from the plain words that the covered code works on.
 // A function that holds the row is proved by a walk of its code by hand, so there are few and each is small.
+#![tactic(auto)]
 ghost use Rattle.std.specs.Prelude.{◌≡◌, ◌*◌, ◌≤◌, ◌++◌, length, take as taking, drop as dropping};
 ghost use Rattle.summary_row.specs.Row.{words_of};
 
 // What the day shift asks of a signal: how many live nodes test it, and how many live slots depend on it.
 #[repr(C)]
-#[derive(Drop)]
+#[derive(Clone, Copy)]
 pub struct Signal {
     pub nodes: u32,
     pub slots: u32,

@@ -11,7 +11,7 @@ use reduction::answer::copy;
 use room_map::{ANSWER, END};
 
 // How many nodes the answer has, and how many cuts by a list were made for it.
-#[derive(Drop)]
+#[derive(Clone, Copy)]
 pub struct Answer {
     pub nodes: usize,
     pub trials: usize,

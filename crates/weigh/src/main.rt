@@ -1,5 +1,6 @@
 // `weigh` reads a block file on standard input, `weigh nodes` a node file, and prints the count of its diagram and the weight of each node,
 // or the one line of its refusal. So much of the input is read as tells what all of it would.
+#![tactic(auto)]
 ghost use Rattle.std.specs.Prelude.{◌≡◌, length};
 ghost use Rattle.report.specs.Report.{report_of};
 

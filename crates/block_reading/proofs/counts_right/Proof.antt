@@ -1,4 +1,4 @@
-use borrow.Author.Tests.{not_true, not-false}
+use borrow.Author.Tests.{not-true, not-false}
 use Rattle.blocks.proofs.Testing.{counts_number, counts_other, counts_none, counts_decide}
 use borrow.Author.Rules.{rules}
 use Rattle.block_reading.proofs.counts_right.Statement.{statement}
@@ -23,7 +23,7 @@ same-file-requires : tie.Need-same-file-requires
 same-file-requires c κs = search rules
 
 returns-2 : tie.Need-returns-2
-returns-2 c = counts_other c.before.before.before.before.before.before.args.block.now c.before.before.before.before.before.before.args.number c.before.before.before.before.before.before.args.stated c.before.before.before.before.get-two.ensures.0 c.before.before.before.if1.false c.before.before.get-four.ensures c.before.same-file.ensures (not_true _ c.if2.true)
+returns-2 c = counts_other c.before.before.before.before.before.before.args.block.now c.before.before.before.before.before.before.args.number c.before.before.before.before.before.before.args.stated c.before.before.before.before.get-two.ensures.0 c.before.before.before.if1.false c.before.before.get-four.ensures c.before.same-file.ensures (not-true _ c.if2.true)
 
 get-two-requires-2 : tie.Need-get-two-requires-2
 get-two-requires-2 c κs = search rules

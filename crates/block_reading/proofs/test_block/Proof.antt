@@ -3,7 +3,7 @@ use mathlib.Core.Path.{ap}
 use Rattle.blocks.specs.Block.{two}
 use Prim.Native.Nat.{◌+◌, ◌*◌, ◌≤◌}
 use mathlib.Core.Path.{sym, ◌∙◌}
-use borrow.Author.Tests.{not_true, not-false}
+use borrow.Author.Tests.{not-true, not-false}
 use Rattle.blocks.proofs.Testing.{refused_21, refused_22, refused_23, refused_25, refused_24, refused_4, taken, held_few, due_small}
 use borrow.Author.Tests.{leb-true, leb-false}
 use native.Mathlib.Omega.{arith}
@@ -24,7 +24,7 @@ refused-requires-2 : tie.Need-refused-requires-2
 refused-requires-2 c κs = search rules
 
 returns-2 : tie.Need-returns-2
-returns-2 c = c.refused2.ensures ∙ refused_22 c.before.before.before.before.before.args.block.now c.before.before.before.before.before.args.number c.before.before.before.before.before.args.stated c.before.before.before.before.before.args.lent c.before.before.before.if1.false (sym c.before.before.sums-right.ensures ∙ not_true _ c.before.if2.true)
+returns-2 c = c.refused2.ensures ∙ refused_22 c.before.before.before.before.before.args.block.now c.before.before.before.before.before.args.number c.before.before.before.before.before.args.stated c.before.before.before.before.before.args.lent c.before.before.before.if1.false (sym c.before.before.sums-right.ensures ∙ not-true _ c.before.if2.true)
 
 counts-right-requires : tie.Need-counts-right-requires
 counts-right-requires c κs = search rules
@@ -33,7 +33,7 @@ refused-requires-3 : tie.Need-refused-requires-3
 refused-requires-3 c κs = search rules
 
 returns-3 : tie.Need-returns-3
-returns-3 c = c.refused3.ensures ∙ refused_23 c.before.before.before.before.before.before.before.args.block.now c.before.before.before.before.before.before.before.args.number c.before.before.before.before.before.before.before.args.stated c.before.before.before.before.before.before.before.args.lent c.before.before.before.before.before.if1.false (sym c.before.before.before.before.sums-right.ensures ∙ not-false _ c.before.before.before.if2.false) (sym c.before.before.counts-right.ensures ∙ not_true _ c.before.if3.true)
+returns-3 c = c.refused3.ensures ∙ refused_23 c.before.before.before.before.before.before.before.args.block.now c.before.before.before.before.before.before.before.args.number c.before.before.before.before.before.before.before.args.stated c.before.before.before.before.before.before.before.args.lent c.before.before.before.before.before.if1.false (sym c.before.before.before.before.sums-right.ensures ∙ not-false _ c.before.before.before.if2.false) (sym c.before.before.counts-right.ensures ∙ not-true _ c.before.if3.true)
 
 get-four-requires : tie.Need-get-four-requires
 get-four-requires c κs = search rules
@@ -69,13 +69,13 @@ refused-requires-5 : tie.Need-refused-requires-5
 refused-requires-5 c κs = search rules
 
 returns-5 : tie.Need-returns-5
-returns-5 c = c.refused5.ensures ∙ refused_24 c.before.before.before.before.before.before.before.before.before.before.before.before.args.block.now c.before.before.before.before.before.before.before.before.before.before.before.before.args.number c.before.before.before.before.before.before.before.before.before.before.before.before.args.stated c.before.before.before.before.before.before.before.before.before.before.before.before.args.lent c.before.before.before.before.before.before.before.before.before.before.if1.false (sym c.before.before.before.before.before.before.before.before.before.sums-right.ensures ∙ not-false _ c.before.before.before.before.before.before.before.before.if2.false) (sym c.before.before.before.before.before.before.before.counts-right.ensures ∙ not-false _ c.before.before.before.before.before.before.if3.false) (omega (arith, c.before.before.before.before.if4.false, c.before.before.before.before.before.get-four.ensures)) (rw c.before.before.before.get-two.ensures.0 at (sym c.before.before.unused-zero.ensures ∙ not_true _ c.before.if5.true))
+returns-5 c = c.refused5.ensures ∙ refused_24 c.before.before.before.before.before.before.before.before.before.before.before.before.args.block.now c.before.before.before.before.before.before.before.before.before.before.before.before.args.number c.before.before.before.before.before.before.before.before.before.before.before.before.args.stated c.before.before.before.before.before.before.before.before.before.before.before.before.args.lent c.before.before.before.before.before.before.before.before.before.before.if1.false (sym c.before.before.before.before.before.before.before.before.before.sums-right.ensures ∙ not-false _ c.before.before.before.before.before.before.before.before.if2.false) (sym c.before.before.before.before.before.before.before.counts-right.ensures ∙ not-false _ c.before.before.before.before.before.before.if3.false) (omega (arith, c.before.before.before.before.if4.false, c.before.before.before.before.before.get-four.ensures)) (rw c.before.before.before.get-two.ensures.0 at (sym c.before.before.unused-zero.ensures ∙ not-true _ c.before.if5.true))
 
 refused-requires-6 : tie.Need-refused-requires-6
 refused-requires-6 c κs = search rules
 
 returns-6 : tie.Need-returns-6
-returns-6 c = c.refused6.ensures ∙ refused_4 c.before.before.before.before.before.before.before.before.before.before.before.before.before.args.block.now c.before.before.before.before.before.before.before.before.before.before.before.before.before.args.number c.before.before.before.before.before.before.before.before.before.before.before.before.before.args.stated c.before.before.before.before.before.before.before.before.before.before.before.before.before.args.lent c.before.before.before.before.before.before.before.before.before.before.before.if1.false (sym c.before.before.before.before.before.before.before.before.before.before.sums-right.ensures ∙ not-false _ c.before.before.before.before.before.before.before.before.before.if2.false) (sym c.before.before.before.before.before.before.before.before.counts-right.ensures ∙ not-false _ c.before.before.before.before.before.before.before.if3.false) (omega (arith, c.before.before.before.before.before.if4.false, c.before.before.before.before.before.before.get-four.ensures)) (rw c.before.before.before.before.get-two.ensures.0 at (sym c.before.before.before.unused-zero.ensures ∙ not-false _ c.before.before.if5.false)) (omega (arith, leb-false (block_words * c.before.before.before.before.before.before.before.before.before.before.before.before.before.args.number + 3 * c.before.before.before.before.get-two.result) c.before.before.before.before.before.before.before.before.before.before.before.before.before.args.lent (not_true _ c.before.if6.true), c.before.before.before.before.get-two.ensures.0))
+returns-6 c = c.refused6.ensures ∙ refused_4 c.before.before.before.before.before.before.before.before.before.before.before.before.before.args.block.now c.before.before.before.before.before.before.before.before.before.before.before.before.before.args.number c.before.before.before.before.before.before.before.before.before.before.before.before.before.args.stated c.before.before.before.before.before.before.before.before.before.before.before.before.before.args.lent c.before.before.before.before.before.before.before.before.before.before.before.if1.false (sym c.before.before.before.before.before.before.before.before.before.before.sums-right.ensures ∙ not-false _ c.before.before.before.before.before.before.before.before.before.if2.false) (sym c.before.before.before.before.before.before.before.before.counts-right.ensures ∙ not-false _ c.before.before.before.before.before.before.before.if3.false) (omega (arith, c.before.before.before.before.before.if4.false, c.before.before.before.before.before.before.get-four.ensures)) (rw c.before.before.before.before.get-two.ensures.0 at (sym c.before.before.before.unused-zero.ensures ∙ not-false _ c.before.before.if5.false)) (omega (arith, leb-false (block_words * c.before.before.before.before.before.before.before.before.before.before.before.before.before.args.number + 3 * c.before.before.before.before.get-two.result) c.before.before.before.before.before.before.before.before.before.before.before.before.before.args.lent (not-true _ c.before.if6.true), c.before.before.before.before.get-two.ensures.0))
 
 returns-7 : tie.Need-returns-7
 returns-7 c = ap nodes c.before.before.before.before.before.get-four.ensures ∙ taken c.before.before.before.before.before.before.before.before.before.before.before.before.args.block.now c.before.before.before.before.before.before.before.before.before.before.before.before.args.number c.before.before.before.before.before.before.before.before.before.before.before.before.args.stated c.before.before.before.before.before.before.before.before.before.before.before.before.args.lent c.before.before.before.before.before.before.before.before.before.before.if1.false (sym c.before.before.before.before.before.before.before.before.before.sums-right.ensures ∙ not-false _ c.before.before.before.before.before.before.before.before.if2.false) (sym c.before.before.before.before.before.before.before.counts-right.ensures ∙ not-false _ c.before.before.before.before.before.before.if3.false) (omega (arith, c.before.before.before.before.if4.false, c.before.before.before.before.before.get-four.ensures)) (rw c.before.before.before.get-two.ensures.0 at (sym c.before.before.unused-zero.ensures ∙ not-false _ c.before.if5.false)) (omega (arith, leb-true (block_words * c.before.before.before.before.before.before.before.before.before.before.before.before.args.number + 3 * c.before.before.before.get-two.result) c.before.before.before.before.before.before.before.before.before.before.before.before.args.lent (not-false _ c.if6.false), c.before.before.before.get-two.ensures.0))

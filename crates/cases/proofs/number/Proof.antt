@@ -1,7 +1,7 @@
 use Prim.Native.Nat.{◌-◌}
 use lib.ListN.{length}
 use mathlib.Core.Path.{sym, ◌∙◌}
-use borrow.Author.Tests.{not_true, not-false}
+use borrow.Author.Tests.{not-true, not-false}
 use Rattle.cases.proofs.Reading.{Digits, digits_begin, digits_on, digits_stop, digits_end}
 use borrow.Author.Rules.{rules}
 use native.Mathlib.Omega.{arith}
@@ -34,7 +34,7 @@ add-t12 : tie.Need-overflow-add-t12 invariant-loop decreases-loop
 add-t12 c = search rules
 
 returns : tie.Need-returns invariant-loop decreases-loop
-returns c = digits_stop _ c.before.before.before.before.loop.invariant c.before.before.before.loop-test.true (sym c.before.is_digit.ensures ∙ not_true _ c.if1.true)
+returns c = digits_stop _ c.before.before.before.before.loop.invariant c.before.before.before.loop-test.true (sym c.before.is_digit.ensures ∙ not-true _ c.if1.true)
 
 with-digit-requires : tie.Need-with-digit-requires invariant-loop decreases-loop
 with-digit-requires c κs = c.before.before.before.before.loop.invariant.small

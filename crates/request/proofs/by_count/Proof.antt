@@ -1,6 +1,6 @@
 use Rattle.request.proofs.Asking.{is_unknown}
 use mathlib.Core.Path.{◌∙◌}
-use borrow.Author.Tests.{not_true, not-false}
+use borrow.Author.Tests.{not-true, not-false}
 use native.Mathlib.Omega.{arith}
 use borrow.Author.Rules.{rules}
 use Rattle.request.proofs.by_count.Statement.{statement}
@@ -10,7 +10,7 @@ no-cut-requires : tie.Need-no-cut-requires
 no-cut-requires c κs = search rules
 
 returns : tie.Need-returns
-returns c = rw (not_true c.before.before.before.args.read.fits c.before.if1.true) (is_unknown _ c.no_cut.ensures)
+returns c = rw (not-true c.before.before.before.args.read.fits c.before.if1.true) (is_unknown _ c.no_cut.ensures)
 
 returns-2 : tie.Need-returns-2
 returns-2 c = rw (not-false c.before.before.before.args.read.fits c.before.if1.false)

@@ -1,6 +1,6 @@
 use Rattle.request.proofs.Asking.{is_unknown}
 use mathlib.Core.Path.{◌∙◌}
-use borrow.Author.Tests.{not_true, not-false}
+use borrow.Author.Tests.{not-true, not-false}
 use native.Mathlib.Omega.{arith}
 use borrow.Author.Rules.{rules}
 use Rattle.request.proofs.by_size.Statement.{statement}
@@ -10,7 +10,7 @@ no-cut-requires : tie.Need-no-cut-requires
 no-cut-requires c κs = search rules
 
 returns : tie.Need-returns
-returns c = rw (not_true c.before.before.before.args.read.valid c.before.if1.true) (is_unknown _ c.no_cut.ensures)
+returns c = rw (not-true c.before.before.before.args.read.valid c.before.if1.true) (is_unknown _ c.no_cut.ensures)
 
 zero-requires : tie.Need-zero-requires
 zero-requires c κs = search rules

@@ -1,5 +1,5 @@
 use mathlib.Core.Path.{refl, sym}
-use borrow.Author.Tests.{eq-eqb, ne_eqb, not_true, not-false}
+use borrow.Author.Tests.{eq-eqb, ne_eqb, not-true, not-false}
 use Rattle.converting.specs.Converting.{conversion_of}
 use borrow.Author.Rules.{rules}
 use Rattle.converting.proofs.words.conversion_of.Statement.{statement}
@@ -21,7 +21,7 @@ same-requires c κs = search rules
 
 returns-3 : tie.Need-returns-3
 unfolding conversion_of
-returns-3 c = rw (ne_eqb _ 0 c.before.before.before.before.if1.false, eq-eqb _ 3 c.before.before.before.if2.false, sym c.before.same.ensures, not_true c.before.same.result c.if3.true) refl
+returns-3 c = rw (ne_eqb _ 0 c.before.before.before.before.if1.false, eq-eqb _ 3 c.before.before.before.if2.false, sym c.before.same.ensures, not-true c.before.same.result c.if3.true) refl
 
 slice-aggregate-are-words : tie.Need-slice-aggregate-are-words
 slice-aggregate-are-words c = search rules

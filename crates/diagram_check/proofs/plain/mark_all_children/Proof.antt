@@ -4,7 +4,7 @@ use mathlib.Core.Path.{◌≡◌, refl, sym, ◌∙◌}
 use lib.ListN.{length}
 use Rattle.diagram.specs.Marking.{Linked}
 use Rattle.diagram.proofs.Parents.{linked_begins, linked_on}
-use borrow.Author.Tests.{not_true, not-false}
+use borrow.Author.Tests.{not-true, not-false}
 use borrow.Author.Rules.{rules}
 use native.Mathlib.Omega.{arith}
 use Rattle.diagram_check.proofs.plain.mark_all_children.Statement.{statement}
@@ -32,7 +32,7 @@ same_length : tie.Need-same-length invariant-loop decreases-loop
 same_length c = c.before.before.before.loop.invariant.1 ∙ c.before.before.before.before.before.before.clear.auto.0
 
 returns : tie.Need-returns invariant-loop decreases-loop
-returns c = (c.before.before.before.loop.invariant.0, λ l. sym c.before.is-above.ensures ∙ not_true c.before.is-above.result c.if1.true)
+returns c = (c.before.before.before.loop.invariant.0, λ l. sym c.before.is-above.ensures ∙ not-true c.before.is-above.result c.if1.true)
 
 mark-children-requires : tie.Need-mark-children-requires invariant-loop decreases-loop
 mark-children-requires c κs = search rules

@@ -1,4 +1,4 @@
-use borrow.Author.Tests.{not_true, not-false}
+use borrow.Author.Tests.{not-true, not-false}
 use Rattle.differing.proofs.Answering.{not_found, file_loaded, file_refused}
 use native.Mathlib.Omega.{arith}
 use borrow.Author.Rules.{rules}
@@ -6,7 +6,7 @@ use Rattle.differing.proofs.job.load.Statement.{statement}
 use Rattle.differing.proofs.job.load.Tie as tie
 
 returns : tie.Need-returns
-returns c = not_found c.before.before.before.args.form c.before.before.before.args.found c.before.before.before.args.bytes.now _ (not_true c.before.before.before.args.found c.if1.true)
+returns c = not_found c.before.before.before.args.form c.before.before.before.args.found c.before.before.before.args.bytes.now _ (not-true c.before.before.before.args.found c.if1.true)
 
 read-form-requires : tie.Need-read-form-requires
 read-form-requires c κs = search rules

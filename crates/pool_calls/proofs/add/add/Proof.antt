@@ -1,5 +1,5 @@
 use mathlib.Core.Path.{sym, ◌∙◌}
-use borrow.Author.Tests.{not_true, not-false}
+use borrow.Author.Tests.{not-true, not-false}
 use Rattle.pool_calls.proofs.Calling.{add_nothing}
 use borrow.Author.Rules.{rules}
 use Rattle.pool_calls.proofs.add.add.Statement.{statement}
@@ -18,7 +18,7 @@ same-length-2 : tie.Need-same-length-2
 same-length-2 c = search rules
 
 returns : tie.Need-returns
-returns c = add_nothing _ _ _ _ c.before.before.before.before.before.before.before.before.before.args.room.now (sym c.before.before.is_pool_lem.ensures ∙ not_true _ c.before.if1.true) c.refused.ensures
+returns c = add_nothing _ _ _ _ c.before.before.before.before.before.before.before.before.before.args.room.now (sym c.before.before.is_pool_lem.ensures ∙ not-true _ c.before.if1.true) c.refused.ensures
 
 add-known-requires : tie.Need-add-known-requires
 add-known-requires c κs = sym c.before.before.before.before.is_pool_lem.ensures ∙ not-false _ c.before.before.before.if1.false

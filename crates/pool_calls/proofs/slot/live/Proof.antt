@@ -1,5 +1,5 @@
 use mathlib.Core.Path.{sym, ◌∙◌}
-use borrow.Author.Tests.{not_true, not-false}
+use borrow.Author.Tests.{not-true, not-false}
 use Rattle.pool.proofs.Rows.{live_no_pool}
 use borrow.Author.Rules.{rules}
 use Rattle.pool_calls.proofs.slot.live.Statement.{statement}
@@ -12,7 +12,7 @@ refused-requires : tie.Need-refused-requires
 refused-requires c κs = search rules
 
 returns : tie.Need-returns
-returns c = c.refused.ensures ∙ sym (live_no_pool _ _ _ _ (sym c.before.before.is_pool_lem.ensures ∙ not_true _ c.before.if1.true))
+returns c = c.refused.ensures ∙ sym (live_no_pool _ _ _ _ (sym c.before.before.is_pool_lem.ensures ∙ not-true _ c.before.if1.true))
 
 live-known-requires : tie.Need-live-known-requires
 live-known-requires c κs = sym c.before.is_pool_lem.ensures ∙ not-false _ c.if1.false

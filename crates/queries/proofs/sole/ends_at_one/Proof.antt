@@ -1,7 +1,7 @@
 -- `queries::sole::ends_at_one` meets its contract.
 use mathlib.Core.Path.{sym, ◌∙◌}
 use Prim.Native.Nat.{ℕ, suc, ◌-◌}
-use borrow.Author.Tests.{ltb-true, ltb-false, not_true, not-false}
+use borrow.Author.Tests.{ltb-true, ltb-false, not-true, not-false}
 use Rattle.diagram.specs.Diagram.{var_of, vars}
 use Rattle.queries.proofs.SoleWalk.{Along, along_begins, along_on, clause_is}
 use borrow.Author.Rules.{rules}
@@ -31,10 +31,10 @@ only-child-requires : tie.Need-only-child-requires invariant-loop decreases-loop
 only-child-requires c κs = search rules
 
 loop-less : tie.Need-loop-smaller invariant-loop decreases-loop
-loop-less c = (along_on c.before.before.before.before.before.args.words.now c.before.before.before.before.before.requires.1 c.before.before.before.loop.invariant.1 (ltb-false c.before.before.before.loop.node.0 2 (sym c.before.before.is-terminal.ensures ∙ not_true _ c.before.if1.true)) c.only_child.ensures).1
+loop-less c = (along_on c.before.before.before.before.before.args.words.now c.before.before.before.before.before.requires.1 c.before.before.before.loop.invariant.1 (ltb-false c.before.before.before.loop.node.0 2 (sym c.before.before.is-terminal.ensures ∙ not-true _ c.before.if1.true)) c.only_child.ensures).1
 
 loop-again : tie.Need-loop-preserved invariant-loop decreases-loop
-loop-again c = (suc c.before.before.before.loop.invariant.0, (along_on c.before.before.before.before.before.args.words.now c.before.before.before.before.before.requires.1 c.before.before.before.loop.invariant.1 (ltb-false c.before.before.before.loop.node.0 2 (sym c.before.before.is-terminal.ensures ∙ not_true _ c.before.if1.true)) c.only_child.ensures).0)
+loop-again c = (suc c.before.before.before.loop.invariant.0, (along_on c.before.before.before.before.before.args.words.now c.before.before.before.before.before.requires.1 c.before.before.before.loop.invariant.1 (ltb-false c.before.before.before.loop.node.0 2 (sym c.before.before.is-terminal.ensures ∙ not-true _ c.before.if1.true)) c.only_child.ensures).0)
 
 returns : tie.Need-returns invariant-loop decreases-loop
 returns c = clause_is c.before.before.before.before.before.args.words.now c.before.before.before.before.before.requires.1 c.before.before.before.loop.invariant.1 (ltb-true c.before.before.before.loop.node.0 2 (sym c.before.before.is-terminal.ensures ∙ not-false _ c.before.if1.false))

@@ -1,7 +1,7 @@
 -- `queries::sole::tests_every_variable` meets its contract.
 use mathlib.Core.Path.{sym, ◌∙◌}
 use Prim.Native.Nat.{◌-◌}
-use borrow.Author.Tests.{ltb-true, ltb-false, not_true, not-false}
+use borrow.Author.Tests.{ltb-true, ltb-false, not-true, not-false}
 use Rattle.diagram.specs.Diagram.{var_of, vars as varsOf}
 use Rattle.queries.proofs.SoleWalk.{Testing, testing_begins, testing_small, testing_no, testing_on, testing_zero, testing_one}
 use borrow.Author.Rules.{rules}
@@ -31,7 +31,7 @@ var-of-requires : tie.Need-var-of-requires invariant-loop decreases-loop
 var-of-requires c κs = search rules
 
 returns : tie.Need-returns invariant-loop decreases-loop
-returns c = testing_no c.before.before.before.before.before.before.before.before.args.words.now c.before.before.before.before.before.before.before.before.requires.2 c.before.before.before.before.before.before.loop.invariant (ltb-false c.before.before.before.before.before.before.loop.node.0 2 (sym c.before.before.before.before.before.is-terminal.ensures ∙ not_true _ c.before.before.before.before.if1.true)) c.before.before.before.var-of.ensures c.if2.true
+returns c = testing_no c.before.before.before.before.before.before.before.before.args.words.now c.before.before.before.before.before.before.before.before.requires.2 c.before.before.before.before.before.before.loop.invariant (ltb-false c.before.before.before.before.before.before.loop.node.0 2 (sym c.before.before.before.before.before.is-terminal.ensures ∙ not-true _ c.before.before.before.before.if1.true)) c.before.before.before.var-of.ensures c.if2.true
 
 only-child-requires : tie.Need-only-child-requires invariant-loop decreases-loop
 only-child-requires c κs = search rules
@@ -40,10 +40,10 @@ add-t11 : tie.Need-overflow-add-t11 invariant-loop decreases-loop
 add-t11 c = omega (arith, testing_small c.before.before.before.before.before.before.before.before.before.before.args.words.now c.before.before.before.before.before.before.before.before.before.before.requires.2 c.before.before.before.before.before.before.before.before.loop.invariant)
 
 loop-less : tie.Need-loop-smaller invariant-loop decreases-loop
-loop-less c = (testing_on c.before.before.before.before.before.before.before.before.before.before.args.words.now c.before.before.before.before.before.before.before.before.before.before.requires.2 c.before.before.before.before.before.before.before.before.loop.invariant (ltb-false c.before.before.before.before.before.before.before.before.loop.node.0 2 (sym c.before.before.before.before.before.before.before.is-terminal.ensures ∙ not_true _ c.before.before.before.before.before.before.if1.true)) c.before.before.before.before.before.var-of.ensures c.before.before.if2.false c.before.only_child.ensures).1
+loop-less c = (testing_on c.before.before.before.before.before.before.before.before.before.before.args.words.now c.before.before.before.before.before.before.before.before.before.before.requires.2 c.before.before.before.before.before.before.before.before.loop.invariant (ltb-false c.before.before.before.before.before.before.before.before.loop.node.0 2 (sym c.before.before.before.before.before.before.before.is-terminal.ensures ∙ not-true _ c.before.before.before.before.before.before.if1.true)) c.before.before.before.before.before.var-of.ensures c.before.before.if2.false c.before.only_child.ensures).1
 
 loop-again : tie.Need-loop-preserved invariant-loop decreases-loop
-loop-again c = (testing_on c.before.before.before.before.before.before.before.before.before.before.args.words.now c.before.before.before.before.before.before.before.before.before.before.requires.2 c.before.before.before.before.before.before.before.before.loop.invariant (ltb-false c.before.before.before.before.before.before.before.before.loop.node.0 2 (sym c.before.before.before.before.before.before.before.is-terminal.ensures ∙ not_true _ c.before.before.before.before.before.before.if1.true)) c.before.before.before.before.before.var-of.ensures c.before.before.if2.false c.before.only_child.ensures).0
+loop-again c = (testing_on c.before.before.before.before.before.before.before.before.before.before.args.words.now c.before.before.before.before.before.before.before.before.before.before.requires.2 c.before.before.before.before.before.before.before.before.loop.invariant (ltb-false c.before.before.before.before.before.before.before.before.loop.node.0 2 (sym c.before.before.before.before.before.before.before.is-terminal.ensures ∙ not-true _ c.before.before.before.before.before.before.if1.true)) c.before.before.before.before.before.var-of.ensures c.before.before.if2.false c.before.only_child.ensures).0
 
 returns-2 : tie.Need-returns-2 invariant-loop decreases-loop
 returns-2 c = testing_zero c.before.before.before.before.before.before.args.words.now c.before.before.before.before.before.before.requires.2 c.before.before.before.before.loop.invariant (ltb-true c.before.before.before.before.loop.node.0 2 (sym c.before.before.before.is-terminal.ensures ∙ not-false _ c.before.before.if1.false)) c.if3.true

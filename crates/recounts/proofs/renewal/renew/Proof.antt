@@ -1,5 +1,5 @@
 use mathlib.Core.Path.{sym, ◌∙◌}
-use borrow.Author.Tests.{not_true}
+use borrow.Author.Tests.{not-true}
 use Rattle.recounts.proofs.Passes.{turning_few, renew_still, renew_taken}
 use borrow.Author.Rules.{rules}
 use Rattle.recounts.proofs.renewal.renew.Statement.{statement}
@@ -17,7 +17,7 @@ same_length : tie.Need-same-length
 same_length c = search rules
 
 returns : tie.Need-returns
-returns c = renew_still c.before.before.before.before.before.before.requires (sym c.before.is-above-change.ensures ∙ not_true _ c.if1.true)
+returns c = renew_still c.before.before.before.before.before.before.requires (sym c.before.is-above-change.ensures ∙ not-true _ c.if1.true)
 
 is-marked-requires : tie.Need-is-marked-requires
 is-marked-requires c κs = turning_few c.before.before.before.before.before.before.before.requires

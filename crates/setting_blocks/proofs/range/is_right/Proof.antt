@@ -1,4 +1,4 @@
-use borrow.Author.Tests.{not_true, not-false}
+use borrow.Author.Tests.{not-true, not-false}
 use Rattle.setting_blocks.proofs.Ranges.{right_direction, right_kind, right_flag, right_decides}
 use borrow.Author.Rules.{rules}
 use Rattle.setting_blocks.proofs.range.is_right.Statement.{statement}
@@ -14,7 +14,7 @@ flag-fits-requires : tie.Need-flag-fits-requires
 flag-fits-requires c κs = search rules
 
 returns-3 : tie.Need-returns-3
-returns-3 c = right_flag c.before.before.before.before.before.before.args.version c.before.before.before.before.before.before.args.setting c.before.before.before.before.if1.false c.before.before.if2.false c.before.flag-fits.ensures (not_true _ c.if3.true)
+returns-3 c = right_flag c.before.before.before.before.before.before.args.version c.before.before.before.before.before.before.args.setting c.before.before.before.before.if1.false c.before.before.if2.false c.before.flag-fits.ensures (not-true _ c.if3.true)
 
 target-fits-requires : tie.Need-target-fits-requires
 target-fits-requires c κs = search rules

@@ -2,7 +2,7 @@ use mathlib.Core.Path.{◌≡◌, refl, sym, ◌∙◌}
 use Prim.Native.Nat.{ℕ}
 use lib.ListN.{length, length-replicate}
 use Rattle.setting_blocks.specs.Settings.{target_words}
-use borrow.Author.Tests.{not_true, not-false}
+use borrow.Author.Tests.{not-true, not-false}
 use Rattle.naturals.proofs.Machine.{typed}
 use Rattle.blocks.specs.Block.{summed}
 use Rattle.setting_blocks.proofs.Words.{wrote_all}
@@ -22,7 +22,7 @@ refused-requires : tie.Need-refused-requires
 refused-requires c κs = search rules
 
 returns : tie.Need-returns
-returns c = writes_38 _ _ _ (sym c.before.before.is_known.ensures ∙ not_true _ c.before.if1.true) c.refused.ensures
+returns c = writes_38 _ _ _ (sym c.before.before.is_known.ensures ∙ not-true _ c.before.if1.true) c.refused.ensures
 
 is-right-requires : tie.Need-is-right-requires
 is-right-requires c κs = search rules
@@ -31,7 +31,7 @@ refused-requires-2 : tie.Need-refused-requires-2
 refused-requires-2 c κs = search rules
 
 returns-2 : tie.Need-returns-2
-returns-2 c = writes_39 _ _ _ (sym c.before.before.before.before.is_known.ensures ∙ not-false _ c.before.before.before.if1.false) (sym c.before.before.is_right.ensures ∙ not_true _ c.before.if2.true) c.refused2.ensures
+returns-2 c = writes_39 _ _ _ (sym c.before.before.before.before.is_known.ensures ∙ not-false _ c.before.before.before.if1.false) (sym c.before.before.is_right.ensures ∙ not-true _ c.before.if2.true) c.refused2.ensures
 
 refused-requires-3 : tie.Need-refused-requires-3
 refused-requires-3 c κs = search rules

@@ -1,5 +1,5 @@
 use mathlib.Core.Path.{sym, ◌∙◌}
-use borrow.Author.Tests.{not_true, not-false}
+use borrow.Author.Tests.{not-true, not-false}
 use Rattle.summary_calls.proofs.Keeping.{no_pool_there, too_short, long_enough}
 use native.Mathlib.Omega.{arith}
 use borrow.Author.Rules.{rules}
@@ -13,7 +13,7 @@ refused-requires : tie.Need-refused-requires
 refused-requires c κs = search rules
 
 returns : tie.Need-returns
-returns c = c.refused.ensures ∙ sym (no_pool_there c.before.before.before.before.before.before.args.table.now c.before.before.before.before.before.before.args.slots.now c.before.before.before.before.before.before.args.summary.now (sym c.before.before.is_pool_lem.ensures ∙ not_true _ c.before.if1.true))
+returns c = c.refused.ensures ∙ sym (no_pool_there c.before.before.before.before.before.before.args.table.now c.before.before.before.before.before.before.args.slots.now c.before.before.before.before.before.before.args.summary.now (sym c.before.before.is_pool_lem.ensures ∙ not-true _ c.before.if1.true))
 
 word-requires : tie.Need-word-requires
 word-requires c κs = search rules

@@ -1,5 +1,5 @@
 use mathlib.Core.Path.{sym, ◌∙◌}
-use borrow.Author.Tests.{not_true, not-false}
+use borrow.Author.Tests.{not-true, not-false}
 use Rattle.summary_calls.proofs.Keeping.{stands_refused, roomy_told, stands_other, stands_told}
 use borrow.Author.Rules.{rules}
 use Rattle.summary_calls.proofs.keep.stands.Statement.{statement}
@@ -24,7 +24,7 @@ refused-requires : tie.Need-refused-requires
 refused-requires c κs = search rules
 
 returns-2 : tie.Need-returns-2
-returns-2 c = c.refused.ensures ∙ sym (stands_other c.before.before.before.before.before.before.before.before.before.args.table.now c.before.before.before.before.before.before.before.before.before.args.slots.now c.before.before.before.before.before.before.before.before.before.args.summary.now c.before.before.before.before.before.roomy.ensures c.before.before.before.enum_told.given.1 (sym c.before.before.agrees.ensures ∙ not_true _ c.before.if1.true))
+returns-2 c = c.refused.ensures ∙ sym (stands_other c.before.before.before.before.before.before.before.before.before.args.table.now c.before.before.before.before.before.before.before.before.before.args.slots.now c.before.before.before.before.before.before.before.before.before.args.summary.now c.before.before.before.before.before.roomy.ensures c.before.before.before.enum_told.given.1 (sym c.before.before.agrees.ensures ∙ not-true _ c.before.if1.true))
 
 returns-3 : tie.Need-returns-3
 returns-3 c = stands_told c.before.before.before.before.before.before.before.before.args.table.now c.before.before.before.before.before.before.before.before.args.slots.now c.before.before.before.before.before.before.before.before.args.summary.now c.before.before.before.before.roomy.ensures c.before.before.enum_told.given.1 (sym c.before.agrees.ensures ∙ not-false _ c.if1.false)

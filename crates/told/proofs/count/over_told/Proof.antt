@@ -1,4 +1,4 @@
-use borrow.Author.Tests.{not_true, not-false}
+use borrow.Author.Tests.{not-true, not-false}
 use Rattle.naturals.specs.Natural.{value}
 use Rattle.told.proofs.Opening.{power_value, over_16, over_19, over_one, over_other}
 use borrow.Author.Rules.{rules}
@@ -12,7 +12,7 @@ at-most-requires : tie.Need-at-most-requires
 at-most-requires c κs = search rules
 
 returns : tie.Need-returns
-returns c = (λ w is-n is-v. over_16 w (value c.before.before.before.args.target.words) is-n is-v (power_value c.before.before.before.args.vars c.before.before.before.requires c.before.before.power-of-two.ensures) c.before.at_most.ensures (not_true _ c.if1.true))
+returns c = (λ w is-n is-v. over_16 w (value c.before.before.before.args.target.words) is-n is-v (power_value c.before.before.before.args.vars c.before.before.before.requires c.before.before.power-of-two.ensures) c.before.at_most.ensures (not-true _ c.if1.true))
 
 is-between-requires : tie.Need-is-between-requires
 is-between-requires c κs = c.before.before.before.before.requires

@@ -1,4 +1,4 @@
-use borrow.Author.Tests.{not_true, not-false}
+use borrow.Author.Tests.{not-true, not-false}
 use Rattle.told.proofs.Small.{small_none, small_below, small_many, small_one}
 use native.Mathlib.Omega.{arith}
 use borrow.Author.Rules.{rules}
@@ -9,7 +9,7 @@ returns : tie.Need-returns
 returns c = (λ a is. small_none c.before.before.args.above c.before.before.args.words.now c.before.before.args.target (omega (arith, c.if1.true)))
 
 returns-2 : tie.Need-returns-2
-returns-2 c = (λ a is. small_below c.before.before.before.args.above c.before.before.before.args.words.now c.before.before.before.args.target (λ none. omega (arith, none, c.before.if1.false)) (not_true _ c.if2.true))
+returns-2 c = (λ a is. small_below c.before.before.before.args.above c.before.before.before.args.words.now c.before.before.before.args.target (λ none. omega (arith, none, c.before.if1.false)) (not-true _ c.if2.true))
 
 returns-3 : tie.Need-returns-3
 returns-3 c = (λ a is. small_many c.before.before.before.before.args.above c.before.before.before.before.args.words.now c.before.before.before.before.args.target (λ none. omega (arith, none, c.before.before.if1.false)) c.if3.true)
