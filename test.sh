@@ -1,5 +1,5 @@
 #!/usr/bin/env bash
-# All tests: the layout of every file; the papers held to the crates; every crate proved from nothing, every must-fail edit refused, every test program
+# All tests: the papers held to the crates; the layout of every file, every crate proved from nothing, every must-fail edit refused, every test program
 # run and its output compared (rt ci); then, over the same proofs, the programs on stored inputs, the evening script, the archive for C and
 # Rust, the C test, the replay of stored requests and the Rust crate's tests. Each of these counts as one beside what rt ci counts.
 # The last line is 'N passed, M failed'; the exit status is 0 only where M is 0.
@@ -55,6 +55,7 @@ gate() {
 archive=target/staticlib/libhouayletan.a
 built=target/tests
 
+programs() { bash tools/programs.sh taken && bash tests/programs.sh target/bin; }
 c_program() { # NAME
     mkdir -p "$built" && cc -std=c99 -Wall -Wextra -Werror -O2 "tests/c/$1.c" "$archive" -o "$built/$1"
 }
@@ -81,20 +82,19 @@ rust_tests() {
     HOUAYLETAN_LIB="$PWD/target/staticlib" CARGO_TARGET_DIR="$PWD/$built/rust" cargo test --offline --quiet --manifest-path bindings/rust/Cargo.toml
 }
 make_archive() {
-    mkdir -p target && rm -f "$archive"
-    rt staticlib houayletan > target/staticlib.log 2>&1 && [ -f "$archive" ] && return
+    mkdir -p target
+    bash tools/archive.sh > target/staticlib.log 2>&1 && [ -f "$archive" ] && return
     cat target/staticlib.log
     return 1
 }
 
-step "layout" rt fmt --check
 if python3 --version > /dev/null 2>&1; then
     step "papers" python3 tests/papers.py
 else
     leave_out "the papers held to the crates: there is no python3 on this machine"
 fi
 if gate; then
-    step "programs" bash tests/programs.sh target/bin
+    step "programs" programs
     step "evening" bash tests/evening.sh target/bin
     step "archive for C and Rust" make_archive
     if [ ! -f "$archive" ]; then
