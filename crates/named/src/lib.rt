@@ -1,7 +1,8 @@
 // Files that are read by their names.
 #![tactic(auto)]
 
-ghost use Rattle.std.specs.Prelude.{◌≡◌, ◌≤◌, length};
+ghost use Rattle.std.specs.Prelude.{◌≡◌, ◌≤◌, length, false};
+ghost use Rattle.std.specs.Str.{IsUtf8};
 
 use std::fs::{File, Files};
 use std::io::Read;
@@ -15,7 +16,8 @@ pub struct Input {
 }
 
 pub fn nothing() -> Input
-    ensures { result.length ≡ 0 }
+    ensures found { result.found ≡ false }
+    ensures length { result.length ≡ 0 }
 {
     Input {
         found: false,
@@ -56,8 +58,10 @@ fn read_opened<R: Read>(file: &mut R, bytes: &mut [u8]) -> Input
     }
 }
 
+// The bytes of a file, of which there may be more. A name that is no UTF-8 text names no file.
 pub fn read_file<F: Files>(files: &F, name: &[u8], bytes: &mut [u8]) -> Input
-    ensures { result.length ≤ length bytes.new }
+    ensures length { result.length ≤ length bytes.new }
+    ensures text { ¬ IsUtf8 name.now → result.found ≡ false }
 {
     let Ok(name) = from_utf8(name) else {
         return nothing();
