@@ -19,13 +19,15 @@ use blocks::stored::Stored;
 use cases::{fill, least, number, words_of};
 use diagram::node::word;
 use forms::Form;
-use libc::STDOUT_FILENO;
 use messages::refusal::write_refusal;
 use naturals::Natural;
 use report::lines::REPORT;
 use report::weigh::report;
 use text::parse::{parse_decimal, parse_hexadecimal, parse_natural};
 use text::print::{DECIMAL, write_decimal, write_hexadecimal, write_natural};
+
+// The number of standard output.
+const STDOUT: i32 = 1;
 
 const TEXT: usize = 524288;
 
@@ -36,8 +38,8 @@ const WORDS: usize = FILE + BLOCK + 52;
 const OUTPUT: usize = FILE_WORDS + 40;
 
 fn say(text: &[u8], value: u64) {
-    io::write_all(STDOUT_FILENO, text);
-    io::print_decimal(STDOUT_FILENO, value);
+    io::write_all(STDOUT, text);
+    io::print_decimal(STDOUT, value);
 }
 
 fn say_stored(stored: Stored) {
@@ -56,7 +58,7 @@ fn say_words(words: &[u32]) {
         say(b" ", words[i] as u64);
         i += 1;
     }
-    io::write_all(STDOUT_FILENO, b"\n");
+    io::write_all(STDOUT, b"\n");
 }
 
 fn say_bytes(bytes: &[u8]) {
@@ -65,7 +67,7 @@ fn say_bytes(bytes: &[u8]) {
         say(b" ", bytes[i] as u64);
         i += 1;
     }
-    io::write_all(STDOUT_FILENO, b"\n");
+    io::write_all(STDOUT, b"\n");
 }
 
 // The low bytes of words, as many as there is place for; how many there are.
@@ -143,7 +145,7 @@ fn write_case(words: &[u32], lent: usize, filling: u32) {
 
 fn show(text: &[u8], end: usize) {
     if end <= text.len() {
-        io::write_all(STDOUT_FILENO, &text[..end]);
+        io::write_all(STDOUT, &text[..end]);
     }
 }
 
@@ -170,9 +172,9 @@ fn refusal_case(number: u32, place: usize) {
 fn say_text(valid: bool, text: &[u8], end: usize) {
     if valid {
         show(text, end);
-        io::write_all(STDOUT_FILENO, b"\n");
+        io::write_all(STDOUT, b"\n");
     } else {
-        io::write_all(STDOUT_FILENO, b"none\n");
+        io::write_all(STDOUT, b"none\n");
     }
 }
 

@@ -17,14 +17,16 @@ use houayletan::settling::{
 };
 use houayletan::storing::{houayletan_read_as_bytes_3, houayletan_write_as_bytes_3};
 use houayletan::{houayletan_exact_cardinality_3, houayletan_validate_3};
-use libc::STDOUT_FILENO;
 use pairs::table::PAIR_WORDS;
 use setting_blocks::layout::TARGET_WORDS;
 use setting_blocks::setting::{Setting, SettingRead};
 
+// The number of standard output.
+const STDOUT: i32 = 1;
+
 fn say(text: &[u8], value: u64) {
-    io::write_all(STDOUT_FILENO, text);
-    io::print_decimal(STDOUT_FILENO, value);
+    io::write_all(STDOUT, text);
+    io::print_decimal(STDOUT, value);
 }
 
 fn say_verdict(verdict: HouayletanVerdict) {
@@ -35,7 +37,7 @@ fn say_verdict(verdict: HouayletanVerdict) {
 }
 
 fn end_line() {
-    io::write_all(STDOUT_FILENO, b"\n");
+    io::write_all(STDOUT, b"\n");
 }
 
 fn check(words: &[u32], room: &mut [u32]) {

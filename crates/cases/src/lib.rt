@@ -1,5 +1,6 @@
 // Cases of a test program as lines of decimal numbers, and what a test looks at in a lent room.
 #![tactic(auto)]
+
 ghost use Rattle.std.specs.Prelude.{◌≡◌, ◌≤◌, ◌<◌, min, length, drop, replicate};
 ghost use Rattle.cases.specs.Lines.{is_digit, with_digit, number_at, after, line_ends, Reads, run_of};
 

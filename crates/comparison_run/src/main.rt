@@ -13,9 +13,11 @@ use comparison::compare::{Compared, compare};
 use diagram::limits::{MAX_NODES, ROOM_PER_NODE};
 use diagram::node::word;
 use diagram::verdict::Verdict;
-use libc::STDOUT_FILENO;
 use naturals::Natural;
 use pairs::table::PAIR_WORDS;
+
+// The number of standard output.
+const STDOUT: i32 = 1;
 
 const TEXT: usize = 524288;
 
@@ -36,8 +38,8 @@ const TABLE: usize = PAIR_WORDS * PAIRS;
 const LEADING: usize = 4;
 
 fn say(text: &[u8], value: u64) {
-    io::write_all(STDOUT_FILENO, text);
-    io::print_decimal(STDOUT_FILENO, value);
+    io::write_all(STDOUT, text);
+    io::print_decimal(STDOUT, value);
 }
 
 fn say_verdict(verdict: Verdict, which: u32) {
@@ -56,13 +58,13 @@ fn say_verdict(verdict: Verdict, which: u32) {
 
 fn say_left(name: &[u8], lent: &[u32], word: u32) {
     let zeros = run_of(lent, 0, 0);
-    io::write_all(STDOUT_FILENO, name);
+    io::write_all(STDOUT, name);
     say(b" zero ", zeros as u64);
     say(b" kept ", run_of(lent, zeros, word) as u64);
 }
 
 fn hex(x: u32, width: usize) {
-    io::print_hex(STDOUT_FILENO, x as u64, width);
+    io::print_hex(STDOUT, x as u64, width);
 }
 
 // Without zeros in front.
@@ -82,12 +84,12 @@ fn show(a: Natural) {
         }
     }
     if !begun {
-        io::write_all(STDOUT_FILENO, b"0");
+        io::write_all(STDOUT, b"0");
     }
 }
 
 fn say_number(name: &[u8], a: Natural) {
-    io::write_all(STDOUT_FILENO, name);
+    io::write_all(STDOUT, name);
     show(a);
 }
 
@@ -102,9 +104,9 @@ fn say_answer(answer: Compared) {
     say_number(b" second ", second);
     say_number(b" both ", both);
     if answer.differ {
-        io::write_all(STDOUT_FILENO, b", differ yes");
+        io::write_all(STDOUT, b", differ yes");
     } else {
-        io::write_all(STDOUT_FILENO, b", differ no");
+        io::write_all(STDOUT, b", differ no");
     }
     say_number(b" smallest ", smallest);
 }
@@ -122,7 +124,7 @@ fn run_case(
     say_answer(compare(first, second, room, table));
     say_left(b", room", room, marked);
     say_left(b", table", table, filled);
-    io::write_all(STDOUT_FILENO, b"\n");
+    io::write_all(STDOUT, b"\n");
 }
 
 // One line of the text; the place after it.

@@ -12,11 +12,13 @@ use cases::{fill, least, line_ends, number, run_of, words_of};
 use diagram::limits::{MAX_NODES, MAX_VARIABLES, ROOM_PER_NODE};
 use diagram::verdict::Verdict;
 use exact_counts::{exact_cardinality, exact_clause_cardinality};
-use libc::STDOUT_FILENO;
 use naturals::Natural;
 use negation::not;
 use queries::per_variable::size_per_variable;
 use queries::{is_clause, is_false, is_true, is_valuation, num_vars, size};
+
+// The number of standard output.
+const STDOUT: i32 = 1;
 
 const TEXT: usize = 524288;
 
@@ -33,8 +35,8 @@ const OUTPUT: usize = 3 * NODES;
 const NARROW: usize = MAX_VARIABLES - 1;
 
 fn say(text: &[u8], value: u64) {
-    io::write_all(STDOUT_FILENO, text);
-    io::print_decimal(STDOUT_FILENO, value);
+    io::write_all(STDOUT, text);
+    io::print_decimal(STDOUT, value);
 }
 
 fn say_verdict(verdict: Verdict) {
@@ -52,11 +54,11 @@ fn say_verdict(verdict: Verdict) {
 
 // All words, the highest first.
 fn say_natural(text: &[u8], natural: Natural) {
-    io::write_all(STDOUT_FILENO, text);
+    io::write_all(STDOUT, text);
     let mut i = naturals::WORDS;
     while 0 < i {
         i -= 1;
-        io::print_hex(STDOUT_FILENO, natural.words[i] as u64, 8);
+        io::print_hex(STDOUT, natural.words[i] as u64, 8);
     }
 }
 
@@ -64,16 +66,16 @@ fn say_natural(text: &[u8], natural: Natural) {
 fn say_float(text: &[u8], x: f64)
     requires { T (not (is_nan x)) }
 {
-    io::write_all(STDOUT_FILENO, text);
-    io::print_hex(STDOUT_FILENO, f64::to_bits(x), 16);
+    io::write_all(STDOUT, text);
+    io::print_hex(STDOUT, f64::to_bits(x), 16);
 }
 
 fn say_yes(text: &[u8], yes: bool) {
-    io::write_all(STDOUT_FILENO, text);
+    io::write_all(STDOUT, text);
     if yes {
-        io::write_all(STDOUT_FILENO, b"yes");
+        io::write_all(STDOUT, b"yes");
     } else {
-        io::write_all(STDOUT_FILENO, b"no");
+        io::write_all(STDOUT, b"no");
     }
 }
 
@@ -136,11 +138,11 @@ fn run_listing(words: &[u32], room: &mut [u32], output: &mut [u32], word: u32) {
     fill(output, word);
     let verdict = size_per_variable(words, room, output);
     say(b", per variable in ", output.len() as u64);
-    io::write_all(STDOUT_FILENO, b" ");
+    io::write_all(STDOUT, b" ");
     say_verdict(verdict);
     let count = listed(verdict);
     say(b" kept ", run_of(output, count, word) as u64);
-    io::write_all(STDOUT_FILENO, b" words");
+    io::write_all(STDOUT, b" words");
     say_words(output, count);
 }
 
@@ -157,7 +159,7 @@ fn run_per_variable(words: &[u32], room: &mut [u32], output: &mut [u32], word: u
 fn run_short(words: &[u32], room: &mut [u32]) {
     let mut output = [9u32; 5];
     let negated = not(words, room, &mut output);
-    io::write_all(STDOUT_FILENO, b", short ");
+    io::write_all(STDOUT, b", short ");
     let verdict = negated.verdict;
     say_verdict(verdict);
     say(b" kept ", run_of(&output, 0, 9) as u64);
@@ -166,13 +168,13 @@ fn run_short(words: &[u32], room: &mut [u32]) {
 fn run_not(words: &[u32], room: &mut [u32], output: &mut [u32], word: u32) {
     fill(output, word);
     let negated = not(words, room, output);
-    io::write_all(STDOUT_FILENO, b", not ");
+    io::write_all(STDOUT, b", not ");
     let verdict = negated.verdict;
     say_verdict(verdict);
     say(b" nodes ", negated.nodes as u64);
-    io::write_all(STDOUT_FILENO, b" words");
+    io::write_all(STDOUT, b" words");
     say_words(output, words.len());
-    io::write_all(STDOUT_FILENO, b"\n");
+    io::write_all(STDOUT, b"\n");
 }
 
 fn blank_output() -> [u32; OUTPUT] {

@@ -14,11 +14,13 @@ use count_targets::count::{overapproximate_to_cardinality, underapproximate_to_c
 use diagram::limits::{MAX_NODES, ROOM_PER_NODE};
 use diagram::node::word;
 use diagram::verdict::Verdict;
-use libc::STDOUT_FILENO;
 use list_cuts::{Approximation, overapproximate, underapproximate};
 use naturals::{Natural, load};
 use targets::Approximated;
 use targets::size::{overapproximate_to_size, underapproximate_to_size};
+
+// The number of standard output.
+const STDOUT: i32 = 1;
 
 const TEXT: usize = 655360;
 
@@ -36,8 +38,8 @@ const ROOM: usize = ROOM_PER_NODE * NODES;
 const BEFORE: usize = 5;
 
 fn say(text: &[u8], value: u64) {
-    io::write_all(STDOUT_FILENO, text);
-    io::print_decimal(STDOUT_FILENO, value);
+    io::write_all(STDOUT, text);
+    io::print_decimal(STDOUT, value);
 }
 
 fn say_verdict(verdict: Verdict) {
@@ -60,7 +62,7 @@ fn say_room(room: &[u32], word: u32) {
 }
 
 fn say_words(words: &[u32], count: usize) {
-    io::write_all(STDOUT_FILENO, b", words");
+    io::write_all(STDOUT, b", words");
     let end = least(count, words.len());
     let mut i = 0;
     while i < end {
@@ -76,7 +78,7 @@ fn say_output(output: &[u32], word: u32, nodes: usize) {
     if 0 < count {
         say_words(output, count);
     }
-    io::write_all(STDOUT_FILENO, b"\n");
+    io::write_all(STDOUT, b"\n");
 }
 
 // A cut by a list makes no trials.

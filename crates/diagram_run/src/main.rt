@@ -9,7 +9,9 @@ use cases::{fill, least, line_ends, number, run_of, words_of};
 use diagram::limits::{MAX_NODES, ROOM_PER_NODE};
 use diagram::verdict::Verdict;
 use diagram_check::validate::validate;
-use libc::STDOUT_FILENO;
+
+// The number of standard output.
+const STDOUT: i32 = 1;
 
 const TEXT: usize = 524288;
 
@@ -21,8 +23,8 @@ const WORDS: usize = 3 * NODES;
 const ROOM: usize = ROOM_PER_NODE * NODES;
 
 fn say(text: &[u8], value: u64) {
-    io::write_all(STDOUT_FILENO, text);
-    io::print_decimal(STDOUT_FILENO, value);
+    io::write_all(STDOUT, text);
+    io::print_decimal(STDOUT, value);
 }
 
 fn say_verdict(verdict: Verdict) {
@@ -42,7 +44,7 @@ fn say_room(room: &[u32], word: u32) {
     let zeros = run_of(room, 0, 0);
     say(b", room zero ", zeros as u64);
     say(b" kept ", run_of(room, zeros, word) as u64);
-    io::write_all(STDOUT_FILENO, b"\n");
+    io::write_all(STDOUT, b"\n");
 }
 
 fn run_case(words: &[u32], room: &mut [u32], word: u32) {

@@ -2,17 +2,23 @@
 // help go to standard error. What is written is decided by `answer` of crates/differing alone: here the words are fetched, the files are
 // read, and the channels are written.
 #![tactic(auto)]
+
 ghost use Rattle.differ.specs.Program.{Words, Answered, Ran};
 
+use arguments::{arg, arg_count};
 use differ_texts::lines::LINES;
 use differ_texts::texts::{NAME, TEXT};
 use differing::Ends;
 use differing::answer::answer;
 use differing::words::{Asked, asked_of};
 use forms::Form;
-use libc::{STDERR_FILENO, STDOUT_FILENO};
 use named::read_file;
 use node_file::layout::NODE_INPUT;
+
+// The channels' numbers: where the bytes of the answer go, and where what is said of them goes.
+const STDOUT: i32 = 1;
+
+const STDERR: i32 = 2;
 
 fn blank_name() -> [u8; NAME] {
     [0u8; NAME]
@@ -32,14 +38,11 @@ fn show(channel: i32, bytes: &[u8], end: usize) -> bool {
 }
 
 fn deliver(lines: &[u8], text: &[u8], ends: Ends) {
-    if !show(STDOUT_FILENO, lines, ends.lines) {
-        io::write_all(
-            STDERR_FILENO,
-            b"differ: standard output could not be written\n",
-        );
+    if !show(STDOUT, lines, ends.lines) {
+        io::write_all(STDERR, b"differ: standard output could not be written\n");
         return;
     }
-    show(STDERR_FILENO, text, ends.text);
+    show(STDERR, text, ends.text);
 }
 
 fn run(
@@ -65,8 +68,8 @@ fn run(
 }
 
 // The words after the program's own name.
-fn word_count() -> usize {
-    let words = os::arg_count();
+fn word_count(rt: HostRuntime) -> usize {
+    let words = arg_count(&rt);
     if words == 0 {
         return 0;
     }
@@ -74,6 +77,7 @@ fn word_count() -> usize {
 }
 
 fn read_and_run(
+    rt: HostRuntime,
     count: usize,
     first: &[u8],
     second: &[u8],
@@ -86,8 +90,8 @@ fn read_and_run(
 {
     let mut old = blank_input();
     let mut new = blank_input();
-    let a = read_file(old_name, &mut old);
-    let b = read_file(new_name, &mut new);
+    let a = read_file(&rt, old_name, &mut old);
+    let b = read_file(&rt, new_name, &mut new);
     let old_length = a.length;
     let new_length = b.length;
     run(
@@ -103,7 +107,7 @@ fn read_and_run(
 }
 
 // No file is opened where the words ask for no comparison.
-fn obey(count: usize, first: &[u8], second: &[u8], third: &[u8]) -> Ends
+fn obey(rt: HostRuntime, count: usize, first: &[u8], second: &[u8], third: &[u8]) -> Ends
     requires { Words first.now second.now third.now }
     ensures { Ran result.lines result.text }
 {
@@ -112,18 +116,18 @@ fn obey(count: usize, first: &[u8], second: &[u8], third: &[u8]) -> Ends
         Asked::Help => run(count, first, second, third, false, b"", false, b""),
         Asked::Unknown => run(count, first, second, third, false, b"", false, b""),
         Asked::Compare(form) => match form {
-            Form::Blocks => read_and_run(count, first, second, third, first, second),
-            Form::Nodes => read_and_run(count, first, second, third, second, third),
+            Form::Blocks => read_and_run(rt, count, first, second, third, first, second),
+            Form::Nodes => read_and_run(rt, count, first, second, third, second, third),
         },
     }
 }
 
-fn main() {
+fn main(rt: HostRuntime) {
     let mut a = blank_name();
     let mut b = blank_name();
     let mut c = blank_name();
-    let first = os::arg(1, &mut a);
-    let second = os::arg(2, &mut b);
-    let third = os::arg(3, &mut c);
-    obey(word_count(), &a[..first], &b[..second], &c[..third]);
+    let first = arg(&rt, 1, &mut a);
+    let second = arg(&rt, 2, &mut b);
+    let third = arg(&rt, 3, &mut c);
+    obey(rt, word_count(rt), &a[..first], &b[..second], &c[..third]);
 }

@@ -9,8 +9,10 @@ use in_place::sum::{Shifted, add_shifted, words_for};
 use in_place_more::comparing::compare_at;
 use in_place_more::difference::subtract_from_power;
 use in_place_more::product::multiply_at;
-use libc::STDOUT_FILENO;
 use naturals::{Order, WORD_BITS, WORDS};
+
+// The number of standard output.
+const STDOUT: i32 = 1;
 
 const SAMPLES: usize = 5;
 
@@ -70,11 +72,11 @@ const PLACES: [usize; PLACE_COUNT] = [
 const BEHIND: u32 = 3735928559;
 
 fn text(s: &[u8]) {
-    io::write_all(STDOUT_FILENO, s);
+    io::write_all(STDOUT, s);
 }
 
 fn number(n: u64) {
-    io::print_decimal(STDOUT_FILENO, n);
+    io::print_decimal(STDOUT, n);
     text(b" ");
 }
 
@@ -119,10 +121,10 @@ fn show(s: &[u32], at: usize) {
         i -= 1;
         let x = word(s, at, i);
         if begun {
-            io::print_hex(STDOUT_FILENO, x as u64, 8);
+            io::print_hex(STDOUT, x as u64, 8);
         } else {
             if x != 0 {
-                io::print_hex(STDOUT_FILENO, x as u64, 1);
+                io::print_hex(STDOUT, x as u64, 1);
                 begun = true;
             }
         }
@@ -318,7 +320,7 @@ fn powers_less(x: u32) {
 fn words_of(bits: u32) {
     text(b"words for ");
     number(bits as u64);
-    io::print_decimal(STDOUT_FILENO, words_for(bits) as u64);
+    io::print_decimal(STDOUT, words_for(bits) as u64);
     text(b"\n");
 }
 

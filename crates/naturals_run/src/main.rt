@@ -1,8 +1,10 @@
 // Runs every function of `naturals` over fixed cases and writes one line for each, in hex. The expected output was computed apart from this
 // code by tests/naturals_cases.py, with whole numbers of any size.
 #![tactic(auto)]
-use libc::STDOUT_FILENO;
 use naturals::{Fit, Natural, Order, WORD_BITS, WORDS};
+
+// The number of standard output.
+const STDOUT: i32 = 1;
 
 const SAMPLES: usize = 15;
 
@@ -62,11 +64,11 @@ const PLACES: [usize; PLACE_COUNT] = [
 ];
 
 fn text(s: &[u8]) {
-    io::write_all(STDOUT_FILENO, s);
+    io::write_all(STDOUT, s);
 }
 
 fn hex(x: u32, width: usize) {
-    io::print_hex(STDOUT_FILENO, x as u64, width);
+    io::print_hex(STDOUT, x as u64, width);
 }
 
 // x in the words from `from` up to `to`, and zeros.
@@ -158,7 +160,7 @@ fn show_fit(f: Fit) {
 }
 
 fn number(n: u64) {
-    io::print_decimal(STDOUT_FILENO, n);
+    io::print_decimal(STDOUT, n);
     text(b" ");
 }
 

@@ -18,10 +18,12 @@ use diagram::limits::{MAX_NODES, ROOM_PER_NODE};
 use diagram::node::word;
 use diagram::room::put;
 use diagram::verdict::Verdict;
-use libc::STDOUT_FILENO;
 use pool_calls::add::add;
 use pool_calls::drop::drop;
 use pool_calls::read::read;
+
+// The number of standard output.
+const STDOUT: i32 = 1;
 
 const TEXT: usize = 1310720;
 
@@ -54,12 +56,12 @@ const MODULUS: u64 = 4294967311;
 const SCALE: u64 = 2654435761;
 
 fn say(text: &[u8], value: u64) {
-    io::write_all(STDOUT_FILENO, text);
-    io::print_decimal(STDOUT_FILENO, value);
+    io::write_all(STDOUT, text);
+    io::print_decimal(STDOUT, value);
 }
 
 fn say_verdict(name: &[u8], verdict: Verdict) {
-    io::write_all(STDOUT_FILENO, name);
+    io::write_all(STDOUT, name);
     match verdict {
         Verdict::Accepted { nodes, vars } => {
             say(b" accepted nodes ", nodes as u64);
@@ -109,7 +111,7 @@ fn list(words: &[u32]) {
 }
 
 fn say_words(name: &[u8], words: &[u32]) {
-    io::write_all(STDOUT_FILENO, name);
+    io::write_all(STDOUT, name);
     if FEW < words.len() {
         say(b" sum ", sum_of(words));
         return;
@@ -120,7 +122,7 @@ fn say_words(name: &[u8], words: &[u32]) {
 fn say_pool(table: &[u32], slots: &[u32]) {
     say_words(b", table", table);
     say_words(b", slots", slots);
-    io::write_all(STDOUT_FILENO, b"\n");
+    io::write_all(STDOUT, b"\n");
 }
 
 // How many nodes were answered, none where it is refused.
@@ -138,7 +140,7 @@ fn say_output(output: &[u32], nodes: usize) {
     let count = least(3 * least(nodes, MAX_NODES), output.len());
     say_words(b", output", &output[..count]);
     say(b" kept ", run_of(output, count, FILL) as u64);
-    io::write_all(STDOUT_FILENO, b"\n");
+    io::write_all(STDOUT, b"\n");
 }
 
 fn run_add(table: &mut [u32], slots: &mut [u32], words: &[u32], slot: usize, room: &mut [u32]) {

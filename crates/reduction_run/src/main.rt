@@ -10,8 +10,10 @@ use cases::{fill, least, number, run_of, words_of};
 use diagram::limits::{MAX_NODES, ROOM_PER_NODE};
 use diagram::node::word;
 use diagram::verdict::Verdict;
-use libc::STDOUT_FILENO;
 use reduction::reduce::reduce;
+
+// The number of standard output.
+const STDOUT: i32 = 1;
 
 const TEXT: usize = 524288;
 
@@ -23,8 +25,8 @@ const WORDS: usize = 3 * NODES;
 const ROOM: usize = ROOM_PER_NODE * NODES;
 
 fn say(text: &[u8], value: u64) {
-    io::write_all(STDOUT_FILENO, text);
-    io::print_decimal(STDOUT_FILENO, value);
+    io::write_all(STDOUT, text);
+    io::print_decimal(STDOUT, value);
 }
 
 fn say_verdict(verdict: Verdict) {
@@ -47,7 +49,7 @@ fn say_room(room: &[u32], word: u32) {
 }
 
 fn say_words(words: &[u32], count: usize) {
-    io::write_all(STDOUT_FILENO, b", words");
+    io::write_all(STDOUT, b", words");
     let end = least(count, words.len());
     let mut i = 0;
     while i < end {
@@ -63,7 +65,7 @@ fn say_output(output: &[u32], word: u32, nodes: usize) {
     if 0 < count {
         say_words(output, count);
     }
-    io::write_all(STDOUT_FILENO, b"\n");
+    io::write_all(STDOUT, b"\n");
 }
 
 fn run_case(words: &[u32], output: &mut [u32], room: &mut [u32], filled: u32, marked: u32) {

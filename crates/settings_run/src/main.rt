@@ -10,11 +10,13 @@ ghost use Rattle.std.specs.Prelude.{◌≤◌, ◌<◌, length};
 use blocks::layout::BLOCK;
 use cases::{least, number, words_of};
 use diagram::node::word;
-use libc::STDOUT_FILENO;
 use setting_blocks::layout::TARGET_WORDS;
 use setting_blocks::read::{read_settings, read_settings_v1};
 use setting_blocks::setting::{Setting, SettingRead, SettingWritten};
 use setting_blocks::write::write_settings;
+
+// The number of standard output.
+const STDOUT: i32 = 1;
 
 const TEXT: usize = 524288;
 
@@ -25,8 +27,8 @@ const LENT: usize = BLOCK + 8;
 const WORDS: usize = LENT + LENT + 8;
 
 fn say(text: &[u8], value: u64) {
-    io::write_all(STDOUT_FILENO, text);
-    io::print_decimal(STDOUT_FILENO, value);
+    io::write_all(STDOUT, text);
+    io::print_decimal(STDOUT, value);
 }
 
 fn say_change(last: u64, at: usize, value: u64) {
@@ -46,7 +48,7 @@ fn say_words(words: &[u32]) {
         i += 1;
     }
     say(b" of ", words.len() as u64);
-    io::write_all(STDOUT_FILENO, b"\n");
+    io::write_all(STDOUT, b"\n");
 }
 
 fn say_bytes(bytes: &[u8]) {
@@ -59,7 +61,7 @@ fn say_bytes(bytes: &[u8]) {
         i += 1;
     }
     say(b" of ", bytes.len() as u64);
-    io::write_all(STDOUT_FILENO, b"\n");
+    io::write_all(STDOUT, b"\n");
 }
 
 fn say_target(target: [u32; TARGET_WORDS]) {

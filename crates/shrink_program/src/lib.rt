@@ -3,17 +3,23 @@
 // written is decided by `answer_evening` of crates/evening alone: here the words are fetched, the settings file and the input are read, and
 // both channels are written.
 #![tactic(auto)]
+
 ghost use Rattle.std.specs.Prelude.{◌≤◌, length};
 ghost use Rattle.shrink_program.specs.Program.{Answered, Ran};
 
+use arguments::{arg, arg_count};
 use blocks::layout::BLOCK;
 use evening::answer::{answer_evening, names_settings, wants_evening_input};
-use libc::{STDERR_FILENO, STDOUT_FILENO};
 use messages::summary::SUMMARY;
 use named::{Input, nothing, read_file};
 use node_file::layout::{NODE_FILE, NODE_INPUT};
 use request::WORD;
 use shrinking::Ends;
+
+// The channels' numbers: where the bytes of the answer go, and where what is said of them goes.
+const STDOUT: i32 = 1;
+
+const STDERR: i32 = 2;
 
 // A longer name of a settings file is read as an empty one: neither names a file.
 const NAME: usize = 4096;
@@ -40,14 +46,11 @@ fn show(channel: i32, bytes: &[u8], end: usize) -> bool {
 
 // The summary says what was cut, so it is given only where the file is.
 fn deliver(file: &[u8], text: &[u8], ends: Ends) {
-    if !show(STDOUT_FILENO, file, ends.file) {
-        io::write_all(
-            STDERR_FILENO,
-            b"shrink: standard output could not be written\n",
-        );
+    if !show(STDOUT, file, ends.file) {
+        io::write_all(STDERR, b"shrink: standard output could not be written\n");
         return;
     }
-    show(STDERR_FILENO, text, ends.text);
+    show(STDERR, text, ends.text);
 }
 
 fn run(
@@ -73,20 +76,26 @@ fn run(
 }
 
 // The last word is the name.
-fn read_named(last: usize, bytes: &mut [u8]) -> Input
+fn read_named(rt: HostRuntime, last: usize, bytes: &mut [u8]) -> Input
     ensures { result.length ≤ length bytes.new }
 {
     let mut name = [0u8; NAME];
-    let length = os::arg(last, &mut name);
-    read_file(&name[..length], bytes)
+    let length = arg(&rt, last, &mut name);
+    read_file(&rt, &name[..length], bytes)
 }
 
 // No file is opened where the words name none.
-fn read_settings_file(count: usize, first: &[u8], second: &[u8], bytes: &mut [u8]) -> Input
+fn read_settings_file(
+    rt: HostRuntime,
+    count: usize,
+    first: &[u8],
+    second: &[u8],
+    bytes: &mut [u8],
+) -> Input
     ensures { result.length ≤ length bytes.new }
 {
     if names_settings(count, first, second) {
-        return read_named(count, bytes);
+        return read_named(rt, count, bytes);
     }
     nothing()
 }
@@ -102,8 +111,8 @@ fn read_input(wanted: bool, bytes: &mut [u8]) -> usize
 }
 
 // The words after the program's own name.
-fn word_count() -> usize {
-    let words = os::arg_count();
+fn word_count(rt: HostRuntime) -> usize {
+    let words = arg_count(&rt);
     if words == 0 {
         return 0;
     }
@@ -138,12 +147,19 @@ fn read_and_run(
     )
 }
 
-fn settle_and_run(first: &[u8], second: &[u8], third: &[u8], fourth: &[u8], fifth: &[u8]) -> Ends
+fn settle_and_run(
+    rt: HostRuntime,
+    first: &[u8],
+    second: &[u8],
+    third: &[u8],
+    fourth: &[u8],
+    fifth: &[u8],
+) -> Ends
     ensures { Ran result.file result.text }
 {
     let mut settings = [0u8; SETTINGS];
-    let count = word_count();
-    let read = read_settings_file(count, first, second, &mut settings);
+    let count = word_count(rt);
+    let read = read_settings_file(rt, count, first, second, &mut settings);
     let length = read.length;
     read_and_run(
         count,
@@ -158,7 +174,7 @@ fn settle_and_run(first: &[u8], second: &[u8], third: &[u8], fourth: &[u8], fift
 }
 
 // The whole program, for its crate and for the test programs. It answers how many bytes it had for each channel.
-pub fn run_program() -> Ends
+pub fn run_program(rt: HostRuntime) -> Ends
     ensures { Ran result.file result.text }
 {
     let mut a = blank_word();
@@ -166,12 +182,13 @@ pub fn run_program() -> Ends
     let mut c = blank_word();
     let mut d = blank_word();
     let mut e = blank_word();
-    let first = os::arg(1, &mut a);
-    let second = os::arg(2, &mut b);
-    let third = os::arg(3, &mut c);
-    let fourth = os::arg(4, &mut d);
-    let fifth = os::arg(5, &mut e);
+    let first = arg(&rt, 1, &mut a);
+    let second = arg(&rt, 2, &mut b);
+    let third = arg(&rt, 3, &mut c);
+    let fourth = arg(&rt, 4, &mut d);
+    let fifth = arg(&rt, 5, &mut e);
     settle_and_run(
+        rt,
         &a[..first],
         &b[..second],
         &c[..third],

@@ -4,8 +4,10 @@
 // which is none. Both files are made by tests/shrink_cases.py.
 #![tactic(auto)]
 use blocks::layout::{BLOCK, PLACE, PLACES};
-use libc::STDOUT_FILENO;
 use shrinking::answer::answer;
+
+// The number of standard output.
+const STDOUT: i32 = 1;
 
 // More than any text has.
 const TEXT: usize = 128 * naturals::WORDS;
@@ -20,7 +22,7 @@ fn show(bytes: &[u8], end: usize) {
     if bytes.len() < end {
         return;
     }
-    io::write_all(STDOUT_FILENO, &bytes[..end]);
+    io::write_all(STDOUT, &bytes[..end]);
 }
 
 fn run(

@@ -21,8 +21,10 @@ use diagram::limits::{MAX_NODES, MAX_VARIABLES, ROOM_PER_NODE};
 use diagram::node::word;
 use diagram::room::put;
 use diagram::verdict::Verdict;
-use libc::STDOUT_FILENO;
 use summary_calls::keep::{add, drop, summarize};
+
+// The number of standard output.
+const STDOUT: i32 = 1;
 
 const TEXT: usize = 1048576;
 
@@ -54,12 +56,12 @@ const MODULUS: u64 = 4294967311;
 const SCALE: u64 = 2654435761;
 
 fn say(text: &[u8], value: u64) {
-    io::write_all(STDOUT_FILENO, text);
-    io::print_decimal(STDOUT_FILENO, value);
+    io::write_all(STDOUT, text);
+    io::print_decimal(STDOUT, value);
 }
 
 fn say_verdict(name: &[u8], verdict: Verdict) {
-    io::write_all(STDOUT_FILENO, name);
+    io::write_all(STDOUT, name);
     match verdict {
         Verdict::Accepted { nodes, vars } => {
             say(b" accepted nodes ", nodes as u64);
@@ -109,7 +111,7 @@ fn list(words: &[u32]) {
 }
 
 fn say_words(name: &[u8], words: &[u32]) {
-    io::write_all(STDOUT_FILENO, name);
+    io::write_all(STDOUT, name);
     if FEW < words.len() {
         say(b" sum ", sum_of(words));
         return;
@@ -121,7 +123,7 @@ fn say_pool(table: &[u32], slots: &[u32], summary: &[u32]) {
     say_words(b", table", table);
     say_words(b", slots", slots);
     say_words(b", summary", summary);
-    io::write_all(STDOUT_FILENO, b"\n");
+    io::write_all(STDOUT, b"\n");
 }
 
 fn run_add(

@@ -1,16 +1,22 @@
 // `weigh` reads a block file on standard input, `weigh nodes` a node file, and prints the count of its diagram and the weight of each node,
 // or the one line of its refusal. So much of the input is read as tells what all of it would.
 #![tactic(auto)]
+
 ghost use Rattle.std.specs.Prelude.{◌≡◌, length};
 ghost use Rattle.report.specs.Report.{report_of};
 
+use arguments::{arg, arg_count};
 use forms::Form;
-use libc::{STDERR_FILENO, STDOUT_FILENO};
 use node_file::layout::NODE_INPUT;
 use report::lines::REPORT;
 use report::weigh::report;
 use request::WORD;
 use request::form::{form_of, may_weigh};
+
+// The channels' numbers: where the bytes of the answer go, and where what is said of them goes.
+const STDOUT: i32 = 1;
+
+const STDERR: i32 = 2;
 
 fn blank_input() -> [u8; NODE_INPUT] {
     [0u8; NODE_INPUT]
@@ -25,15 +31,12 @@ fn show(text: &[u8], end: usize) -> bool {
     if text.len() < end {
         return false;
     }
-    io::write_all(STDOUT_FILENO, &text[..end])
+    io::write_all(STDOUT, &text[..end])
 }
 
 fn deliver(text: &[u8], end: usize) {
     if !show(text, end) {
-        io::write_all(
-            STDERR_FILENO,
-            b"weigh: standard output could not be written\n",
-        );
+        io::write_all(STDERR, b"weigh: standard output could not be written\n");
     }
 }
 
@@ -54,8 +57,8 @@ fn read_and_weigh(form: Form) {
 }
 
 // The words after the program's own name.
-fn word_count() -> usize {
-    let words = os::arg_count();
+fn word_count(rt: HostRuntime) -> usize {
+    let words = arg_count(&rt);
     if words == 0 {
         return 0;
     }
@@ -69,13 +72,13 @@ fn obey(count: usize, word: &[u8]) {
         return;
     }
     io::write_all(
-        STDERR_FILENO,
+        STDERR,
         b"weigh: the word is nodes for a node file; without a word it is a block file\n",
     );
 }
 
-fn main() {
+fn main(rt: HostRuntime) {
     let mut word = blank_word();
-    let length = os::arg(1, &mut word);
-    obey(word_count(), &word[..length]);
+    let length = arg(&rt, 1, &mut word);
+    obey(word_count(rt), &word[..length]);
 }

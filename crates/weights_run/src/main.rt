@@ -12,9 +12,11 @@ use cases::{fill, least, number, run_of, words_of};
 use diagram::limits::{MAX_NODES, ROOM_PER_NODE};
 use diagram::node::word;
 use diagram::verdict::Verdict;
-use libc::STDOUT_FILENO;
 use naturals::{Natural, load};
 use node_weights::{count_and_weights, node_valuation_weights};
+
+// The number of standard output.
+const STDOUT: i32 = 1;
 
 const TEXT: usize = 524288;
 
@@ -28,8 +30,8 @@ const OUTPUT: usize = naturals::WORDS * NODES;
 const ROOM: usize = ROOM_PER_NODE * NODES;
 
 fn say(text: &[u8], value: u64) {
-    io::write_all(STDOUT_FILENO, text);
-    io::print_decimal(STDOUT_FILENO, value);
+    io::write_all(STDOUT, text);
+    io::print_decimal(STDOUT, value);
 }
 
 fn say_verdict(verdict: Verdict) {
@@ -52,7 +54,7 @@ fn say_room(room: &[u32], word: u32) {
 }
 
 fn hex(x: u32, width: usize) {
-    io::print_hex(STDOUT_FILENO, x as u64, width);
+    io::print_hex(STDOUT, x as u64, width);
 }
 
 // Without zeros in front.
@@ -72,17 +74,17 @@ fn show(a: Natural) {
         }
     }
     if !begun {
-        io::write_all(STDOUT_FILENO, b"0");
+        io::write_all(STDOUT, b"0");
     }
 }
 
 fn say_weights(output: &[u32], nodes: usize)
     requires { nodes ≤ max_nodes }
 {
-    io::write_all(STDOUT_FILENO, b", weights");
+    io::write_all(STDOUT, b", weights");
     let mut i = 0;
     while i < nodes {
-        io::write_all(STDOUT_FILENO, b" ");
+        io::write_all(STDOUT, b" ");
         let weight = load(output, naturals::WORDS * i);
         show(weight.natural);
         i += 1;
@@ -100,7 +102,7 @@ fn say_output(output: &[u32], word: u32, nodes: usize)
     if 0 < nodes {
         say_weights(output, nodes);
     }
-    io::write_all(STDOUT_FILENO, b"\n");
+    io::write_all(STDOUT, b"\n");
 }
 
 fn weighed(verdict: Verdict) -> usize
@@ -121,7 +123,7 @@ fn run_both(words: &[u32], output: &mut [u32], room: &mut [u32], filled: u32, ma
     let both = count_and_weights(words, room, output);
     let verdict = both.verdict;
     say_verdict(verdict);
-    io::write_all(STDOUT_FILENO, b", count ");
+    io::write_all(STDOUT, b", count ");
     show(both.count);
     say_room(room, marked);
     say_output(output, filled, weighed(verdict));
