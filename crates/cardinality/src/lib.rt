@@ -1,5 +1,6 @@
 // The count of a diagram's valuations as an f64: exact up to 2^53, and rounded once at each node beyond.
 #![tactic(auto)]
+
 mod floats;
 mod table;
 mod total;

@@ -1,5 +1,6 @@
 // The operations on a pool, for any words.
 #![tactic(auto)]
+
 pub mod add;
 pub mod drop;
 pub mod read;

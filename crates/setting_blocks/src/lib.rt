@@ -1,6 +1,7 @@
 // Evening settings: a condition's direction and target, stored beside it in a block of 512 bytes with the two sums of a block file.
 // docs/SETTINGS.md has the layout.
 #![tactic(auto)]
+
 pub mod layout;
 pub mod number;
 pub mod range;
