@@ -92,7 +92,7 @@ rust_tests() {
     HOUAYLETAN_LIB="$PWD/target/staticlib" CARGO_TARGET_DIR="$PWD/$built/rust" cargo test --offline --quiet --manifest-path bindings/rust/Cargo.toml
 }
 make_archive() { rm -f "$archive" && bash tools/archive.sh && [ -f "$archive" ]; }
-programs() { rm -rf target/bin && bash tools/programs.sh built && bash tests/programs.sh target/bin; }
+programs() { rm -rf target/bin && bash tools/programs.sh taken && bash tests/programs.sh target/bin; }
 
 proved=yes
 gate || proved=no

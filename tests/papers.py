@@ -25,7 +25,7 @@ FUNCTIONS = [
     ("block_file", "read_file"), ("block_file", "write_file"), ("block_reading", "read_block"), ("report", "report"),
     ("shrinking", "answer"), ("shrink_program", "run_program"), ("evening", "answer_evening"), ("evening", "store"),
 ]
-NAME = re.compile(r"[^\s(){}\[\],;:⌜⌝λ.]+")
+NAME = re.compile(r"[^\s(){}\[\],;:«»λ.]+")
 amiss = []
 
 
@@ -37,10 +37,10 @@ def text_of(path):
 def imports(text, crate):
     """What a file brings in: name -> (crate, file, name there), for definitions of the repository's specs/ only."""
     found = {}
-    for path, names in re.findall(r"^(?:ghost )?use (Rattle·\S+?)\.\{([^}]*)\}", text, re.M | re.S):
+    for path, names in re.findall(r"^(?:ghost )?use Rattle\.(\S+?)\.\{([^}]*)\}", text, re.M | re.S):
         parts = path.split(".")
-        owner = parts[0].split("·")[1]
-        if "declared" in parts or "specs" not in parts:
+        owner = parts[0]
+        if parts[1] != "specs" or "declared" in parts:
             continue
         for name in names.split(","):
             there, _, here = name.strip().partition(" as ")
@@ -101,8 +101,8 @@ def contracts(path, function=None):
     brought = imports(text, path.split("/")[1])
     shape = rf"pub fn {function}\b" if function else r'pub extern "C" fn \w+'
     return [brought[word]
-            for found in re.finditer(shape + r"(.*?)\n\{", text, re.S)
-            for clause in re.findall(r"(?:ensures|requires) \{.*", found.group(1))
+            for found in re.finditer(shape + r"((?:(?!\n\}).)*?)\n\{", text, re.S)
+            for clause in re.split(r"\n +(?:ensures|requires)\b", found.group(1))[1:]
             for word in set(NAME.findall(clause)) if word in brought]
 
 
@@ -178,22 +178,22 @@ CODE, SAID, C, RUST, PYTHON = (r"const {} *: \w+ = (\d+);", r"^{} = (\d+)$", r"^
 RULED = r"^\| {} \| ([\d,]+)(?: × [mn])? \|"
 LIMITS, OUTSIDE = "crates/diagram/src/limits.rt", ("include/houayletan_limits.h", "bindings/rust/src/limits.rs", "tests/limits.py")
 NUMBERS = [
-    (LIMITS, "MAX_NODES", "crates/diagram/specs/Limits.antt", "maxNodes", "nodes of a diagram, at most", "HOUAYLETAN_NODES", "MOST_NODES", "MAX_NODES"),
-    (LIMITS, "MAX_VARIABLES", "crates/diagram/specs/Limits.antt", "maxVariables", "variables, at most", "HOUAYLETAN_VARS", "MOST_VARS", "MAX_VARS"),
-    (LIMITS, "MAX_VARIABLES", "crates/diagram/specs/Limits.antt", "maxVariables", "words of the output of `size_per_variable`"),
-    (LIMITS, "ROOM_PER_NODE", "crates/diagram/specs/Limits.antt", "roomPerNode", "words of working room", "HOUAYLETAN_ROOM_PER_NODE", "ROOM_PER_NODE", "ROOM"),
-    ("crates/naturals/src/lib.rt", "WORDS", "crates/naturals/specs/Natural.antt", "wordCount", "words of 32 bits in a count, least first", "HOUAYLETAN_COUNT_WORDS", "COUNT_WORDS", "COUNT"),
-    ("crates/naturals/src/lib.rt", "WORDS", "crates/naturals/specs/Natural.antt", "wordCount", "words of a weight output"),
-    ("crates/pairs/src/table.rt", "PAIR_WORDS", "crates/pairs/specs/Pairs.antt", "pairWords", "words of the table of pairs, for each pair", "HOUAYLETAN_PAIR_WORDS", "PAIR_WORDS", "PAIR"),
-    ("crates/pool/src/lib.rt", "SLOTS", "crates/pool/specs/Pool.antt", "slotCount", "slots of a pool", "HOUAYLETAN_SLOTS", "SLOTS", "SLOTS"),
-    (LIMITS, "MAX_NODES", "crates/diagram/specs/Limits.antt", "maxNodes", "places of a pool's table, at most"),
-    ("crates/blocks/src/layout.rt", "BLOCK", "crates/blocks/specs/Block.antt", "blockBytes", "bytes of a block", "HOUAYLETAN_BLOCK_BYTES", "BLOCK_BYTES", "BLOCK"),
-    ("crates/blocks/src/layout.rt", "NODES", "crates/blocks/specs/Block.antt", "blockNodes", "nodes in a block, at most", None, None, "BLOCK_NODES"),
-    ("crates/blocks/src/layout.rt", "MOST", "crates/blocks/specs/Block.antt", "maxStored", "nodes in a block file, at most", None, None, "FILE_NODES"),
-    ("crates/blocks/src/layout.rt", "PLACE", "crates/blocks/specs/Block.antt", "placeBytes", "bytes of a node in a file", "HOUAYLETAN_BYTES_PER_NODE", "BYTES_PER_NODE", "NODE_BYTES"),
-    (LIMITS, "MAX_NODES", "crates/diagram/specs/Limits.antt", "maxNodes", "nodes in a node file, at most"),
+    (LIMITS, "MAX_NODES", "crates/diagram/specs/Limits.antt", "max_nodes", "nodes of a diagram, at most", "HOUAYLETAN_NODES", "MOST_NODES", "MAX_NODES"),
+    (LIMITS, "MAX_VARIABLES", "crates/diagram/specs/Limits.antt", "max_variables", "variables, at most", "HOUAYLETAN_VARS", "MOST_VARS", "MAX_VARS"),
+    (LIMITS, "MAX_VARIABLES", "crates/diagram/specs/Limits.antt", "max_variables", "words of the output of `size_per_variable`"),
+    (LIMITS, "ROOM_PER_NODE", "crates/diagram/specs/Limits.antt", "room_per_node", "words of working room", "HOUAYLETAN_ROOM_PER_NODE", "ROOM_PER_NODE", "ROOM"),
+    ("crates/naturals/src/lib.rt", "WORDS", "crates/naturals/specs/Natural.antt", "word_count", "words of 32 bits in a count, least first", "HOUAYLETAN_COUNT_WORDS", "COUNT_WORDS", "COUNT"),
+    ("crates/naturals/src/lib.rt", "WORDS", "crates/naturals/specs/Natural.antt", "word_count", "words of a weight output"),
+    ("crates/pairs/src/table.rt", "PAIR_WORDS", "crates/pairs/specs/Pairs.antt", "pair_words", "words of the table of pairs, for each pair", "HOUAYLETAN_PAIR_WORDS", "PAIR_WORDS", "PAIR"),
+    ("crates/pool/src/lib.rt", "SLOTS", "crates/pool/specs/Pool.antt", "slot_count", "slots of a pool", "HOUAYLETAN_SLOTS", "SLOTS", "SLOTS"),
+    (LIMITS, "MAX_NODES", "crates/diagram/specs/Limits.antt", "max_nodes", "places of a pool's table, at most"),
+    ("crates/blocks/src/layout.rt", "BLOCK", "crates/blocks/specs/Block.antt", "block_bytes", "bytes of a block", "HOUAYLETAN_BLOCK_BYTES", "BLOCK_BYTES", "BLOCK"),
+    ("crates/blocks/src/layout.rt", "NODES", "crates/blocks/specs/Block.antt", "block_nodes", "nodes in a block, at most", None, None, "BLOCK_NODES"),
+    ("crates/blocks/src/layout.rt", "MOST", "crates/blocks/specs/Block.antt", "max_stored", "nodes in a block file, at most", None, None, "FILE_NODES"),
+    ("crates/blocks/src/layout.rt", "PLACE", "crates/blocks/specs/Block.antt", "place_bytes", "bytes of a node in a file", "HOUAYLETAN_BYTES_PER_NODE", "BYTES_PER_NODE", "NODE_BYTES"),
+    (LIMITS, "MAX_NODES", "crates/diagram/specs/Limits.antt", "max_nodes", "nodes in a node file, at most"),
     # a target has as many words as a count, so that no count is out of its range
-    ("crates/setting_blocks/src/layout.rt", "TARGET_WORDS", "crates/setting_blocks/specs/Settings.antt", "targetWords", "words of 32 bits in a count, least first"),
+    ("crates/setting_blocks/src/layout.rt", "TARGET_WORDS", "crates/setting_blocks/specs/Settings.antt", "target_words", "words of 32 bits in a count, least first"),
     ("crates/setting_blocks/src/layout.rt", "NEWEST", "crates/setting_blocks/specs/Settings.antt", "newest", None, "HOUAYLETAN_SETTINGS_VERSION", "SETTINGS_VERSION", "SETTINGS_VERSION"),
 ]
 for code, name, definitions_file, defined_as, ruled, *outside in NUMBERS:

@@ -6,7 +6,7 @@ set -eu
 cd "$(dirname "$0")/.."
 mkdir -p target/bin
 for name in weigh shrink settings differ convert; do
-    if [ "${1:-}" != built ]; then
+    if [ "${1:-}" != taken ]; then
         command -v rt > /dev/null || { echo "tools/programs.sh: missing: rt (the Rattle toolchain), which builds the programs" >&2; exit 2; }
         # It runs the program too, once it is built: on nothing, and without a word.
         (cd "crates/$name" && rt run < /dev/null) > target/bin.log 2>&1 || { cat target/bin.log >&2; exit 1; }

@@ -1,5 +1,6 @@
 // Reading one block. The reader's state is the number of the block that is due and the number of nodes that the first block stated.
 #![tactic(auto)]
+
 ghost use Rattle.std.specs.Prelude.{◌≡◌, ◌||◌, ◌-◌, ◌*◌, ◌≤◌, ◌<◌, min, eqb, length};
 ghost use Rattle.blocks.specs.Block.{block_bytes, block_nodes, total, here, two, four, unused, counts_right, block_outcome, said, Reads};
 

@@ -1,5 +1,6 @@
 // One block of a block file: 512 bytes, numbers with their least byte first, fifty places for nodes and two sums that guard them.
 #![tactic(auto)]
+
 pub mod fields;
 pub mod layout;
 pub mod nodes;

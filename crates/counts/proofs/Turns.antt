@@ -37,6 +37,7 @@ in_append (y ∷ l) m here = inl here
 in_append (y ∷ l) m (there i) = ⊎_elim (λ a. inl (there a)) (λ a. inr a) (in_append l m i)
 
 pub in_left : {A : Type 0} {x : A} (l m : List A) → In x l → In x (l ++ m)
+in_left {A = A} [] m x' = elim x' [ ]
 in_left (y ∷ l) m here = here
 in_left (y ∷ l) m (there i) = there (in_left l m i)
 
@@ -54,10 +55,12 @@ abbrev after : Bool → List (List Bool) → List (List Bool)
 after b l = map (λ bs. b ∷ bs) l
 
 in_after : (b : Bool) {x : List Bool} (l : List (List Bool)) → In x (after b l) → (bs : List Bool) × (x ≡ b ∷ bs) × In bs l
+in_after b [] x' = elim x' [ ]
 in_after b (y ∷ l) here = (y, refl, here)
 in_after b (y ∷ l) (there i) = let r = in_after b l i in (r.0, r.1, there r.2)
 
 after_in : (b : Bool) {bs : List Bool} (l : List (List Bool)) → In bs l → In (b ∷ bs) (after b l)
+after_in b {bs = bs} [] x' = elim x' [ ]
 after_in b (y ∷ l) here = here
 after_in b (y ∷ l) (there i) = there (after_in b l i)
 

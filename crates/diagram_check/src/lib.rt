@@ -1,4 +1,5 @@
 // The check that any words can be offered to.
 #![tactic(auto)]
+
 mod plain;
 pub mod validate;

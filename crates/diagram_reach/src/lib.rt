@@ -2,6 +2,7 @@
 // before order is known links may go round in circles and a path may be as long as the array.
 // The marks of the n nodes stand at [0, n) of the room and the stack at [n, 2n).
 #![tactic(auto)]
+
 ghost use Rattle.std.specs.Prelude.{◌≡◌, ◌+◌, ◌-◌, ◌*◌, ◌<◌, ◌≤◌, length, get_or, eqb};
 ghost use Rattle.diagram.specs.Limits.{max_nodes};
 ghost use Rattle.diagram.specs.Diagram.{size, Formed};

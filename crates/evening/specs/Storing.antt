@@ -8,7 +8,7 @@ use Rattle.messages.specs.Texts.{refusal_text}
 use Rattle.setting_blocks.specs.Settings.{Outcome, kept, refused, read_by, newest, block_of}
 use Rattle.evening.specs.Words.{number_of, meaning_of, setting_of, version_of}
 
--- ---- a cut in the words that ask for it: `keep size 40 as_is`
+-- ---- a cut in the words that ask for it: `keep size 40 as-is`
 
 abbrev pub direction_word : Bool → List ℕ
 direction_word keep = cond keep (bytes "keep") (bytes "suppress")

@@ -42,7 +42,7 @@ fn write_flag(out: &mut [u8], at: usize, as_is: bool) -> usize
     at
 }
 
-// `keep size 40 as_is`
+// `keep size 40 as-is`
 pub(crate) fn write_cut(out: &mut [u8], target: Target) -> usize
     ensures { Wrote (cut_text target.keep target.as_is (aim_of target)) out.old 0 out.new result }
 {

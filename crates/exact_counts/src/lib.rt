@@ -1,5 +1,6 @@
 // Counts of a decision diagram: the valuations that it holds for, and the paths from its root to node 1.
 #![tactic(auto)]
+
 mod down;
 pub mod total;
 

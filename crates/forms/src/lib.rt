@@ -1,5 +1,6 @@
 // The two forms of a file, chosen by who asks and never guessed from the bytes: block files and node files.
 #![tactic(auto)]
+
 ghost use Rattle.std.specs.Prelude.{◌≡◌, ◌≤◌};
 ghost use Rattle.diagram.specs.Limits.{max_nodes};
 ghost use Rattle.forms.specs.Form.{bytes_as, FormReads, FormWrites};

@@ -1,6 +1,7 @@
 // The nodes of each variable as a chain, from the last of them to the first. Children may stand after their parents in the
 // array; with the chains a pass goes by variables, in as many steps as there are nodes and variables, without recursion.
 #![tactic(auto)]
+
 ghost use Rattle.std.specs.Prelude.{◌≡◌, ◌≤◌, length, get_or, replicate};
 ghost use Rattle.levels.specs.Chains.{chain_count, Linked, Given};
 

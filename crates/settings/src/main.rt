@@ -1,4 +1,4 @@
-// `settings keep size 40 as_is`: what `shrink keep size 40 as_is` would do, stored as a settings block on standard output. `settings show`:
+// `settings keep size 40 as-is`: what `shrink keep size 40 as-is` would do, stored as a settings block on standard output. `settings show`:
 // the words that are stored in the block on standard input. All else goes to standard error. What is written is decided by `store` of
 // crates/evening alone: here the words are fetched, the input is read, and both channels are written.
 #![tactic(auto)]

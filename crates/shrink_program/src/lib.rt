@@ -1,4 +1,4 @@
-// `shrink keep size 40`, `shrink suppress cases 7936 as_is`, `shrink settings FILE`: a block file on standard input, cut to fit, on standard
+// `shrink keep size 40`, `shrink suppress cases 7936 as-is`, `shrink settings FILE`: a block file on standard input, cut to fit, on standard
 // output; with `nodes` before the other words a node file. The summary, the one line of a refusal and the help go to standard error. What is
 // written is decided by `answer_evening` of crates/evening alone: here the words are fetched, the settings file and the input are read, and
 // both channels are written.

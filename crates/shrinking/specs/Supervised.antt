@@ -41,13 +41,13 @@ pub record Supervised : Type 0 where
   -- suppress writes nothing, or what holds only where w does
   pub suppresses : (form : Form) (w kind number flag : List ℕ) (count lent n : ℕ) → ((k : ℕ) → get_or w k 0 < 2 ^ 32) → write_as form w lent ≡ stored n
       → (output_in form count (bytes "suppress") kind number flag (file_as form w) ≡ []) ⊎ ReadsAs form (Under w) (output_in form count (bytes "suppress") kind number flag (file_as form w))
-  -- three words write nothing, or what is reduced: of the fourth, `as_is`, they know nothing
+  -- three words write nothing, or what is reduced: of the fourth, `as-is`, they know nothing
   pub tidies : (form : Form) (w first kind number flag : List ℕ) (lent n : ℕ) → ((k : ℕ) → get_or w k 0 < 2 ^ 32) → write_as form w lent ≡ stored n
       → (output_in form 3 first kind number flag (file_as form w) ≡ []) ⊎ ReadsAs form (λ a. reduce a ≡ a) (output_in form 3 first kind number flag (file_as form w))
   -- words that ask for no cut write no byte of a file, whatever the input is
   pub no_file : (form : Form) (m : Meaning) (s : List ℕ) (lent : ℕ) → looks m ≡ false → file_bytes (done form m s lent) ≡ []
   pub no_input : (form : Form) (m : Meaning) (s t : List ℕ) (lent : ℕ) → looks m ≡ false → done form m s lent ≡ done form m t lent
-  -- a number of nodes and a number of cases are met by every cut that isn't refused, with `as_is` and without
+  -- a number of nodes and a number of cases are met by every cut that isn't refused, with `as-is` and without
   pub nodes_kept : (as_is : Bool) (w : List ℕ) (t room lent n v : ℕ) → wanted_verdict true (nodes t) w room lent ≡ accepted n v → size (wanted true as_is (nodes t) w).words ≤ t
   pub nodes_left : (as_is : Bool) (w : List ℕ) (t room lent n v : ℕ) → wanted_verdict false (nodes t) w room lent ≡ accepted n v → size (wanted false as_is (nodes t) w).words ≤ t
   pub cases_kept : (as_is : Bool) (w : List ℕ) (k room lent n v : ℕ) → wanted_verdict true (cases k) w room lent ≡ accepted n v → k ≤ count_of (wanted true as_is (cases k) w).words

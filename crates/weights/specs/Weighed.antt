@@ -32,5 +32,5 @@ pub record Weighing : Type 0 where
   pub one_node : (w : List ℕ) → weight_of w 1 ≡ count_of w
   pub root_node : (w : List ℕ) → weight_of w (root w) ≡ count_of w
   pub most : (w : List ℕ) (p : ℕ) → weight_of w p ≤ count_of w
-  -- the one_node diagram has count 0 and one weight of 0
+  -- the one-node diagram has count 0 and one weight of 0
   pub alone : (w : List ℕ) → size w ≡ 1 → (count_of w ≡ 0) × (weight_words w (size w) ≡ replicate word_count 0)

@@ -1,5 +1,6 @@
 // Bytes and words written one after another into a lent slice: as much as fits, and nothing else is touched.
 #![tactic(auto)]
+
 ghost use Rattle.std.specs.Prelude.{[], ◌∷◌, ◌+◌, replicate};
 ghost use Rattle.writing.specs.Writing.{Wrote};
 

@@ -1,0 +1,37 @@
+use Prim.Native.Nat.{◌-◌}
+use mathlib.Core.Path.{◌∙◌, ap}
+use borrow.Author.Rules.{rules}
+use borrow.Author.Fill.{fill_none, fill_more}
+use native.Mathlib.Omega.{arith}
+use lib.ListN.{set, length-set}
+use Rattle.diagram.proofs.Words.{cleared_all}
+use Rattle.diagram.proofs.room.clear.Goals as goal
+
+pub loop-i-init : goal.loop-i-init
+loop-i-init c = (omega arith, c.least-end.ensures, search rules, fill_none c.args.room.now 0)
+
+pub bounds-room-i : goal.bounds-room-i
+bounds-room-i c = omega arith
+
+pub loop-i-smaller : goal.loop-i-smaller
+loop-i-smaller c = omega arith
+
+pub loop-i-preserved : goal.loop-i-preserved
+loop-i-preserved c =
+    let i = c.loop-i.i in
+    let r₀ = c.args.room.now in
+    let inv = c.loop-i.invariant in (
+      omega arith,
+      inv.1,
+      length-set c.loop-i.room i 0 ∙ inv.2,
+      ap (λ r. set r i 0) inv.3 ∙ fill_more i 0 r₀ (omega arith),
+    )
+
+pub shape_of-room : goal.shape_of-room
+shape_of-room c = c.loop-i.invariant.2
+
+pub returns : goal.returns
+returns c =
+    let inv = c.loop-i.invariant in
+    let a = c.args in
+    cleared_all c.loop-i.room a.room.now a.count c.loop-i.i (omega arith) inv.3
