@@ -1,7 +1,7 @@
 #!/usr/bin/env bash
 # Puts the programs weigh, shrink, settings, differ and convert into target/bin:
 #     bash tools/programs.sh          proves and builds what is not built
-#     bash tools/programs.sh built    takes what rt ci has just built
+#     bash tools/programs.sh taken    takes what rt ci has just built
 set -eu
 cd "$(dirname "$0")/.."
 mkdir -p target/bin
