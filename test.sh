@@ -1,7 +1,7 @@
 #!/usr/bin/env bash
-# All tests: the papers held to the crates; the layout of every file, every crate proved from nothing, every must-fail edit refused, every test program
-# run and its output compared (rt ci); then, over the same proofs, the programs on stored inputs, the evening script, the archive for C and
-# Rust, the C test, the replay of stored requests and the Rust crate's tests. Each of these counts as one beside what rt ci counts.
+# All tests: every crate laid out and proved, every must-fail edit refused, every test program run and its output compared (rt ci); the papers held
+# to the crates; then, over the same proofs, the programs on stored inputs, the evening script, the archive for C and Rust, the C test, the replay
+# of stored requests and the Rust crate's tests. Each of these counts as one beside what rt ci counts.
 # The last line is 'N passed, M failed'; the exit status is 0 only where M is 0.
 # A missing C compiler, cargo or python3 is said; what needs it is not run and not counted, and does not fail the others.
 set -u
@@ -32,19 +32,30 @@ leave_out() {
 test.sh: NOT RUN: $1"
 }
 
-# rt ci, its last line held back and its counts added. Whatever it says, a status other than 0 is a failure.
+# rt ci, its last line held back and its counts added. Whatever it says, a status other than 0 is a failure; so are must-fail edits that could not
+# be applied or read, which it only counts.
 gate() {
-    local said status numbers
+    local said status numbers bad
     said=$(mktemp) || { failed=$((failed + 1)); return 1; }
-    rt ci | awk -v said="$said" 'NR > 1 { print held; fflush() } { held = $0 } END { print held > said }'
+    rt ci | awk -v said="$said" '
+        /^rt: ok/ { ok = $0 } NR > 1 { print held; fflush() } { held = $0 } END { print held > said; print ok > said }'
     status=${PIPESTATUS[0]}
-    numbers=$(sed -nE 's/^([0-9]+) passed, ([0-9]+) failed$/\1 \2/p' "$said")
+    numbers=$(sed -nE '1s/^([0-9]+) passed, ([0-9]+) failed$/\1 \2/p' "$said")
+    bad=$(sed -nE '2s/.*must-fail edits:[^;]*, ([0-9]+) bad.*/\1/p' "$said")
     if [ -n "$numbers" ]; then
-        echo "test.sh: rt ci: $(cat "$said")"
+        echo "test.sh: rt ci: $(head -n 1 "$said")"
         passed=$((passed + ${numbers% *})) failed=$((failed + ${numbers#* }))
         [ "$status" -eq 0 ] || [ "${numbers#* }" -gt 0 ] || failed=$((failed + 1))
+        if [ "$status" -eq 0 ] && [ -z "$(sed -n 2p "$said")" ]; then
+            echo "test.sh: rt ci: it has no line 'rt: ok'"
+            failed=$((failed + 1)) status=1
+        fi
+        if [ "${bad:-0}" -gt 0 ]; then
+            echo "test.sh: rt ci: bad must-fail edits: $bad"
+            failed=$((failed + bad)) status=1
+        fi
     else
-        cat "$said"
+        head -n 1 "$said"
         echo "test.sh: rt ci ended with status $status and gave no counts"
         failed=$((failed + 1)) status=1
     fi
@@ -55,7 +66,6 @@ gate() {
 archive=target/staticlib/libhouayletan.a
 built=target/tests
 
-programs() { bash tools/programs.sh taken && bash tests/programs.sh target/bin; }
 c_program() { # NAME
     mkdir -p "$built" && cc -std=c99 -Wall -Wextra -Werror -O2 "tests/c/$1.c" "$archive" -o "$built/$1"
 }
@@ -81,19 +91,17 @@ replay() { c_program replay && "$built/replay" tests/c/replay.txt; }
 rust_tests() {
     HOUAYLETAN_LIB="$PWD/target/staticlib" CARGO_TARGET_DIR="$PWD/$built/rust" cargo test --offline --quiet --manifest-path bindings/rust/Cargo.toml
 }
-make_archive() {
-    mkdir -p target
-    bash tools/archive.sh > target/staticlib.log 2>&1 && [ -f "$archive" ] && return
-    cat target/staticlib.log
-    return 1
-}
+make_archive() { rm -f "$archive" && bash tools/archive.sh && [ -f "$archive" ]; }
+programs() { rm -rf target/bin && bash tools/programs.sh taken && bash tests/programs.sh target/bin; }
 
+proved=yes
+gate || proved=no
 if python3 --version > /dev/null 2>&1; then
     step "papers" python3 tests/papers.py
 else
     leave_out "the papers held to the crates: there is no python3 on this machine"
 fi
-if gate; then
+if [ "$proved" = yes ]; then
     step "programs" programs
     step "evening" bash tests/evening.sh target/bin
     step "archive for C and Rust" make_archive

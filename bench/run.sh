@@ -23,11 +23,7 @@ if ! ls -d /usr/share/cargo/registry/num-bigint-* > /dev/null 2>&1; then
     fi
 fi
 
-if command -v rt > /dev/null; then
-    said=$(cd .. && bash tools/archive.sh 2>&1) || { echo "$said" >&2; exit 1; }
-elif [ ! -f ../target/staticlib/libhouayletan.a ]; then
-    missing "rt (the Rattle toolchain), which writes target/staticlib/libhouayletan.a"
-fi
+bash ../tools/archive.sh
 
 cargo build --release --quiet
 if command -v cc > /dev/null; then

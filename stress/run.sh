@@ -9,12 +9,7 @@ seed=${1:-2026} requests=${2:-5000000}
 
 command -v cc > /dev/null || { echo "stress/run.sh: missing: a C compiler (cc)" >&2; exit 2; }
 archive=target/staticlib/libhouayletan.a
-if command -v rt > /dev/null; then
-    said=$(bash tools/archive.sh 2>&1) || { echo "$said" >&2; exit 1; }
-elif [ ! -f "$archive" ]; then
-    echo "stress/run.sh: missing: rt (the Rattle toolchain), which writes $archive" >&2
-    exit 2
-fi
+bash tools/archive.sh
 mkdir -p target/tests
 cc -std=gnu99 -Wall -Wextra -Werror -O2 -g stress/stress.c "$archive" -lpthread -o target/tests/stress
 cc -std=c99 -Wall -Wextra -Werror -O2 -g tests/c/replay.c "$archive" -o target/tests/replay

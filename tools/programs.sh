@@ -1,13 +1,16 @@
 #!/usr/bin/env bash
-# Proves and builds the five programs, and all that they stand on, and puts them into target/bin. What `rt ci` has built is taken as it is.
-# usage: bash tools/programs.sh [taken]        taken: build nothing, and fail where one isn't there
-set -u
-cd "$(dirname "$0")/.." || exit 2
-mkdir -p target/bin || exit 2
+# Puts the programs weigh, shrink, settings, differ and convert into target/bin:
+#     bash tools/programs.sh          proves and builds what is not built
+#     bash tools/programs.sh taken    takes what rt ci has just built
+set -eu
+cd "$(dirname "$0")/.."
+mkdir -p target/bin
 for name in weigh shrink settings differ convert; do
     if [ "${1:-}" != taken ]; then
-        # a program is built by being run: here with no words and no input
-        said=$(cd "crates/$name" && rt run < /dev/null 2>&1) || { echo "$said" >&2; exit 1; }
+        command -v rt > /dev/null || { echo "tools/programs.sh: missing: rt (the Rattle toolchain), which builds the programs" >&2; exit 2; }
+        # It runs the program too, once it is built: on nothing, and without a word.
+        (cd "crates/$name" && rt run < /dev/null) > target/bin.log 2>&1 || { cat target/bin.log >&2; exit 1; }
     fi
-    cp "crates/$name/out/$name" target/bin/ || exit 1
+    cp "crates/$name/out/$name" "target/bin/$name.new"
+    mv "target/bin/$name.new" "target/bin/$name"
 done

@@ -15,11 +15,7 @@ missing() {
 command -v cc > /dev/null || missing "a C compiler (cc)"
 echo '#include <bdd.h>' | cc -E -x c - > /dev/null 2>&1 || missing "BuDDy: as root, apt-get install libbdd-dev"
 archive=target/staticlib/libhouayletan.a
-if command -v rt > /dev/null; then
-    said=$(bash tools/archive.sh 2>&1) || { echo "$said" >&2; exit 1; }
-elif [ ! -f "$archive" ]; then
-    missing "rt (the Rattle toolchain), which writes $archive"
-fi
+bash tools/archive.sh
 what=compare
 if [ "${1:-}" = pool ]; then
     what=pool

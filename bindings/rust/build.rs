@@ -1,4 +1,4 @@
-//! Links libhouayletan.a, which `bash tools/archive.sh` writes: from the folder that HOUAYLETAN_LIB names, or from the
+//! Links libhouayletan.a, which `bash tools/archive.sh` makes: from the folder that HOUAYLETAN_LIB names, or from the
 //! repository's target/staticlib.
 use std::path::PathBuf;
 
@@ -10,7 +10,7 @@ fn main() {
     };
     let archive = folder.join("libhouayletan.a");
     if !archive.is_file() {
-        panic!("{} is not there: `bash tools/archive.sh` writes it; HOUAYLETAN_LIB may name another folder", archive.display());
+        panic!("{} is not there: `bash tools/archive.sh` makes it; HOUAYLETAN_LIB may name another folder", archive.display());
     }
     println!("cargo:rustc-link-search=native={}", folder.display());
     println!("cargo:rustc-link-lib=static=houayletan");

@@ -1,5 +1,6 @@
 // The words that a program was started with, as bytes in lent memory.
 #![tactic(auto)]
+
 ghost use Rattle.std.specs.Prelude.{◌≤◌, length};
 
 use std::env::{Env, FillError};

@@ -9,6 +9,7 @@
 //     7  the line of a refusal: the filling is its number, the length its place
 // Both files are made by tests/blocks_cases.py, from a reading of the rules in force that shares nothing with this code.
 #![tactic(auto)]
+
 ghost use Rattle.std.specs.Prelude.{◌≡◌, ◌^◌, ◌≤◌, ◌<◌, length};
 
 use block_file::read::read_file;

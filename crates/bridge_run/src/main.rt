@@ -5,6 +5,7 @@
 // back; and a byte is missing. Then settings of version 2, read by both readers; in version 1 their flag is refused, and the block reads as it
 // was; without it they are written; and there are no bytes at all.
 #![tactic(auto)]
+
 use blocks::layout::BLOCK;
 use diagram::limits::ROOM_PER_NODE;
 use diagram::node::word;

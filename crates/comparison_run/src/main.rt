@@ -6,6 +6,7 @@
 // the valuation are hexadecimal. Both files are made by tests/comparison_cases.py, from a reading of the rules in force that shares
 // nothing with this code.
 #![tactic(auto)]
+
 ghost use Rattle.std.specs.Prelude.{◌≤◌, ◌<◌, length};
 
 use cases::{fill, least, number, run_of, words_of};

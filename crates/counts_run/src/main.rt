@@ -4,6 +4,7 @@
 // valuation, others by a recursion over whole numbers that shares nothing with this code; floats by Python's own, which are IEEE
 // doubles.
 #![tactic(auto)]
+
 ghost use Rattle.std.specs.Prelude.{◌≤◌, ◌<◌, not, length, T};
 ghost use Rattle.std.specs.Float.Ieee.{is_nan};
 

@@ -7,6 +7,7 @@
 // zero and how many after these are as they were; how many words of the output beyond the result are as they were; and the
 // result's words. Both files are made by tests/cuts_cases.py, which has the Rust text answer what document 01 does not refuse.
 #![tactic(auto)]
+
 ghost use Rattle.std.specs.Prelude.{◌≤◌, ◌<◌, length};
 
 use cases::{fill, least, run_of, words_of};

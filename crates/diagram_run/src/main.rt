@@ -3,6 +3,7 @@
 // verdict, and of the room afterwards how many words at its front are zero and how many after these are as they were.
 // Both files are made by tests/diagram_cases.py, from a reading of the rules in force that shares nothing with this code.
 #![tactic(auto)]
+
 ghost use Rattle.std.specs.Prelude.{◌≤◌, ◌<◌, length};
 
 use cases::{fill, least, line_ends, number, run_of, words_of};

@@ -1,6 +1,7 @@
 // Runs every function of `in_place` and `in_place_more` over fixed cases and writes one line for each, in hex. The expected output was
 // computed apart from this code by tests/in_place_cases.py, with whole numbers of any size.
 #![tactic(auto)]
+
 ghost use Rattle.std.specs.Prelude.{◌≡◌, ◌*◌, ◌≤◌, ◌<◌, length};
 ghost use Rattle.naturals.specs.Natural.{word_count};
 ghost use Rattle.in_place_run.specs.Room.{room_length};

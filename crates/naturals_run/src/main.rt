@@ -1,6 +1,7 @@
 // Runs every function of `naturals` over fixed cases and writes one line for each, in hex. The expected output was computed apart from this
 // code by tests/naturals_cases.py, with whole numbers of any size.
 #![tactic(auto)]
+
 use naturals::{Fit, Natural, Order, WORD_BITS, WORDS};
 
 // The number of standard output.

@@ -1,5 +1,6 @@
 // Negation of a decision diagram, word by word: every node keeps its place.
 #![tactic(auto)]
+
 ghost use Rattle.std.specs.Prelude.{◌≡◌, ◌<◌, ◌≤◌, length, get_or};
 ghost use Rattle.diagram.specs.Diagram.{size};
 ghost use Rattle.negation.specs.Negation.{exchanged as exchangedOf, nodes_of, negated, over, Negates, Ready};

@@ -1,5 +1,6 @@
 // Count and weights of any words (document 01, port order 6; document 02, E2): the check, then both in one pass.
 #![tactic(auto)]
+
 ghost use Rattle.weights.specs.Weighed.{Weighs, CountsAndWeighs};
 
 use counts::Counted;

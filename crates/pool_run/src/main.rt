@@ -11,6 +11,7 @@
 // them are as they were. Words are shown where they are few; else there is a sum of them, which is another one where any one word is
 // another. Both files are made by tests/pool_cases.py, from a reading of document 02 that shares nothing with this code.
 #![tactic(auto)]
+
 ghost use Rattle.std.specs.Prelude.{◌≤◌, ◌<◌, length};
 
 use cases::{fill, least, run_of, words_of};

@@ -4,6 +4,7 @@
 // after these are as they were; how many words of the output beyond the result are as they were; and the result's words. Both
 // files are made by tests/reduction_cases.py, from a reading of the rules in force that shares nothing with this code.
 #![tactic(auto)]
+
 ghost use Rattle.std.specs.Prelude.{◌≤◌, ◌<◌, length};
 
 use cases::{fill, least, number, run_of, words_of};

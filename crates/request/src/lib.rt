@@ -1,6 +1,7 @@
 // The words of a request to shrink: `nodes` where it is a node file; `keep` or `suppress`; `size`, `cases` or `hex`; a number; and where
 // it is wanted `as-is`.
 #![tactic(auto)]
+
 pub mod form;
 pub mod words;
 

@@ -1,7 +1,7 @@
 -- Words in bytes, as loops read and write them.
 use Prim.Native.Nat.{ℕ, zero, suc, ◌+◌, ◌-◌, ◌≤◌, ◌<◌}
-use mathlib.Core.Path.{◌≡◌, sym, subst, ◌∙◌}
-use mathlib.Core.List.{List, [], ◌∷◌, ◌++◌, append-nil, map-id}
+use mathlib.Core.Path.{◌≡◌, ◌∙◌}
+use mathlib.Core.List.{List, [], ◌∷◌, ◌++◌, append-nil}
 use native.Mathlib.Omega.{arith}
 use lib.ListN.{length, drop, get_or, drop_of_length-le}
 use mir.Syntax.{w32}
@@ -17,7 +17,7 @@ use Rattle.setting_blocks.specs.Settings.{words_at, words_bytes}
 
 -- What the words of an array are by their type, where it is passed by itself.
 pub words_typed : (xs : List ℕ) {n : ℕ} {vs : List Val} → Is (Array (UInt w32) n) xs vs → Typed n xs
-words_typed xs {n} {vs} g = typed xs (subst (λ (ys : List ℕ). Is (Array (UInt w32) n) ys vs) (sym (map-id xs)) g)
+words_typed xs g = typed xs g.0 g.1.0.1 g.1.1
 
 -- What is written over all of a slice is what it then is.
 pub wrote_all : {t before after : List ℕ} {place : ℕ} → length t ≡ length before → Wrote t before 0 after place → after ≡ t

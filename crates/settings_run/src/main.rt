@@ -5,6 +5,7 @@
 // Of bytes and words each that is not as the one before it is printed with its place, from a zero on, and then how many there are.
 // Both files are made by tests/settings_cases.py, from a reading of the rules in force that shares nothing with this code.
 #![tactic(auto)]
+
 ghost use Rattle.std.specs.Prelude.{◌≤◌, ◌<◌, length};
 
 use blocks::layout::BLOCK;

@@ -3,6 +3,7 @@
 // come out of it. With `nodes` in front the bytes are a node file: the same nodes, as they stand in the block, and then the block itself,
 // which is none. Both files are made by tests/shrink_cases.py.
 #![tactic(auto)]
+
 use blocks::layout::{BLOCK, PLACE, PLACES};
 use shrinking::answer::answer;
 

@@ -14,6 +14,7 @@
 // where any one word is another. Both files are made by tests/summary_cases.py, from a reading of document 02 that shares nothing with this
 // code.
 #![tactic(auto)]
+
 ghost use Rattle.std.specs.Prelude.{◌≤◌, ◌<◌, length};
 
 use cases::{fill, least, run_of, words_of};

@@ -5,6 +5,7 @@
 // the result are as they were; and the weights. Count and weights are hexadecimal. Both files are made by tests/weights_cases.py,
 // from a reading of the rules in force that shares nothing with this code.
 #![tactic(auto)]
+
 ghost use Rattle.std.specs.Prelude.{◌≤◌, ◌<◌, length};
 ghost use Rattle.diagram.specs.Limits.{max_nodes};
 

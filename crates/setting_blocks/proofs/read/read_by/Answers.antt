@@ -20,10 +20,10 @@ pub returns-then-not-is_known : goal.returns-then-not-is_known
 returns-then-not-is_known c = c.refused-then-not-is_known.ensures ∙ ap shown (sym (refused_38 c.args.reader c.args.block.now c.if-block-ne-BLOCK.false (sym c.sums_right.ensures ∙ c.if-not-sums_right.false) (sym c.is_known.ensures ∙ c.if-not-is_known.true)))
 
 pub returns-then-not-right : goal.returns-then-not-right
-returns-then-not-right c = c.refused-then-not-right.ensures ∙ ap shown (read_39 c.args.reader c.args.block.now c.if-block-ne-BLOCK.false (sym c.sums_right.ensures ∙ c.if-not-sums_right.false) (sym c.is_known.ensures ∙ c.if-not-is_known.false) (ap (λ (x : Setting). right (version_in c.args.block.now) x) (sym c.setting_in-setting.ensures) ∙ sym c.is_right-right.ensures ∙ not-true _ c.if-not-right.true))
+returns-then-not-right c = c.refused-then-not-right.ensures ∙ ap shown (read_39 c.args.reader c.args.block.now c.if-block-ne-BLOCK.false (sym c.sums_right.ensures ∙ c.if-not-sums_right.false) (sym c.is_known.ensures ∙ c.if-not-is_known.false) (ap (λ (x : Setting). right (version_in c.args.block.now) x) (sym c.setting_in-setting.ensures) ∙ sym c.is_right-right.ensures ∙ c.if-not-right.true))
 
 pub returns-then-not-clean : goal.returns-then-not-clean
-returns-then-not-clean c = c.refused-then-not-clean.ensures ∙ ap shown (read_24 c.args.reader c.args.block.now c.if-block-ne-BLOCK.false (sym c.sums_right.ensures ∙ c.if-not-sums_right.false) (sym c.is_known.ensures ∙ c.if-not-is_known.false) (ap (λ (x : Setting). right (version_in c.args.block.now) x) (sym c.setting_in-setting.ensures) ∙ sym c.is_right-right.ensures ∙ not-false _ c.if-not-right.false) (sym c.unused_zero-clean.ensures ∙ not-true _ c.if-not-clean.true))
+returns-then-not-clean c = c.refused-then-not-clean.ensures ∙ ap shown (read_24 c.args.reader c.args.block.now c.if-block-ne-BLOCK.false (sym c.sums_right.ensures ∙ c.if-not-sums_right.false) (sym c.is_known.ensures ∙ c.if-not-is_known.false) (ap (λ (x : Setting). right (version_in c.args.block.now) x) (sym c.setting_in-setting.ensures) ∙ sym c.is_right-right.ensures ∙ c.if-not-right.false) (sym c.unused_zero-clean.ensures ∙ c.if-not-clean.true))
 
 pub returns : goal.returns
-returns c = ap (λ (x : Setting). shown (kept (version_in c.args.block.now) x)) c.setting_in-setting.ensures ∙ ap shown (read_kept c.args.reader c.args.block.now c.if-block-ne-BLOCK.false (sym c.sums_right.ensures ∙ c.if-not-sums_right.false) (sym c.is_known.ensures ∙ c.if-not-is_known.false) (ap (λ (x : Setting). right (version_in c.args.block.now) x) (sym c.setting_in-setting.ensures) ∙ sym c.is_right-right.ensures ∙ not-false _ c.if-not-right.false) (sym c.unused_zero-clean.ensures ∙ not-false _ c.if-not-clean.false))
+returns c = ap (λ (x : Setting). shown (kept (version_in c.args.block.now) x)) c.setting_in-setting.ensures ∙ ap shown (read_kept c.args.reader c.args.block.now c.if-block-ne-BLOCK.false (sym c.sums_right.ensures ∙ c.if-not-sums_right.false) (sym c.is_known.ensures ∙ c.if-not-is_known.false) (ap (λ (x : Setting). right (version_in c.args.block.now) x) (sym c.setting_in-setting.ensures) ∙ sym c.is_right-right.ensures ∙ c.if-not-right.false) (sym c.unused_zero-clean.ensures ∙ c.if-not-clean.false))

@@ -1,0 +1,12 @@
+use Rattle.weights.proofs.Ascent.{begin_in, begin_done}
+use native.Mathlib.Omega.{arith}
+use Rattle.weights.proofs.up.begin.Goals as goal
+
+pub empty-requires : goal.empty-requires
+empty-requires c = (omega (arith, c.requires.given.ordered.formed.few, c.requires.given.nodes), c.requires.long)
+
+pub note-requires : goal.note-requires
+note-requires c = begin_in c.requires c.empty.ensures
+
+pub returns : goal.returns
+returns c = begin_done c.requires c.empty.ensures c.var_of-above.result.0 c.var_of-above.ensures c.power_of_two-all.ensures c.note.ensures
