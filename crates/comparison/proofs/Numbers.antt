@@ -9,17 +9,20 @@ use Rattle.counts.specs.Counting.{In, here, there, Once, more, Number}
 
 -- a list without one of its entries
 without : {A : Type 0} {x : A} (l : List A) → In x l → List A
+without {A = A} [] x' = elim x' [ ]
 without (y ∷ l) here = l
 without (y ∷ l) (there i) = y ∷ without l i
 
 without_length : {A : Type 0} {x : A} (l : List A) (i : In x l) → length l ≡ suc (length (without l i))
 unfolding without
+without_length {A = A} [] i = elim i [ ]
 without_length (y ∷ l) here = refl
 without_length (y ∷ l) (there i) = ap suc (without_length l i)
 
 -- any entry is that one, or is still there
 without_other : {A : Type 0} {x y : A} (l : List A) (i : In x l) → In y l → (y ≡ x) ⊎ In y (without l i)
 unfolding without
+without_other {A = A} {y = y} [] i _ = elim i [ ]
 without_other (z ∷ l) here here = inl refl
 without_other (z ∷ l) here (there j) = inr j
 without_other (z ∷ l) (there i) here = inr here

@@ -12,56 +12,49 @@ use queries::per_variable::size_per_variable;
 use queries::{is_clause, is_false, is_true, is_valuation, num_vars, size};
 
 // How many nodes there are.
-#[unsafe(no_mangle)]
-pub extern "C" fn houayletan_size_3(words: &[u32], room: &mut [u32]) -> HouayletanAmount
+pub fn houayletan_size_3(words: &[u32], room: &mut [u32]) -> HouayletanAmount
     ensures { FlatAmount (Tells words.now (size_of words.now) 0 room.old room.new) result }
 {
     flat_amount(size(words, room))
 }
 
 // How many variables there are.
-#[unsafe(no_mangle)]
-pub extern "C" fn houayletan_num_vars_3(words: &[u32], room: &mut [u32]) -> HouayletanAmount
+pub fn houayletan_num_vars_3(words: &[u32], room: &mut [u32]) -> HouayletanAmount
     ensures { FlatAmount (Tells words.now (varsOf words.now) 0 room.old room.new) result }
 {
     flat_amount(num_vars(words, room))
 }
 
 // Whether the array is the constant true.
-#[unsafe(no_mangle)]
-pub extern "C" fn houayletan_is_true_3(words: &[u32], room: &mut [u32]) -> HouayletanAmount
+pub fn houayletan_is_true_3(words: &[u32], room: &mut [u32]) -> HouayletanAmount
     ensures { FlatAmount (Tells words.now (bit (eqb (size_of words.now) 2)) 0 room.old room.new) result }
 {
     flat_answer(is_true(words, room))
 }
 
 // Whether the array is the constant false.
-#[unsafe(no_mangle)]
-pub extern "C" fn houayletan_is_false_3(words: &[u32], room: &mut [u32]) -> HouayletanAmount
+pub fn houayletan_is_false_3(words: &[u32], room: &mut [u32]) -> HouayletanAmount
     ensures { FlatAmount (Tells words.now (bit (eqb (size_of words.now) 1)) 0 room.old room.new) result }
 {
     flat_answer(is_false(words, room))
 }
 
 // Whether the array is a single path to node 1.
-#[unsafe(no_mangle)]
-pub extern "C" fn houayletan_is_clause_3(words: &[u32], room: &mut [u32]) -> HouayletanAmount
+pub fn houayletan_is_clause_3(words: &[u32], room: &mut [u32]) -> HouayletanAmount
     ensures { FlatAmount (Tells words.now (bit (is_clause words.now)) 0 room.old room.new) result }
 {
     flat_answer(is_clause(words, room))
 }
 
 // Whether it is a single path that tests every variable.
-#[unsafe(no_mangle)]
-pub extern "C" fn houayletan_is_valuation_3(words: &[u32], room: &mut [u32]) -> HouayletanAmount
+pub fn houayletan_is_valuation_3(words: &[u32], room: &mut [u32]) -> HouayletanAmount
     ensures { FlatAmount (Tells words.now (bit (is_valuation words.now)) 0 room.old room.new) result }
 {
     flat_answer(is_valuation(words, room))
 }
 
 // For each variable how many nodes test it, in the first words of the output.
-#[unsafe(no_mangle)]
-pub extern "C" fn houayletan_size_per_variable_3(
+pub fn houayletan_size_per_variable_3(
     words: &[u32],
     room: &mut [u32],
     output: &mut [u32],
@@ -72,8 +65,7 @@ pub extern "C" fn houayletan_size_per_variable_3(
 }
 
 // The diagram that holds exactly where this one doesn't.
-#[unsafe(no_mangle)]
-pub extern "C" fn houayletan_not_3(
+pub fn houayletan_not_3(
     words: &[u32],
     room: &mut [u32],
     output: &mut [u32],

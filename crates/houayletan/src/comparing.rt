@@ -7,8 +7,7 @@ use flat::HouayletanComparison;
 use flat::comparing::flat_compared;
 
 // In how many valuations one holds and not the other, in how many both, and the smallest in which they differ.
-#[unsafe(no_mangle)]
-pub extern "C" fn houayletan_compare_3(
+pub fn houayletan_compare_3(
     first: &[u32],
     second: &[u32],
     room: &mut [u32],

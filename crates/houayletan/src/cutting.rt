@@ -12,8 +12,7 @@ use naturals::Natural;
 use targets::size::{overapproximate_to_size, underapproximate_to_size};
 
 // Valuations whose path meets a listed node no longer hold; all others are as they were.
-#[unsafe(no_mangle)]
-pub extern "C" fn houayletan_underapproximate_3(
+pub fn houayletan_underapproximate_3(
     words: &[u32],
     list: &[u32],
     room: &mut [u32],
@@ -25,8 +24,7 @@ pub extern "C" fn houayletan_underapproximate_3(
 }
 
 // Valuations whose path meets a listed node now hold; all others are as they were.
-#[unsafe(no_mangle)]
-pub extern "C" fn houayletan_overapproximate_3(
+pub fn houayletan_overapproximate_3(
     words: &[u32],
     list: &[u32],
     room: &mut [u32],
@@ -38,8 +36,7 @@ pub extern "C" fn houayletan_overapproximate_3(
 }
 
 // At most so many nodes; holds only where the diagram does.
-#[unsafe(no_mangle)]
-pub extern "C" fn houayletan_underapproximate_to_size_3(
+pub fn houayletan_underapproximate_to_size_3(
     words: &[u32],
     target: u32,
     as_is: u32,
@@ -52,8 +49,7 @@ pub extern "C" fn houayletan_underapproximate_to_size_3(
 }
 
 // At most so many nodes; holds wherever the diagram does.
-#[unsafe(no_mangle)]
-pub extern "C" fn houayletan_overapproximate_to_size_3(
+pub fn houayletan_overapproximate_to_size_3(
     words: &[u32],
     target: u32,
     as_is: u32,
@@ -66,8 +62,7 @@ pub extern "C" fn houayletan_overapproximate_to_size_3(
 }
 
 // At most so many valuations; holds only where the diagram does.
-#[unsafe(no_mangle)]
-pub extern "C" fn houayletan_underapproximate_to_cardinality_3(
+pub fn houayletan_underapproximate_to_cardinality_3(
     words: &[u32],
     target: HouayletanNatural,
     as_is: u32,
@@ -87,8 +82,7 @@ pub extern "C" fn houayletan_underapproximate_to_cardinality_3(
 }
 
 // At least so many valuations; holds wherever the diagram does.
-#[unsafe(no_mangle)]
-pub extern "C" fn houayletan_overapproximate_to_cardinality_3(
+pub fn houayletan_overapproximate_to_cardinality_3(
     words: &[u32],
     target: HouayletanNatural,
     as_is: u32,

@@ -32,24 +32,21 @@ use node_weights::{count_and_weights, node_valuation_weights};
 use reduction::reduce::reduce;
 
 // The check of any words as a diagram.
-#[unsafe(no_mangle)]
-pub extern "C" fn houayletan_validate_3(words: &[u32], room: &mut [u32]) -> HouayletanVerdict
+pub fn houayletan_validate_3(words: &[u32], room: &mut [u32]) -> HouayletanVerdict
     ensures { Flat (Checked words.now Output.Nothing room.old room.new) result }
 {
     flat(validate(words, room))
 }
 
 // How many valuations the diagram holds for.
-#[unsafe(no_mangle)]
-pub extern "C" fn houayletan_exact_cardinality_3(words: &[u32], room: &mut [u32]) -> HouayletanCount
+pub fn houayletan_exact_cardinality_3(words: &[u32], room: &mut [u32]) -> HouayletanCount
     ensures { FlatCount (Counts words.now (count_of words.now) room.old room.new) result }
 {
     flat_count(exact_cardinality(words, room))
 }
 
 // How many paths lead from the root to node 1.
-#[unsafe(no_mangle)]
-pub extern "C" fn houayletan_exact_clause_cardinality_3(
+pub fn houayletan_exact_clause_cardinality_3(
     words: &[u32],
     room: &mut [u32],
 ) -> HouayletanCount
@@ -59,16 +56,14 @@ pub extern "C" fn houayletan_exact_clause_cardinality_3(
 }
 
 // How many valuations the diagram holds for, as an f64: exact up to 2^53.
-#[unsafe(no_mangle)]
-pub extern "C" fn houayletan_cardinality_3(words: &[u32], room: &mut [u32]) -> HouayletanFloat
+pub fn houayletan_cardinality_3(words: &[u32], room: &mut [u32]) -> HouayletanFloat
     ensures { FlatFloat (CountsFloat words.now room.old room.new) result }
 {
     flat_float(cardinality(words, room))
 }
 
 // How many valuations the diagram holds for, and in the output the weights of its nodes.
-#[unsafe(no_mangle)]
-pub extern "C" fn houayletan_count_and_weights_3(
+pub fn houayletan_count_and_weights_3(
     words: &[u32],
     room: &mut [u32],
     output: &mut [u32],
@@ -79,8 +74,7 @@ pub extern "C" fn houayletan_count_and_weights_3(
 }
 
 // For each node, in the words of a count in the output, how many valuations that the diagram holds for have a path that visits it.
-#[unsafe(no_mangle)]
-pub extern "C" fn houayletan_node_valuation_weights_3(
+pub fn houayletan_node_valuation_weights_3(
     words: &[u32],
     room: &mut [u32],
     output: &mut [u32],
@@ -91,8 +85,7 @@ pub extern "C" fn houayletan_node_valuation_weights_3(
 }
 
 // The reduced diagram of the same function.
-#[unsafe(no_mangle)]
-pub extern "C" fn houayletan_reduce_3(
+pub fn houayletan_reduce_3(
     words: &[u32],
     room: &mut [u32],
     output: &mut [u32],
@@ -103,8 +96,7 @@ pub extern "C" fn houayletan_reduce_3(
 }
 
 // Makes the first `count` words zero, or all where there are fewer: what every answer does to its working room.
-#[unsafe(no_mangle)]
-pub extern "C" fn houayletan_clear_3(room: &mut [u32], count: usize)
+pub fn houayletan_clear_3(room: &mut [u32], count: usize)
     ensures { room.new ≡ replicate (min count (length room.old)) 0 ++ drop count room.old }
 {
     clear(room, count);

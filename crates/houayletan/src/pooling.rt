@@ -86,8 +86,7 @@ fn summarize_words(table: &[u32], slots: &[u32], summary: &mut [u32], count: usi
 }
 
 // Puts a condition in an empty slot. Accepted, the verdict has the number of the nodes in use afterwards.
-#[unsafe(no_mangle)]
-pub extern "C" fn houayletan_pool_add_4(
+pub fn houayletan_pool_add_4(
     table: &mut [u32],
     slots: &mut [u32],
     row: &mut [Signal],
@@ -106,8 +105,7 @@ pub extern "C" fn houayletan_pool_add_4(
 }
 
 // Empties a slot, and frees what no other one reaches. Accepted, the verdict has the number of the nodes in use afterwards.
-#[unsafe(no_mangle)]
-pub extern "C" fn houayletan_pool_drop_4(
+pub fn houayletan_pool_drop_4(
     table: &mut [u32],
     slots: &mut [u32],
     row: &mut [Signal],
@@ -124,8 +122,7 @@ pub extern "C" fn houayletan_pool_drop_4(
 }
 
 // Works the row out, for a pool that has none or has another one. Accepted, the verdict has the number of the table's places.
-#[unsafe(no_mangle)]
-pub extern "C" fn houayletan_pool_summarize_3(
+pub fn houayletan_pool_summarize_3(
     table: &[u32],
     slots: &[u32],
     row: &mut [Signal],
@@ -140,8 +137,7 @@ pub extern "C" fn houayletan_pool_summarize_3(
 }
 
 // The reduced array of a slot's condition. Accepted, the verdict has the number of its nodes.
-#[unsafe(no_mangle)]
-pub extern "C" fn houayletan_pool_read_3(
+pub fn houayletan_pool_read_3(
     table: &[u32],
     slots: &[u32],
     slot: usize,

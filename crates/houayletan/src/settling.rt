@@ -7,24 +7,21 @@ use setting_blocks::setting::{Setting, SettingRead, SettingWritten};
 use setting_blocks::write::write_settings;
 
 // What is stored in a block of any version.
-#[unsafe(no_mangle)]
-pub extern "C" fn houayletan_read_settings_3(block: &[u8]) -> SettingRead
+pub fn houayletan_read_settings_3(block: &[u8]) -> SettingRead
     ensures { result ≡ shown (read_by newest block.now) }
 {
     read_settings(block)
 }
 
 // What is stored in a block of version 1, and nothing of a later one.
-#[unsafe(no_mangle)]
-pub extern "C" fn houayletan_read_settings_v1_3(block: &[u8]) -> SettingRead
+pub fn houayletan_read_settings_v1_3(block: &[u8]) -> SettingRead
     ensures { result ≡ shown (read_by 1 block.now) }
 {
     read_settings_v1(block)
 }
 
 // The block of a setting, in the first of the bytes.
-#[unsafe(no_mangle)]
-pub extern "C" fn houayletan_write_settings_3(
+pub fn houayletan_write_settings_3(
     version: u32,
     setting: Setting,
     output: &mut [u8],

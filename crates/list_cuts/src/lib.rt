@@ -1,5 +1,6 @@
 // Cutting by a list (document 01, port 8): links to listed nodes are sent to a terminal, and what is left is reduced.
 #![tactic(auto)]
+
 mod listing;
 
 ghost use Rattle.std.specs.Prelude.{◌<◌};

@@ -39,6 +39,7 @@ met_in x (y ∷ s) e = or_cases (same x y) (met x s) e
 
 pub in_met : (x : Pair) (s : List Pair) → In x s → met x s ≡ true
 unfolding met
+in_met x [] x' = elim x' [ ]
 in_met x (y ∷ s) here = or_left (same x x) (met x s) (same_self x)
 in_met x (y ∷ s) (there i) = or_right (same x y) (met x s) (in_met x s i)
 
@@ -49,6 +50,7 @@ at_in (y ∷ s) zero l = here
 at_in (y ∷ s) (suc i) l = there (at_in s i (omega arith))
 
 pub in_at : (x : Pair) (s : List Pair) → In x s → (i : ℕ) × (i < length s) × (at s i ≡ x)
+in_at x [] x' = elim x' [ ]
 in_at x (y ∷ s) here = (0, omega arith, refl)
 in_at x (y ∷ s) (there i) = let r = in_at x s i in (suc r.0, omega (arith, r.1), r.2)
 

@@ -1,5 +1,6 @@
 // Small queries of a decision diagram. Each begins with the check.
 #![tactic(auto)]
+
 pub mod per_variable;
 mod sole;
 

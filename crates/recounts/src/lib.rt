@@ -2,6 +2,7 @@
 // Taking a node away changes what is left at the nodes above it only; so a count works out those again whose children have
 // changed, and reads the others where they stand. What was counted of a diagram can be turned to its negation.
 #![tactic(auto)]
+
 pub mod changes;
 mod renewal;
 pub mod turning;

@@ -1,6 +1,7 @@
 // The map of the working room while a target is searched for, in words for each node. The definitions have the same places in
 // specs/Map.antt, which says what stands there.
 #![tactic(auto)]
+
 use naturals::WORDS;
 use store::shelf;
 

@@ -1,5 +1,6 @@
 // The search for a size (document 01, "The evening's cut"). Its answer stands in the working room.
 #![tactic(auto)]
+
 ghost use Rattle.std.specs.Prelude.{◌-◌, ◌<◌};
 ghost use Rattle.approximation.specs.Search.{size_search, under_to_size};
 ghost use Rattle.trials.specs.Trials.{Searching, Found};

@@ -1,5 +1,6 @@
 // What the searches for a target share: priorities in the working room, the cut by the first of them, and the answer.
 #![tactic(auto)]
+
 pub mod answers;
 pub mod first;
 

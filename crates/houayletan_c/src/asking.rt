@@ -1,0 +1,81 @@
+// Small queries and negation.
+ghost use Rattle.std.specs.Prelude.{eqb};
+ghost use Rattle.diagram.specs.Diagram.{size as size_of, vars as varsOf};
+ghost use Rattle.negation.specs.Negation.{Negates};
+ghost use Rattle.queries.specs.Queries.{is_clause, is_valuation, Tells, Lists};
+ghost use Rattle.flat.specs.Flat.{bit, Flat, FlatAmount, FlatDiagram};
+
+use flat::{HouayletanAmount, HouayletanDiagram, HouayletanVerdict};
+use houayletan::asking as called;
+
+// How many nodes there are.
+#[unsafe(no_mangle)]
+pub extern "C" fn houayletan_size_3(words: &[u32], room: &mut [u32]) -> HouayletanAmount
+    ensures { FlatAmount (Tells words.now (size_of words.now) 0 room.old room.new) result }
+{
+    called::houayletan_size_3(words, room)
+}
+
+// How many variables there are.
+#[unsafe(no_mangle)]
+pub extern "C" fn houayletan_num_vars_3(words: &[u32], room: &mut [u32]) -> HouayletanAmount
+    ensures { FlatAmount (Tells words.now (varsOf words.now) 0 room.old room.new) result }
+{
+    called::houayletan_num_vars_3(words, room)
+}
+
+// Whether the array is the constant true.
+#[unsafe(no_mangle)]
+pub extern "C" fn houayletan_is_true_3(words: &[u32], room: &mut [u32]) -> HouayletanAmount
+    ensures { FlatAmount (Tells words.now (bit (eqb (size_of words.now) 2)) 0 room.old room.new) result }
+{
+    called::houayletan_is_true_3(words, room)
+}
+
+// Whether the array is the constant false.
+#[unsafe(no_mangle)]
+pub extern "C" fn houayletan_is_false_3(words: &[u32], room: &mut [u32]) -> HouayletanAmount
+    ensures { FlatAmount (Tells words.now (bit (eqb (size_of words.now) 1)) 0 room.old room.new) result }
+{
+    called::houayletan_is_false_3(words, room)
+}
+
+// Whether the array is a single path to node 1.
+#[unsafe(no_mangle)]
+pub extern "C" fn houayletan_is_clause_3(words: &[u32], room: &mut [u32]) -> HouayletanAmount
+    ensures { FlatAmount (Tells words.now (bit (is_clause words.now)) 0 room.old room.new) result }
+{
+    called::houayletan_is_clause_3(words, room)
+}
+
+// Whether it is a single path that tests every variable.
+#[unsafe(no_mangle)]
+pub extern "C" fn houayletan_is_valuation_3(words: &[u32], room: &mut [u32]) -> HouayletanAmount
+    ensures { FlatAmount (Tells words.now (bit (is_valuation words.now)) 0 room.old room.new) result }
+{
+    called::houayletan_is_valuation_3(words, room)
+}
+
+// For each variable how many nodes test it, in the first words of the output.
+#[unsafe(no_mangle)]
+pub extern "C" fn houayletan_size_per_variable_3(
+    words: &[u32],
+    room: &mut [u32],
+    output: &mut [u32],
+) -> HouayletanVerdict
+    ensures { Flat (Lists words.now room.old room.new output.old output.new) result }
+{
+    called::houayletan_size_per_variable_3(words, room, output)
+}
+
+// The diagram that holds exactly where this one doesn't.
+#[unsafe(no_mangle)]
+pub extern "C" fn houayletan_not_3(
+    words: &[u32],
+    room: &mut [u32],
+    output: &mut [u32],
+) -> HouayletanDiagram
+    ensures { FlatDiagram (Negates words.now room.old room.new output.old output.new) result }
+{
+    called::houayletan_not_3(words, room, output)
+}

@@ -1,0 +1,19 @@
+// Two diagrams beside each other.
+ghost use Rattle.comparison.specs.Comparison.{Compare};
+ghost use Rattle.flat.specs.Flat.{FlatCompared};
+
+use flat::HouayletanComparison;
+use houayletan::comparing as called;
+
+// In how many valuations one holds and not the other, in how many both, and the smallest in which they differ.
+#[unsafe(no_mangle)]
+pub extern "C" fn houayletan_compare_3(
+    first: &[u32],
+    second: &[u32],
+    room: &mut [u32],
+    table: &mut [u32],
+) -> HouayletanComparison
+    ensures { FlatCompared (Compare first.now second.now room.old room.new table.old table.new) result }
+{
+    called::houayletan_compare_3(first, second, room, table)
+}
