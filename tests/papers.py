@@ -20,7 +20,7 @@ import sys
 
 PROMISES = "docs/PROMISES.md"
 # Where promises begin: every exported function, and these of the programs' crates.
-EXPORTS = "crates/houayletan/src/*.rt"
+EXPORTS = "crates/houayletan_c/src/*.rt"
 FUNCTIONS = [
     ("block_file", "read_file"), ("block_file", "write_file"), ("block_reading", "read_block"), ("report", "report"),
     ("shrinking", "answer"), ("shrink_program", "run_program"), ("evening", "answer_evening"), ("evening", "store"),
@@ -119,7 +119,12 @@ for cell in re.findall(r"^\| (crates/.*?) \|", table, re.M):
             amiss.append(f"{PROMISES}: what must be believed names {path}, which is not there")
         believed.add((path.split("/")[1], os.path.basename(path)[:-5]))
 
-roots = [root for path in glob.glob(EXPORTS) for root in contracts(path)]
+roots = []
+for path in glob.glob(EXPORTS) or [EXPORTS]:
+    found = contracts(path) if os.path.isfile(path) else []
+    if not found:
+        amiss.append(f"papers.py: no contract of an exported function was found in {path}")
+    roots += found
 for crate, function in FUNCTIONS:
     found = [root for path in glob.glob(f"crates/{crate}/src/*.rt") for root in contracts(path, function)]
     if not found:

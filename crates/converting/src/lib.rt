@@ -1,5 +1,6 @@
 // From a block file to a node file of the same nodes, and back.
 #![tactic(auto)]
+
 pub mod answer;
 pub mod job;
 pub mod texts;

@@ -2,6 +2,7 @@
 // be removed, and all that are taken are cut; while the count is still too large, the walk goes on where it stopped. The
 // answer stands in the working room. The diagram is counted once: weights and rounds go on from that count.
 #![tactic(auto)]
+
 mod rounds;
 
 ghost use Rattle.std.specs.Prelude.{◌≡◌, replicate};

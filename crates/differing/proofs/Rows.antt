@@ -33,11 +33,11 @@ rows [] m = refl
 rows (true ∷ bs) m =
     let k = length bs in
     let e : numeral (true ∷ bs) + m * 2 ^ suc k ≡ numeral bs + (m * 2 + 1) * 2 ^ k = rw (numeral_high bs, pow-suc) (join_one (2 ^ k) (numeral bs) m) in
-    rw (e, above (numeral bs) (m * 2 + 1) k (numeral_less bs), odd m, rows bs (m * 2 + 1)) refl
+    ap (λ (n : ℕ). spell 2 n (suc k)) e ∙ rw (above (numeral bs) (m * 2 + 1) k (numeral_less bs), odd m, rows bs (m * 2 + 1)) refl
 rows (false ∷ bs) m =
     let k = length bs in
     let e : numeral (false ∷ bs) + m * 2 ^ suc k ≡ numeral bs + (m * 2) * 2 ^ k = rw (numeral_low bs, pow-suc) (join_zero (2 ^ k) (numeral bs) m) in
-    rw (e, above (numeral bs) (m * 2) k (numeral_less bs), even m, rows bs (m * 2)) refl
+    ap (λ (n : ℕ). spell 2 n (suc k)) e ∙ rw (above (numeral bs) (m * 2) k (numeral_less bs), even m, rows bs (m * 2)) refl
 
 pub row_is : (bs : List Bool) → spell 2 (numeral bs) (length bs) ≡ row bs
 row_is bs =

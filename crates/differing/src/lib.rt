@@ -1,5 +1,6 @@
 // Two files of a condition, the old one and the new one, compared.
 #![tactic(auto)]
+
 pub mod answer;
 pub mod job;
 pub mod words;

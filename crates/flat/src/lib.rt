@@ -1,6 +1,7 @@
 // The answers of the operations as C and Rust see them: the structs, and what lays an answer's cases flat.
 // They are apart from the exported functions, whose check is long, so that an edit of them costs little.
 #![tactic(auto)]
+
 pub mod asking;
 pub mod comparing;
 pub mod cutting;

@@ -1,5 +1,6 @@
 // What `shrink` says on standard error: its help, the line of a refusal, and the lines of its summary.
 #![tactic(auto)]
+
 pub mod refusal;
 pub mod summary;
 pub mod words;

@@ -1,5 +1,6 @@
 // The supervisor's job: a keep condition may only grow, a suppress condition may only lose cases.
 #![tactic(auto)]
+
 pub mod answer;
 pub mod job;
 pub mod summary;

@@ -1,5 +1,6 @@
 // Cutting to a target (document 01, "The evening's cut"): to a size, and what cutting to a count, in crates/count_targets, has in common with it.
 #![tactic(auto)]
+
 pub mod met;
 pub mod size;
 

@@ -1,0 +1,5 @@
+use Rattle.evening.proofs.Calls.{setting_is}
+use Rattle.evening.proofs.words.setting_of.Goals as goal
+
+pub returns : goal.returns
+returns c = setting_is c.args.target c.bit.ensures c.bit-2.ensures c.bit-3.ensures c.number_of-number.ensures

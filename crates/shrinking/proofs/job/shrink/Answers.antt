@@ -1,0 +1,27 @@
+use Rattle.shrinking.proofs.Answering.{file_few, file_done_lem, file_refused}
+use Rattle.request.specs.Request.{aim_of}
+use Rattle.diagram.specs.Limits.{max_words}
+use mathlib.Core.Path.{◌≡◌, refl, sym}
+use lib.Seq.{length-take-le}
+use lib.ListN.{length, length-replicate}
+use Prim.Native.Nat.{ℕ, ◌*◌}
+use native.Mathlib.Omega.{arith}
+use Rattle.shrinking.proofs.job.shrink.Goals as goal
+
+pub slice_bounds-read_form-end : goal.slice_bounds-read_form-end
+slice_bounds-read_form-end c = sym (length-replicate {A = ℕ} max_words 0)
+
+pub overflow_mul-words : goal.overflow_mul-words
+overflow_mul-words c = omega (arith, file_few c.args.form c.args.bytes.now _ _ c.read_form-stored.ensures c.in-Nodes.is)
+
+pub slice_bounds-words-end : goal.slice_bounds-words-end
+slice_bounds-words-end c = omega (arith, file_few c.args.form c.args.bytes.now _ _ c.read_form-stored.ensures c.in-Nodes.is, c.read_form-stored.auto.output)
+
+pub slice_bounds-shrink_diagram-end : goal.slice_bounds-shrink_diagram-end
+slice_bounds-shrink_diagram-end c = let h : length c.read_form-stored.new.output ≡ max_words = c.read_form-stored.auto.output in sym (length-take-le (3 * c.in-Nodes.nodes) c.read_form-stored.new.output (omega (arith, file_few c.args.form c.args.bytes.now _ _ c.read_form-stored.ensures c.in-Nodes.is)))
+
+pub returns-in-Nodes : goal.returns-in-Nodes
+returns-in-Nodes c = file_done_lem c.args.form c.args.target.keep c.args.target.as_is (aim_of c.args.target) c.args.bytes.now _ _ c.read_form-stored.ensures refl c.in-Nodes.is c.shrink_diagram.ensures
+
+pub returns-in-Refused : goal.returns-in-Refused
+returns-in-Refused c = file_refused c.args.form c.args.target.keep c.args.target.as_is (aim_of c.args.target) c.args.bytes.now _ _ c.read_form-stored.ensures refl c.in-Refused.is c.refuse.ensures
