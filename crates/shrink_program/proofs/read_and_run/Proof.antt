@@ -1,5 +1,6 @@
 use lib.Seq.{length-take-le}
 use mathlib.Core.Path.{sym}
+use native.Mathlib.Omega.{arith}
 use borrow.Author.Rules.{rules}
 use Rattle.shrink_program.proofs.read_and_run.Statement.{statement}
 use Rattle.shrink_program.proofs.read_and_run.Tie as tie
@@ -7,8 +8,11 @@ use Rattle.shrink_program.proofs.read_and_run.Tie as tie
 blank-input-requires : tie.Need-blank-input-requires
 blank-input-requires c κs = search rules
 
-wants-evening-input-requires : tie.Need-wants-evening-input-requires
-wants-evening-input-requires c κs = search rules
+word-count-requires : tie.Need-word-count-requires
+word-count-requires c κs = search rules
+
+wants-input-requires : tie.Need-wants-input-requires
+wants-input-requires c κs = search rules
 
 slice-aggregate-read-input : tie.Need-slice-aggregate-read-input
 slice-aggregate-read-input c = search rules
@@ -33,7 +37,8 @@ read-and-run-spec =
     tie.close
     (tie.spec
     blank-input-requires
-    wants-evening-input-requires
+    word-count-requires
+    wants-input-requires
     slice-aggregate-read-input
     read-input-requires
     array-share-prefix-bytes

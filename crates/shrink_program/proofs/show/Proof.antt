@@ -4,6 +4,9 @@ use native.Mathlib.Omega.{arith}
 use borrow.Author.Rules.{rules}
 use Rattle.shrink_program.proofs.show.Statement.{statement}
 use Rattle.shrink_program.proofs.show.Tie as tie
+use Rattle.shrink_program.proofs.show.Reads as reads
+use Rattle.shrink_program.proofs.show.Lts as lts
+use Rattle.io.proofs.write_all.Reads as write-all-reads
 
 returns : tie.Need-returns
 returns c = search rules

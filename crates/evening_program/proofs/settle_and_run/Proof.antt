@@ -1,8 +1,8 @@
 use lib.Seq.{length-take-le}
 use mathlib.Core.Path.{sym}
 use borrow.Author.Rules.{rules}
-use Rattle.shrink_program.proofs.settle_and_run.Statement.{statement}
-use Rattle.shrink_program.proofs.settle_and_run.Tie as tie
+use Rattle.evening_program.proofs.settle_and_run.Statement.{statement}
+use Rattle.evening_program.proofs.settle_and_run.Tie as tie
 
 word-count-requires : tie.Need-word-count-requires
 word-count-requires c κs = search rules
