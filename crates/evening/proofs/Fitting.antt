@@ -16,7 +16,7 @@ use Rattle.text.proofs.Numerals.{decimal_length}
 use Rattle.request.specs.Request.{Aim, nodes, cases, Meaning, help, unknown, which, cut, request_of, form_of, words_of}
 use Rattle.messages.proofs.Fitting.{settings_refusal_length}
 use Rattle.shrinking.specs.Shrinking.{Done, told, done, file_bytes, text_bytes, file_buffer, text_buffer, Shrinks}
-use Rattle.shrinking.proofs.Fitting.{file_fits as done-file-fits, text_fits as done-text-fits, front_is_enough, ends_whole as done-ends-whole}
+use Rattle.shrinking.proofs.Fitting.{file_fits as done-file-fits, text_fits as done-text-fits, front_is_enough, ends_are_whole as done-ends-whole}
 use Rattle.setting_blocks.specs.Settings.{Outcome, kept, refused, read_by, newest}
 use Rattle.setting_blocks.proofs.Fields.{block_length}
 use Rattle.setting_blocks.proofs.Promised.{outlives}

@@ -108,9 +108,9 @@ no_input form (cut keep as_is aim) s t lent e = let z : ◌≡◌ {A = ℕ} 0 1 
 
 -- ---- what stands in the buffers up to the ends is the whole of both answers
 
-pub ends_whole : (d : Done) {file left text text' : List ℕ} {end text-end : ℕ} → length (text_bytes d) ≤ length text → Shrinks d file left text text' end text-end
+pub ends_are_whole : (d : Done) {file left text text' : List ℕ} {end text-end : ℕ} → length (text_bytes d) ≤ length text → Shrinks d file left text text' end text-end
     → (end ≡ length (file_bytes d)) × (text-end ≡ length (text_bytes d)) × (take end left ≡ file_bytes d) × (take text-end text' ≡ text_bytes d)
-ends_whole d {file} {left} {text} {text'} {end} {text-end} roomy g =
+ends_are_whole d {file} {left} {text} {text'} {end} {text-end} roomy g =
     let l : 0 + length (text_bytes d) ≤ length text = omega arith in
     let e : length (text_bytes d) ≡ text-end = omega (arith, wrote_place g.told l) in
     let f : text' ≡ text_bytes d ++ drop (0 + length (text_bytes d)) text = wrote_fits g.told l in (
@@ -119,3 +119,12 @@ ends_whole d {file} {left} {text} {text'} {end} {text-end} roomy g =
       ap (take end) g.stored ∙ take_at (file_bytes d) (drop (length (file_bytes d)) file) end (sym g.stored_end),
       ap (take text-end) f ∙ take_at (text_bytes d) (drop (0 + length (text_bytes d)) text) text-end e,
     )
+
+pub ends_whole : (form : Form) (m : Meaning) (s : List ℕ) {file left text text' : List ℕ} {end text-end : ℕ} → length file ≡ file_buffer → text_buffer ≤ length text
+    → Shrinks (done form m s (length file)) file left text text' end text-end
+    → (end ≡ length (file_bytes (done form m s file_buffer))) × (text-end ≡ length (text_bytes (done form m s file_buffer)))
+    × (take end left ≡ file_bytes (done form m s file_buffer)) × (take text-end text' ≡ text_bytes (done form m s file_buffer))
+ends_whole form m s {file} {left} {text} {text'} {end} {text-end} lent roomy h =
+    let d = done form m s file_buffer in
+    let g : Shrinks d file left text text' end text-end = rw lent at h in
+    let l : length (text_bytes d) ≤ length text = omega (arith, text_fits form m s file_buffer) in ends_are_whole d l g
