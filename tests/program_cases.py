@@ -1,6 +1,6 @@
 """Writes tests/programs: for each case NAME.call (the program and its words, one to a line), NAME.in, NAME.out and NAME.err, which
 tests/programs.sh holds the built programs to. Inputs of which several cases take the first bytes stand once, and NAME.from in place of NAME.in has
-the file and the number of bytes; of a very long output NAME.sum in place of NAME.out has the SHA-256 sum. The files that `differ` and `shrink settings` are given
+the file and the number of bytes; of a very long output NAME.sum in place of NAME.out has the SHA-256 sum. The files that `differ` and `shrink_stored` are given
 by name stand beside the cases, under that name. Block files by block.py, node files by node_file.py, settings by setting_block.py, reports by blocks_cases.py, cuts by
 cuts_cases.py: readings of the papers that share nothing with the code.
 
@@ -22,7 +22,7 @@ from limits import BLOCK, COUNT, FILE_NODES, LENT_PAIRS, MAX_NODES, MAX_VARS, NO
 from reading import nodes, verdict
 
 FOLDER = os.path.join(os.path.dirname(os.path.abspath(__file__)), 'programs')
-UNKNOWN = b'shrink: the words are nodes where it is a node file, keep or suppress, size or cases or hex, a number, and as-is where it is wanted, or settings and the name of a file; shrink alone prints its help\n'
+UNKNOWN = b'shrink: the words are nodes where it is a node file, keep or suppress, size or cases or hex, a number, and as-is where it is wanted; shrink alone prints its help\n'
 WHICH = b'shrink: count does not say which base its number is in: write cases for decimal, hex for hexadecimal\n'
 HELP = b"""shrink keep size N       at most N nodes: cases are added until it fits
 shrink keep cases N      at least N cases
@@ -30,7 +30,6 @@ shrink keep hex N        at least N cases, N in hexadecimal as weigh prints it
 shrink suppress size N   at most N nodes: cases are lost until it fits
 shrink suppress cases N  at most N cases
 shrink suppress hex N    at most N cases, N in hexadecimal as weigh prints it
-shrink settings FILE     what the words would do that settings .. > FILE has stored
 A condition that fits already loses no case and gains none, and comes out in the fewest nodes; as-is after N leaves its nodes as they are.
 Reads a block file on standard input and writes it cut to fit to standard output, the summary to standard error; shrink nodes .. does the same with a node file, of up to 4096 nodes.
 keep only adds cases, suppress only loses them. Numbers are decimal but for hex, with no zeros in front.
@@ -183,7 +182,7 @@ def asked():
         seen.add(number)
         assert shrunk(*request)[1].startswith(b'refused %d at ' % number), (number, shrunk(*request))
         requests.append(tuple(request))
-    assert seen == set(SENTENCES) - {4, 31, 32, 38, 39} - NODES_ONLY
+    assert seen == set(SENTENCES) - {4, 31, 32} - NODES_ONLY
     requests = [(*request, False) for request in requests]
     requests += [(*request[:4], True) for request in requests if request[3] in (d, file_of(DEAD)) and request[1] != 'hex' or request[0] == 'suppress' and request[3] == b'']
     requests += [(*request, as_is) for request in wide_requests() for as_is in ((False, True) if request[1:3] == ('size', FILE_NODES) else (False,))]
@@ -450,13 +449,21 @@ def hold_to_differ(cases):
 
 SETTINGS_UNKNOWN = b'settings: the words are keep or suppress, size or cases or hex, a number, and as-is where it is wanted; or show; settings alone prints its help\n'
 SETTINGS_WHICH = b'settings: count does not say which base its number is in: write cases for decimal, hex for hexadecimal\n'
-SETTINGS_HELP = b"""settings keep size N > FILE   stores what shrink keep size N would do; shrink settings FILE does it
+SETTINGS_HELP = b"""settings keep size N > FILE   stores what shrink keep size N would do; shrink_stored settings FILE does it
 settings show < FILE          shows the words that are stored
 The words are those of shrink: keep or suppress, size or cases or hex, a number, and as-is where it is wanted. A block of 512 bytes is written to standard output; version 1 unless it has as-is, which is in version 2 only.
 """
 MOST = 2 ** (32 * COUNT) - 1                            # the largest count
+# What is said of a settings file alone; of all else, what is said of a block.
+SETTINGS_SENTENCES = {38: 'the version is not known', 39: 'a field is out of its range'}
 # What `shrink` says of words, as `settings` says it.
 ALSO = {HELP: SETTINGS_HELP, UNKNOWN: SETTINGS_UNKNOWN, WHICH: SETTINGS_WHICH}
+
+
+def settings_line(number, place):
+    if number in SETTINGS_SENTENCES:
+        return ('refused %d at %d: %s\n' % (number, place, SETTINGS_SENTENCES[number])).encode()
+    return refused_line(number, place).encode()
 
 
 def setting(direction, kind, target, as_is):
@@ -502,25 +509,25 @@ def setting_files():
 
 
 def settled(form, name, data, files):
-    """Standard output and standard error of `shrink settings NAME`; `files` has those that can be read."""
+    """Standard output and standard error of `shrink_stored settings NAME`; `files` has those that can be read."""
     if name not in files:
         return b'', b"settings file: can't be opened\n"
     stored, cut = files[name]
     number, place = setting_block.reader(stored)[:2]
     if number:
-        return b'', b'settings file: ' + refused_line(number, place).encode()
+        return b'', b'settings file: ' + settings_line(number, place)
     return shrunk(*cut[:3], data, cut[3], form)
 
 
 def setting_cases(files, others):
-    """(name, call, input, standard output, standard error) of `settings` and of `shrink settings`; `others` are words of shrink that ask for no cut, and what it says."""
+    """(name, call, input, standard output, standard error) of `settings` and of `shrink_stored settings`; `others` are words of shrink that ask for no cut, and what it says."""
     for i, cut in enumerate(to_store()):
         data = setting_block.block(2 if cut[3] else 1, setting(*cut))
         yield 'settings-%02d' % i, ['settings'] + words_of(*cut), b'', data, line_of(*cut)
         assert setting_block.reader(data) == (0, 0, 2 if cut[3] else 1, setting(*cut))
     for name, (data, cut) in files.items():
         number, place, version, _ = setting_block.reader(data)
-        yield 'settings-show-' + name[:-9], ['settings', 'show'], data, *(refused(number, place) if number else (line_of(*cut), b'version %d\n' % version))
+        yield 'settings-show-' + name[:-9], ['settings', 'show'], data, *((b'', settings_line(number, place)) if number else (line_of(*cut), b'version %d\n' % version))
     wrong = [w.split() for w in ('show show', 'show keep', 'Show', 'shown', 'show keep size 4', 'keep show 4', 'settings', 'nodes keep size 4', 'nodes', 'nodes show', 'show 4', 'keep size 4 as-is show', 'show as-is')]
     wrong += [['show', ''], [' show'], ['show' + WORD * 'w'], ['', 'show'], ['v1-keep-size-4.settings'], ['show', 'v1-keep-size-4.settings']]
     for i, (words, said) in enumerate([(words, ALSO[said]) for words, said in others] + [(words, SETTINGS_UNKNOWN) for words in wrong]):
@@ -528,7 +535,7 @@ def setting_cases(files, others):
     d, dead = {'blocks': file_of(D), 'nodes': node_file.write(D)}, {'blocks': file_of(DEAD), 'nodes': node_file.write(DEAD)}
     short = {form: data[:-1] for form, data in d.items()}
     for form in FORMS:
-        before = ['shrink'] + ['nodes'] * (form == 'nodes') + ['settings']
+        before = ['shrink_stored'] + ['nodes'] * (form == 'nodes') + ['settings']
         for i, name in enumerate([*files, 'missing.settings', '.', '', 'settings', PATH * 'n', NAME * 'n', (NAME + 1) * 'n']):
             for input_, data in (('D', d), ('dead', dead), ('short', short)):
                 if input_ == 'D' or name in files and files[name][1]:
@@ -539,18 +546,18 @@ def setting_cases(files, others):
         yield 'shrink-settings-%s-twice' % form, before + ['v1-keep-size-4.settings'], files['v1-keep-size-4.settings'][0], *settled(form, 'v1-keep-size-4.settings', files['v1-keep-size-4.settings'][0], files)
     for name in ('v1-keep-size-40.settings', 'v2-keep-size-40-as-is.settings', 'v1-suppress-size-most.settings', 'v1-keep-cases-all.settings'):
         data = node_file.write(plant.whole())
-        yield 'shrink-settings-4096-' + name[:-9], ['shrink', 'nodes', 'settings', name], data, *settled('nodes', name, data, files)
+        yield 'shrink-settings-4096-' + name[:-9], ['shrink_stored', 'nodes', 'settings', name], data, *settled('nodes', name, data, files)
     wrong = [w.split() for w in ('settings', 'nodes settings', 'settings FILE more', 'nodes settings FILE more', 'Settings FILE', 'setting FILE', 'settings nodes FILE', 'nodes nodes settings FILE', 'FILE settings', 'blocks settings FILE',
                                  'settings keep size 4', 'keep settings FILE', 'nodes FILE settings', 'settings FILE as-is', 'settings settings FILE', 'settings FILE nodes')]
     wrong += [['settings ', 'FILE'], ['settings' + WORD * 's', 'FILE'], ['nodes', 'settings' + WORD * 's', 'FILE'], ['', 'FILE'], ['nodes', '', 'FILE'], ['settings', 'FILE', ''], ['', 'settings', 'FILE']]
     for i, words in enumerate(wrong):
         words = ['v1-keep-size-4.settings' if word == 'FILE' else word for word in words]
-        yield 'shrink-settings-words-%02d' % i, ['shrink'] + words, file_of(D), b'', UNKNOWN
+        yield 'shrink-settings-words-%02d' % i, ['shrink_stored'] + words, file_of(D), b'', UNKNOWN
 
 
 def hold_to_settings(cases):
     """Every refusal of a settings file comes up in both programs."""
-    for program, begins in (('settings', b'refused '), ('shrink', b'settings file: refused ')):
+    for program, begins in (('settings', b'refused '), ('shrink_stored', b'settings file: refused ')):
         found = {int(err[len(begins):].split()[0]) for _, call, _, _, err in cases if call[0] == program and err.startswith(begins)}
         assert found == {21, 22, 38, 39, 24}, (program, found)
 

@@ -1,4 +1,4 @@
-"""Writes stdin, args and stdout of crates/shrink, and stdin and stdout of crates/shrinking_run: a diagram, requests, and what document 01 works out by hand or program_cases.py
+"""Writes stdin, args and stdout of crates/shrink and crates/shrink_stored, and stdin and stdout of crates/shrinking_run: a diagram, requests, and what document 01 works out by hand or program_cases.py
 answers."""
 import os
 
@@ -25,6 +25,7 @@ def case(crate, words, answer, diagram=D):
 
 # C8: over to size 4.
 case('shrink', ['keep', 'size', '4'], C5)
+case('shrink_stored', ['keep', 'size', '4'], C5)
 # The file of x1 or x2 or x3 or x4, and for each call of the program standard output and standard error.
 FILE = b''.join(block.write(OR4))
 DAMAGED = changed(FILE, 508, 0)
