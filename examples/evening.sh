@@ -11,7 +11,7 @@
 # CONDITIONS  the folder of the conditions: each .bdd is a node file, each .block a block file, by the name's ending and never by the content.
 #             What is stored beside outage.bdd is outage.settings, a settings file as the program settings writes it. Where no line asks for it, it is not looked at.
 # ROUTER      the folder that the router reads. Yesterday's is kept beside it as ROUTER.before; on the first evening it need not be there.
-# PROGRAMS    the folder of the program shrink; without it target/bin of the repository that this script stands in
+# PROGRAMS    the folder of the program shrink, and of shrink_stored where a line asks for settings; without it target/bin of the repository that this script stands in
 #
 # Status 0: all were answered, and ROUTER is tonight's. 1: a condition was not answered. 2: the words, the list or a folder is not right, and nothing
 # was run. With 1 and 2, and where the script is interrupted, ROUTER and ROUTER.before are as they were, and what was made is removed.
@@ -94,6 +94,9 @@ for file in "${files[@]}"; do
     if [[ ${request[$file]} = settings && ( ! -f $conditions/$stored || ! -r $conditions/$stored ) ]]; then
         faults+=("$file of $list asks for settings, and $stored is no file in $conditions that can be read")
     fi
+    if [[ ${request[$file]} = settings && ( ! -f $programs/shrink_stored || ! -x $programs/shrink_stored ) ]]; then
+        faults+=("$file of $list asks for settings, and there is no program $programs/shrink_stored")
+    fi
 done
 for path in "$conditions"/*.bdd "$conditions"/*.block; do
     file=${path##*/}
@@ -138,10 +141,11 @@ refused=0
 for file in "${files[@]}"; do
     read -r -a words < <(printf '%s\n' "${request[$file]}")
     way=${words[0]} target=${words[*]:1}
-    [ "$way" != settings ] || words+=("$conditions/${file%.*}.settings")
+    program=shrink
+    if [ "$way" = settings ]; then program=shrink_stored words+=("$conditions/${file%.*}.settings"); fi
     case $file in *.bdd) form=(nodes) ;; *) form=() ;; esac
-    said=$("$programs/shrink" "${form[@]}" "${words[@]}" 2>&1 < "$conditions/$file" > "$new/$file")
-    # the list has no target for stored settings: the table has the one that shrink read; of as-is shrink says nothing
+    said=$("$programs/$program" "${form[@]}" "${words[@]}" 2>&1 < "$conditions/$file" > "$new/$file")
+    # the list has no target for stored settings: the table has the one that shrink_stored read; of as-is it says nothing
     if [[ $way = settings && $said =~ $aim ]]; then
         target=${BASH_REMATCH[2]}
         case ${BASH_REMATCH[3]} in nodes) target="size $target" ;; *) target="cases $target" ;; esac

@@ -59,6 +59,9 @@ wrong() { [ "$status" -eq 2 ] && unchanged && [ ! -s "$made/out" ] && grep -qF -
 mkdir "$made/none"
 printf '#!/bin/sh\ntouch "%s/called"\n' "$made" > "$made/none/shrink"
 chmod +x "$made/none/shrink"
+# The same beside a shrink_stored, for settings.
+cp -r "$made/none" "$made/none-stored"
+cp "$made/none/shrink" "$made/none-stored/shrink_stored"
 # pretend TEXT: a shrink that does as the shell script TEXT says; $real is the program.
 pretend() {
     mkdir -p "$made/pretended"
@@ -316,13 +319,15 @@ rm "$made/site/conditions/never.bdd"
 mkdir "$made/site/conditions/never.bdd"
 turned_down 'never.bdd of list is no file in conditions that can be read'
 sed -i 's/^storm-west.bdd .*/storm-west.bdd settings/' "$made/site/list"
-turned_down 'storm-west.bdd of list asks for settings, and storm-west.settings is no file in conditions that can be read'
+turned_down 'storm-west.bdd of list asks for settings, and storm-west.settings is no file in conditions that can be read' list conditions router "$made/none-stored"
 sed -i 's/^chatter-north.block .*/chatter-north.block settings/' "$made/site/list"
 mkdir "$made/site/conditions/chatter-north.settings"
-turned_down 'chatter-north.block of list asks for settings, and chatter-north.settings is no file in conditions that can be read'
+turned_down 'chatter-north.block of list asks for settings, and chatter-north.settings is no file in conditions that can be read' list conditions router "$made/none-stored"
 settle storm-west.bdd
 mv "$made/site/conditions/storm-west.settings" "$made/site/conditions/storm-west.bdd.settings" # the ending is replaced, nothing is put behind it
-turned_down 'storm-west.bdd of list asks for settings, and storm-west.settings is no file in conditions that can be read'
+turned_down 'storm-west.bdd of list asks for settings, and storm-west.settings is no file in conditions that can be read' list conditions router "$made/none-stored"
+settle storm-west.bdd
+turned_down 'storm-west.bdd of list asks for settings, and there is no program' # where there is shrink alone
 cp "$stored/conditions/never.bdd" "$made/site/conditions/more.bdd"
 turned_down 'more.bdd of conditions is not in list'
 cp "$stored/conditions/chatter-north.block" "$made/site/conditions/.more.block"

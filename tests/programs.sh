@@ -1,5 +1,5 @@
 #!/usr/bin/env bash
-# Runs the built programs weigh, shrink, convert, differ and settings on the cases of tests/programs (made by tests/program_cases.py) and compares
+# Runs the built programs weigh, shrink, convert, differ, settings and shrink_stored on the cases of tests/programs (made by tests/program_cases.py) and compares
 # standard output and standard error, byte by byte. Argument: the folder of the programs.
 set -u
 programs=$(cd "${1:-target/bin}" && pwd) || exit 2
@@ -51,7 +51,7 @@ for call in settings-??.call; do
     for input in D.block dead.block wide.block D.nodes dead.nodes refused-52.nodes; do
         case $input in *.nodes) form=(nodes) ;; *) form=() ;; esac
         "$programs/shrink" "${form[@]}" "${words[@]:1}" < "$input" > "$made/out" 2> "$made/err"
-        "$programs/shrink" "${form[@]}" settings "$name.out" < "$input" > "$made/stored" 2> "$made/said"
+        "$programs/shrink_stored" "${form[@]}" settings "$name.out" < "$input" > "$made/stored" 2> "$made/said"
         if cmp -s "$made/out" "$made/stored" && cmp -s "$made/err" "$made/said" && [ -s "$made/said" ]; then
             passed=$((passed + 1))
         else
@@ -78,7 +78,7 @@ else
     echo "programs: an input that comes in pieces is not the same as in one"
 fi
 { head -c 7; sleep 0.1; cat; } < v2-keep-size-4-as-is.settings | "$programs/settings" show > "$made/out" 2> "$made/err"
-{ head -c 7 v2-keep-size-4-as-is.settings; sleep 0.1; tail -c +8 v2-keep-size-4-as-is.settings; } | "$programs/shrink" settings /dev/fd/3 3<&0 < D.block > "$made/stored" 2> "$made/said"
+{ head -c 7 v2-keep-size-4-as-is.settings; sleep 0.1; tail -c +8 v2-keep-size-4-as-is.settings; } | "$programs/shrink_stored" settings /dev/fd/3 3<&0 < D.block > "$made/stored" 2> "$made/said"
 "$programs/shrink" keep size 4 as-is < D.block > "$made/whole" 2>> "$made/err"
 if [ "$(cat "$made/out")" = "keep size 4 as-is" ] && cmp -s <(echo "version 2"; cat "$made/said") "$made/err" && [ -s "$made/whole" ] && cmp -s "$made/stored" "$made/whole"; then
     passed=$((passed + 1))
@@ -88,8 +88,8 @@ else
 fi
 # Words that ask for nothing are answered without waiting for an input: here none ever comes. So are a settings file that is not there or is refused.
 mkfifo "$made/never" || exit 2
-for call in 'settings' 'settings keep' 'settings keep count 6' 'settings show show' 'shrink settings' 'shrink settings missing' 'shrink nodes settings missing' 'shrink settings damaged.settings' 'shrink nodes settings version-3.settings' \
-    'shrink settings damaged.settings keep' 'shrink' 'shrink keep count 6' 'shrink keep' 'shrink nodes' 'shrink nodes keep count 6' 'shrink keep nodes size 4' 'weigh blocks' 'weigh nodes nodes' 'convert' 'convert blocks' 'differ' 'differ nodes'; do
+for call in 'settings' 'settings keep' 'settings keep count 6' 'settings show show' 'shrink_stored settings' 'shrink_stored settings missing' 'shrink_stored nodes settings missing' 'shrink_stored settings damaged.settings' 'shrink_stored nodes settings version-3.settings' \
+    'shrink_stored settings damaged.settings keep' 'shrink' 'shrink keep count 6' 'shrink keep' 'shrink nodes' 'shrink nodes keep count 6' 'shrink keep nodes size 4' 'weigh blocks' 'weigh nodes nodes' 'convert' 'convert blocks' 'differ' 'differ nodes'; do
     # shellcheck disable=SC2086
     timeout 5 "$programs/"$call <> "$made/never" > "$made/out" 2> "$made/err"
     if [ ! -s "$made/out" ] && [ -s "$made/err" ]; then
@@ -121,7 +121,7 @@ if [ -r /dev/zero ]; then
 fi
 if [ -r /dev/zero ]; then
     timeout 5 "$programs/settings" show < /dev/zero > "$made/out" 2>&1
-    timeout 5 "$programs/shrink" settings /dev/zero < D.block >> "$made/out" 2>&1
+    timeout 5 "$programs/shrink_stored" settings /dev/zero < D.block >> "$made/out" 2>&1
     if [ "$(cut -d : -f 1,2 "$made/out")" = $'refused 21 at 0: a block is short or missing, or bytes stand after the last one\nsettings file: refused 21 at 0' ]; then
         passed=$((passed + 1))
     else
@@ -161,7 +161,7 @@ fi
 # Where standard output takes nothing, the one line that says so.
 if [ -w /dev/full ]; then
     for case in 'D.block weigh' 'D.block shrink keep size 4' 'D.block convert blocks to nodes' 'D.bdd weigh nodes' 'D.bdd shrink nodes keep size 4' 'D.bdd convert nodes to blocks' 'D.block differ D.block cut.block' 'D.bdd differ nodes D.nodes cut.nodes' \
-        'D.block settings keep size 4' 'pump-trips.settings settings show' 'D.block shrink settings v1-keep-size-4.settings' 'D.bdd shrink nodes settings v1-keep-size-4.settings'; do
+        'D.block settings keep size 4' 'pump-trips.settings settings show' 'D.block shrink_stored settings v1-keep-size-4.settings' 'D.bdd shrink_stored nodes settings v1-keep-size-4.settings'; do
         call=${case#* }
         # shellcheck disable=SC2086
         "$programs/"$call < "../../examples/${case%% *}" > /dev/full 2> "$made/err"

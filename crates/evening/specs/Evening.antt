@@ -1,4 +1,4 @@
--- `shrink settings FILE`: `f` is the bytes of that file, `found` whether it could be read, `s` the bytes of standard input.
+-- `shrink_stored settings FILE`: `f` is the bytes of that file, `found` whether it could be read, `s` the bytes of standard input.
 use Rattle.std.specs.Prelude.{ℕ, Bool, true, false, cond, ◌&&◌, List, ◌++◌, eqb}
 use Rattle.writing.specs.Writing.{bytes}
 use Rattle.forms.specs.declared.Form.{Form}
@@ -30,7 +30,7 @@ if_kept form s lent (refused number place) = told (blamed_text number place)
 unfoldable pub settled : Form → Bool → List ℕ → List ℕ → ℕ → Done
 settled form found f s lent = cond found (if_kept form s lent (read_by newest f)) (told missing_text)
 
--- All words of `shrink`.
+-- All words of `shrink_stored`.
 unfoldable pub evening_done : ℕ → List ℕ → List ℕ → List ℕ → List ℕ → List ℕ → Bool → List ℕ → List ℕ → ℕ → Done
 evening_done count first second third fourth fifth found f s lent =
     cond (names_settings count first second)

@@ -33,7 +33,7 @@ pub record Evenings : Type 0 where
   -- a settings file that is not there or is refused writes no byte of a condition, whatever the input is
   pub no_file : (form : Form) (found : Bool) (f s : List ℕ) (lent : ℕ) → (found && is_kept (read_by newest f)) ≡ false → file_bytes (settled form found f s lent) ≡ []
   pub no_input : (form : Form) (found : Bool) (f s t : List ℕ) (lent : ℕ) → (found && is_kept (read_by newest f)) ≡ false → settled form found f s lent ≡ settled form found f t lent
-  -- all answers fit the buffers of `shrink`
+  -- all answers fit the buffers of `shrink_stored`
   pub file_fits : (count : ℕ) (first second third fourth fifth : List ℕ) (found : Bool) (f s : List ℕ) (lent : ℕ)
       → length (file_bytes (evening_done count first second third fourth fifth found f s lent)) ≤ file_buffer
   pub text_fits : (count : ℕ) (first second third fourth fifth : List ℕ) (found : Bool) (f s : List ℕ) (lent : ℕ)

@@ -39,7 +39,7 @@ version_text version = bytes "version " ++ decimal version ++ feed
 -- ---- what is said where nothing is stored or shown
 
 abbrev pub help_text : List ℕ
-help_text = bytes "settings keep size N > FILE   stores what shrink keep size N would do; shrink settings FILE does it\nsettings show < FILE          shows the words that are stored\nThe words are those of shrink: keep or suppress, size or cases or hex, a number, and as-is where it is wanted. A block of 512 bytes is written to standard output; version 1 unless it has as-is, which is in version 2 only.\n"
+help_text = bytes "settings keep size N > FILE   stores what shrink keep size N would do; shrink_stored settings FILE does it\nsettings show < FILE          shows the words that are stored\nThe words are those of shrink: keep or suppress, size or cases or hex, a number, and as-is where it is wanted. A block of 512 bytes is written to standard output; version 1 unless it has as-is, which is in version 2 only.\n"
 
 abbrev pub unknown_text : List ℕ
 unknown_text = bytes "settings: the words are keep or suppress, size or cases or hex, a number, and as-is where it is wanted; or show; settings alone prints its help\n"

@@ -1,4 +1,4 @@
-// All words of `shrink`: a settings file, or the words themselves.
+// All words of `shrink_stored`: a settings file, or the words themselves.
 ghost use Rattle.std.specs.Prelude.{◌≡◌, ◌&&◌, eqb, length};
 ghost use Rattle.writing.specs.Writing.{Wrote};
 ghost use Rattle.setting_blocks.specs.Settings.{newest, read_by};

@@ -19,7 +19,7 @@ fn say_help(text: &mut [u8]) -> Ends
     let end = write(
         text,
         0,
-        b"settings keep size N > FILE   stores what shrink keep size N would do; shrink settings FILE does it\nsettings show < FILE          shows the words that are stored\nThe words are those of shrink: keep or suppress, size or cases or hex, a number, and as-is where it is wanted. A block of 512 bytes is written to standard output; version 1 unless it has as-is, which is in version 2 only.\n",
+        b"settings keep size N > FILE   stores what shrink keep size N would do; shrink_stored settings FILE does it\nsettings show < FILE          shows the words that are stored\nThe words are those of shrink: keep or suppress, size or cases or hex, a number, and as-is where it is wanted. A block of 512 bytes is written to standard output; version 1 unless it has as-is, which is in version 2 only.\n",
     );
     Ends { file: 0, text: end }
 }
