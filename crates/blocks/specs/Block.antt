@@ -97,7 +97,7 @@ abbrev pub sealed : List ℕ → List ℕ
 sealed s = s ++ two_bytes (total s) ++ two_bytes (weighted 1 s)
 
 unfoldable pub block_of : ℕ → ℕ → List ℕ → List ℕ
-block_of nodes number w = sealed (front nodes number w)
+block_of nodes number w = front nodes number w ++ two_bytes (total (front nodes number w)) ++ two_bytes (weighted 1 (front nodes number w))
 
 -- every block but the last holds fifty nodes: so many does a block hold in a file of n
 abbrev pub here : ℕ → ℕ → ℕ

@@ -15,7 +15,7 @@ use Rattle.writing.proofs.Laws.{wrote_none}
 use Rattle.blocks.specs.Block.{block_bytes}
 use Rattle.request.specs.Request.{Aim, Meaning, help, unknown, which, cut, request_of, aim_of}
 use Rattle.request.specs.declared.Target.{Target}
-use Rattle.messages.specs.Texts.{refusal_text}
+use Rattle.messages.specs.Texts.{settings_refusal_text}
 use Rattle.setting_blocks.specs.Settings.{target_words, newest, block_of, Outcome, kept, refused, read_by, shown, Writes}
 use Rattle.setting_blocks.specs.declared.setting.Setting.{Setting}
 use Rattle.setting_blocks.specs.declared.setting.SettingRead.{SettingRead}
@@ -33,13 +33,13 @@ use Rattle.evening.specs.Storing.{cut_text, version_text, help_text, unknown_tex
 says : (t file text text' : List ℕ) {end text-end : ℕ} → (end ≡ 0) × Wrote t text 0 text' text-end → Files (saying t) file file text text' end text-end
 says t file text text' w = record { filed_left = rw w.0 (wrote_none file 0); text_said = w.1 }
 
-refused_shown : (o : Outcome) → (shown o).number ≢ 0 → if_shown o ≡ saying (refusal_text (shown o).number (shown o).place)
+refused_shown : (o : Outcome) → (shown o).number ≢ 0 → if_shown o ≡ saying (settings_refusal_text (shown o).number (shown o).place)
 unfolding if_shown
 refused_shown (kept version x) h = absurd (h refl)
 refused_shown (refused number place) h = refl
 
 module _ (f : List ℕ) {r : SettingRead} (e : r ≡ shown (read_by newest f)) {file text text' : List ℕ} {text-end : ℕ} where
-  pub shows_refused : r.number ≢ 0 → Wrote (refusal_text r.number r.place) text 0 text' text-end → Files (if_shown (read_by newest f)) file file text text' 0 text-end
+  pub shows_refused : r.number ≢ 0 → Wrote (settings_refusal_text r.number r.place) text 0 text' text-end → Files (if_shown (read_by newest f)) file file text text' 0 text-end
   shows_refused h w =
       let h' : (shown (read_by newest f)).number ≢ 0 = rw e at h in
       rw (refused_shown (read_by newest f) h') (says _ file text text' (refl, rw e at w))

@@ -14,7 +14,7 @@ use Rattle.forms.specs.declared.Form.{Form}
 use Rattle.text.specs.Digits.{decimal_digits}
 use Rattle.text.proofs.Numerals.{decimal_length}
 use Rattle.request.specs.Request.{Aim, nodes, cases, Meaning, help, unknown, which, cut, request_of, form_of, words_of}
-use Rattle.messages.proofs.Fitting.{refusal_length}
+use Rattle.messages.proofs.Fitting.{settings_refusal_length}
 use Rattle.shrinking.specs.Shrinking.{Done, told, done, file_bytes, text_bytes, file_buffer, text_buffer, Shrinks}
 use Rattle.shrinking.proofs.Fitting.{file_fits as done-file-fits, text_fits as done-text-fits, front_is_enough, ends_whole as done-ends-whole}
 use Rattle.setting_blocks.specs.Settings.{Outcome, kept, refused, read_by, newest}
@@ -30,7 +30,7 @@ use Rattle.evening.proofs.Settling.{setting_whole}
 
 blamed_fits : (number place : ℕ) → length (blamed_text number place) ≤ text_buffer
 unfolding blamed_text
-blamed_fits number place = simp length-append (omega (arith, refusal_length number place))
+blamed_fits number place = simp length-append (omega (arith, settings_refusal_length number place))
 
 -- What is true of all that words do, and of both texts about a settings file, is true of every answer.
 module _ (P : Done → Type 0) (first s : List ℕ) (lent : ℕ) (does : (m : Meaning) → P (done (form_of first) m s lent))
@@ -108,7 +108,7 @@ shown_fits : (o : Outcome) → Fits (if_shown o)
 unfolding if_shown meaning_of
 shown_fits (kept version x) =
     record { file_short = omega (arith, cut_length (eqb x.direction 1) (eqb x.as_is 1) (aim_in x)); text_short = omega (arith, version_length version) }
-shown_fits (refused number place) = record { file_short = omega arith; text_short = omega (arith, refusal_length number place) }
+shown_fits (refused number place) = record { file_short = omega arith; text_short = omega (arith, settings_refusal_length number place) }
 
 stored_fits : (m : Meaning) → Fits (stored m)
 unfolding stored

@@ -3,7 +3,7 @@ use Rattle.std.specs.Prelude.{ℕ, Bool, true, false, cond, ◌&&◌, List, ◌+
 use Rattle.writing.specs.Writing.{bytes}
 use Rattle.forms.specs.declared.Form.{Form}
 use Rattle.request.specs.Request.{alike, is_nodes, form_of, words_of}
-use Rattle.messages.specs.Texts.{refusal_text}
+use Rattle.messages.specs.Texts.{settings_refusal_text}
 use Rattle.shrinking.specs.Shrinking.{Done, told, done, looks}
 use Rattle.setting_blocks.specs.Settings.{Outcome, kept, refused, read_by, newest}
 use Rattle.evening.specs.Words.{meaning_of}
@@ -17,7 +17,7 @@ names_settings count first second = cond (is_nodes first) (eqb count 3 && is_set
 
 -- `settings file: refused 22 at 0: a check sum is wrong`
 unfoldable pub blamed_text : ℕ → ℕ → List ℕ
-blamed_text number place = bytes "settings file: " ++ refusal_text number place
+blamed_text number place = bytes "settings file: " ++ settings_refusal_text number place
 
 abbrev pub missing_text : List ℕ
 missing_text = bytes "settings file: can't be opened\n"

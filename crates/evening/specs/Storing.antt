@@ -4,7 +4,7 @@ use Rattle.writing.specs.Writing.{bytes, Wrote}
 use Rattle.text.specs.Digits.{decimal}
 use Rattle.report.specs.Report.{feed}
 use Rattle.request.specs.Request.{Aim, nodes, cases, Meaning, help, unknown, which, cut, alike, request_of}
-use Rattle.messages.specs.Texts.{refusal_text}
+use Rattle.messages.specs.Texts.{settings_refusal_text}
 use Rattle.setting_blocks.specs.Settings.{Outcome, kept, refused, read_by, newest, block_of}
 use Rattle.evening.specs.Words.{number_of, meaning_of, setting_of, version_of}
 
@@ -59,7 +59,7 @@ saying t = record { file = []; text = t }
 -- `show`
 unfoldable pub if_shown : Outcome → Filed
 if_shown (kept version x) = record { file = words_text (meaning_of x); text = version_text version }
-if_shown (refused number place) = saying (refusal_text number place)
+if_shown (refused number place) = saying (settings_refusal_text number place)
 
 -- by what the words mean
 unfoldable pub stored : Meaning → Filed

@@ -7,7 +7,7 @@ ghost use Rattle.evening.specs.Evening.{is_settings, names_settings, blamed_text
 
 use crate::words::target_of;
 use forms::Form;
-use messages::refusal::write_refusal;
+use messages::refusal::write_settings_refusal;
 use request::form::form_of;
 use request::words::same;
 use setting_blocks::read::read_settings;
@@ -39,7 +39,7 @@ fn blame(text: &mut [u8], number: u32, place: usize) -> Ends
     ensures { (result.file ≡ 0) × Wrote (blamed_text number place) text.old 0 text.new result.text }
 {
     let named = write(text, 0, b"settings file: ");
-    let end = write_refusal(text, named, number, place);
+    let end = write_settings_refusal(text, named, number, place);
     Ends { file: 0, text: end }
 }
 

@@ -5,7 +5,7 @@ ghost use Rattle.setting_blocks.specs.Settings.{newest, read_by};
 ghost use Rattle.evening.specs.Storing.{direction_word, aim_text, flag_word, cut_text, version_text, if_shown, Files};
 
 use crate::words::target_of;
-use messages::refusal::write_refusal;
+use messages::refusal::write_settings_refusal;
 use report::lines::write_number;
 use request::Target;
 use setting_blocks::read::read_settings;
@@ -65,7 +65,7 @@ pub(crate) fn show(settings: &[u8], file: &mut [u8], text: &mut [u8]) -> Ends
 {
     let read = read_settings(settings);
     if read.number != 0 {
-        let end = write_refusal(text, 0, read.number, read.place);
+        let end = write_settings_refusal(text, 0, read.number, read.place);
         return Ends { file: 0, text: end };
     }
     let setting = read.setting;

@@ -36,7 +36,6 @@ pub record Alone (number : ℕ) : Type 0 where
   pub of_diagram : Past 6 13 number
   pub of_target : Past 16 20 number
   pub of_blocks : Past 21 26 number
-  pub of_settings : Past 38 40 number
   pub of_node_file : Past 51 54 number
 
 before_all : (from to number : ℕ) → number < from → Past from to number
@@ -52,7 +51,6 @@ module _ (number : ℕ) where
     of_diagram = before_all 6 13 number h;
     of_target = before_all 16 20 number (omega arith);
     of_blocks = before_all 21 26 number (omega arith);
-    of_settings = before_all 38 40 number (omega arith);
     of_node_file = before_all 51 54 number (omega arith);
   }
 
@@ -61,7 +59,6 @@ module _ (number : ℕ) where
     of_diagram = behind_all 6 13 number l;
     of_target = before_all 16 20 number h;
     of_blocks = before_all 21 26 number (omega arith);
-    of_settings = before_all 38 40 number (omega arith);
     of_node_file = before_all 51 54 number (omega arith);
   }
 
@@ -70,25 +67,14 @@ module _ (number : ℕ) where
     of_diagram = behind_all 6 13 number (omega arith);
     of_target = behind_all 16 20 number l;
     of_blocks = before_all 21 26 number h;
-    of_settings = before_all 38 40 number (omega arith);
     of_node_file = before_all 51 54 number (omega arith);
   }
 
-  pub alone_fourth : 26 ≤ number → number < 38 → Alone number
+  pub alone_fourth : 26 ≤ number → number < 51 → Alone number
   alone_fourth l h = record {
     of_diagram = behind_all 6 13 number (omega arith);
     of_target = behind_all 16 20 number (omega arith);
     of_blocks = behind_all 21 26 number l;
-    of_settings = before_all 38 40 number h;
-    of_node_file = before_all 51 54 number (omega arith);
-  }
-
-  pub alone_fifth : 40 ≤ number → number < 51 → Alone number
-  alone_fifth l h = record {
-    of_diagram = behind_all 6 13 number (omega arith);
-    of_target = behind_all 16 20 number (omega arith);
-    of_blocks = behind_all 21 26 number (omega arith);
-    of_settings = behind_all 38 40 number l;
     of_node_file = before_all 51 54 number h;
   }
 
@@ -97,7 +83,6 @@ module _ (number : ℕ) where
     of_diagram = behind_all 6 13 number (omega arith);
     of_target = behind_all 16 20 number (omega arith);
     of_blocks = behind_all 21 26 number (omega arith);
-    of_settings = behind_all 38 40 number (omega arith);
     of_node_file = behind_all 51 54 number l;
   }
 
@@ -107,7 +92,6 @@ module _ (number : ℕ) where
       let diagram : (k : ℕ) → 6 ≤ k → k < 13 → eqb number k ≡ false = λ k l h. ne_eqb number k (a.of_diagram k l h) in
       let target : (k : ℕ) → 16 ≤ k → k < 20 → eqb number k ≡ false = λ k l h. ne_eqb number k (a.of_target k l h) in
       let blocks : (k : ℕ) → 21 ≤ k → k < 26 → eqb number k ≡ false = λ k l h. ne_eqb number k (a.of_blocks k l h) in
-      let settings : (k : ℕ) → 38 ≤ k → k < 40 → eqb number k ≡ false = λ k l h. ne_eqb number k (a.of_settings k l h) in
       let file : (k : ℕ) → 51 ≤ k → k < 54 → eqb number k ≡ false = λ k l h. ne_eqb number k (a.of_node_file k l h) in
       simp (
         ne_eqb number 4 four,
@@ -129,8 +113,6 @@ module _ (number : ℕ) where
         blocks 25 (omega arith) (omega arith),
         ne_eqb number 31 first,
         ne_eqb number 32 second,
-        settings 38 (omega arith) (omega arith),
-        settings 39 (omega arith) (omega arith),
         file 51 (omega arith) (omega arith),
         file 52 (omega arith) (omega arith),
         file 53 (omega arith) (omega arith),

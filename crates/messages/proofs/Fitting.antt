@@ -12,7 +12,7 @@ use Rattle.text.specs.Digits.{decimal_digits, hexadecimal_digits, decimal}
 use Rattle.text.proofs.Numerals.{decimal_length, hexadecimal_length}
 use Rattle.report.specs.Report.{refused_at}
 use Rattle.request.specs.Request.{Aim, nodes, cases}
-use Rattle.messages.specs.Texts.{subject, of_node, more_than, lent_pairs, pairs_phrase, phrase, refusal_text, twice, target_text, sizes_text, counts_text, change_text, trials_text}
+use Rattle.messages.specs.Texts.{subject, of_node, more_than, lent_pairs, pairs_phrase, phrase, refusal_text, twice, target_text, sizes_text, counts_text, change_text, trials_text, settings_phrase, settings_refusal_text}
 
 of_both_lem : (k : ℕ) (b : Bool) (x y : List ℕ) → length x ≤ k → length y ≤ k → length (cond b x y) ≤ k
 of_both_lem k true x y h g = h
@@ -52,12 +52,10 @@ phrase_length number =
     (of_both_lem (longest_sentence + decimal_digits) (eqb number 25) _ _ (omega (arith, more_length max_stored (bytes " nodes")))
     (of_both_lem (longest_sentence + decimal_digits) (eqb number 31) _ _ (omega arith)
     (of_both_lem (longest_sentence + decimal_digits) (eqb number 32) _ _ (omega (arith, pairs_length))
-    (of_both_lem (longest_sentence + decimal_digits) (eqb number 38) _ _ (omega arith)
-    (of_both_lem (longest_sentence + decimal_digits) (eqb number 39) _ _ (omega arith)
     (of_both_lem (longest_sentence + decimal_digits) (eqb number 51) _ _ (omega arith)
     (of_both_lem (longest_sentence + decimal_digits) (eqb number 52) _ _ (omega arith)
     (of_both_lem (longest_sentence + decimal_digits) (eqb number 53) _ _ (omega (arith, more_length max_nodes (bytes " nodes")))
-    (omega arith))))))))))))))))))))))))
+    (omega arith))))))))))))))))))))))
 
 subject_length : (number place : ℕ) → length (subject number place) ≤ 6 + decimal_digits
 unfolding subject
@@ -68,6 +66,18 @@ pub refusal_length : (number place : ℕ) → length (refusal_text number place)
 unfolding refusal_text refused_at
 refusal_length number place =
     simp length-append (omega (arith, decimal_length number, decimal_length place, subject_length number place, phrase_length number))
+
+settings_phrase_length : (number : ℕ) → length (settings_phrase number) ≤ longest_sentence + decimal_digits
+unfolding settings_phrase
+settings_phrase_length number =
+    of_both_lem (longest_sentence + decimal_digits) (eqb number 38) _ _ (omega arith)
+    (of_both_lem (longest_sentence + decimal_digits) (eqb number 39) _ _ (omega arith)
+    (phrase_length number))
+
+pub settings_refusal_length : (number place : ℕ) → length (settings_refusal_text number place) ≤ 21 + longest_sentence + 4 * decimal_digits
+unfolding settings_refusal_text refused_at
+settings_refusal_length number place =
+    simp length-append (omega (arith, decimal_length number, decimal_length place, subject_length number place, settings_phrase_length number))
 
 pub twice_length : (label : List ℕ) (n : ℕ) (middle : List ℕ) → length (twice label n middle) ≤ length label + length middle + 1 + decimal_digits + hexadecimal_digits
 unfolding twice

@@ -10,10 +10,10 @@ use Rattle.request.specs.Request.{Aim, nodes, cases}
 -- ---- words that ask for no cut
 
 abbrev pub help_text : List ℕ
-help_text = bytes "shrink keep size N       at most N nodes: cases are added until it fits\nshrink keep cases N      at least N cases\nshrink keep hex N        at least N cases, N in hexadecimal as weigh prints it\nshrink suppress size N   at most N nodes: cases are lost until it fits\nshrink suppress cases N  at most N cases\nshrink suppress hex N    at most N cases, N in hexadecimal as weigh prints it\nshrink settings FILE     what the words would do that settings .. > FILE has stored\nA condition that fits already loses no case and gains none, and comes out in the fewest nodes; as-is after N leaves its nodes as they are.\nReads a block file on standard input and writes it cut to fit to standard output, the summary to standard error; shrink nodes .. does the same with a node file, of up to 4096 nodes.\nkeep only adds cases, suppress only loses them. Numbers are decimal but for hex, with no zeros in front.\n"
+help_text = bytes "shrink keep size N       at most N nodes: cases are added until it fits\nshrink keep cases N      at least N cases\nshrink keep hex N        at least N cases, N in hexadecimal as weigh prints it\nshrink suppress size N   at most N nodes: cases are lost until it fits\nshrink suppress cases N  at most N cases\nshrink suppress hex N    at most N cases, N in hexadecimal as weigh prints it\nA condition that fits already loses no case and gains none, and comes out in the fewest nodes; as-is after N leaves its nodes as they are.\nReads a block file on standard input and writes it cut to fit to standard output, the summary to standard error; shrink nodes .. does the same with a node file, of up to 4096 nodes.\nkeep only adds cases, suppress only loses them. Numbers are decimal but for hex, with no zeros in front.\n"
 
 abbrev pub unknown_text : List ℕ
-unknown_text = bytes "shrink: the words are nodes where it is a node file, keep or suppress, size or cases or hex, a number, and as-is where it is wanted, or settings and the name of a file; shrink alone prints its help\n"
+unknown_text = bytes "shrink: the words are nodes where it is a node file, keep or suppress, size or cases or hex, a number, and as-is where it is wanted; shrink alone prints its help\n"
 
 abbrev pub which_text : List ℕ
 which_text = bytes "shrink: count does not say which base its number is in: write cases for decimal, hex for hexadecimal\n"
@@ -60,15 +60,23 @@ phrase number =
     (cond (eqb number 25) (more_than max_stored (bytes " nodes"))
     (cond (eqb number 31) (bytes "the two conditions don't have the same number of variables")
     (cond (eqb number 32) pairs_phrase
-    (cond (eqb number 38) (bytes "the version is not known")
-    (cond (eqb number 39) (bytes "a field is out of its range")
     (cond (eqb number 51) (bytes "the file is empty")
     (cond (eqb number 52) (bytes "the length of the file is not a multiple of ten bytes")
     (cond (eqb number 53) (more_than max_nodes (bytes " nodes"))
-    (bytes "the input is refused"))))))))))))))))))))))))
+    (bytes "the input is refused"))))))))))))))))))))))
 
 unfoldable pub refusal_text : ℕ → ℕ → List ℕ
 refusal_text number place = refused_at number place ++ bytes ": " ++ subject number place ++ phrase number ++ feed
+
+-- what is said of a settings file, which has two refusals of its own
+unfoldable pub settings_phrase : ℕ → List ℕ
+settings_phrase number =
+    cond (eqb number 38) (bytes "the version is not known")
+    (cond (eqb number 39) (bytes "a field is out of its range")
+    (phrase number))
+
+unfoldable pub settings_refusal_text : ℕ → ℕ → List ℕ
+settings_refusal_text number place = refused_at number place ++ bytes ": " ++ subject number place ++ settings_phrase number ++ feed
 
 -- ---- the summary, a fact a line
 

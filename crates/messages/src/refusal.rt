@@ -1,7 +1,7 @@
 // The line of a refusal: `refused 22 at 0: a check sum is wrong`.
 ghost use Rattle.std.specs.Prelude.{◌≡◌, ◌≤◌};
 ghost use Rattle.writing.specs.Writing.{Wrote};
-ghost use Rattle.messages.specs.Texts.{of_node, subject, more_than, pairs_phrase, phrase, refusal_text};
+ghost use Rattle.messages.specs.Texts.{of_node, subject, more_than, pairs_phrase, phrase, refusal_text, settings_phrase, settings_refusal_text};
 
 use blocks::layout::MOST;
 use diagram::limits::{MAX_NODES, MAX_VARIABLES};
@@ -141,17 +141,6 @@ fn write_of_node_file(out: &mut [u8], at: usize, number: u32) -> usize
     }
 }
 
-// A settings file.
-fn write_of_settings(out: &mut [u8], at: usize, number: u32) -> usize
-    requires { (38 ≤ number) × (number ≤ 39) }
-    ensures { Wrote (phrase number) out.old at out.new result }
-{
-    match number {
-        38 => write(out, at, b"the version is not known"),
-        _ => write(out, at, b"a field is out of its range"),
-    }
-}
-
 fn write_phrase(out: &mut [u8], at: usize, number: u32) -> usize
     ensures { Wrote (phrase number) out.old at out.new result }
 {
@@ -166,7 +155,6 @@ fn write_phrase(out: &mut [u8], at: usize, number: u32) -> usize
             b"the two conditions don't have the same number of variables",
         ),
         32 => write_pairs(out, at),
-        38..=39 => write_of_settings(out, at, number),
         51..=53 => write_of_node_file(out, at, number),
         _ => write(out, at, b"the input is refused"),
     }
@@ -179,5 +167,27 @@ pub fn write_refusal(out: &mut [u8], at: usize, number: u32, place: usize) -> us
     let colon = write(out, refused, b": ");
     let of = write_subject(out, colon, number, place);
     let said = write_phrase(out, of, number);
+    put(out, said, 10)
+}
+
+// What a settings file is refused for: two numbers are its own.
+fn write_settings_phrase(out: &mut [u8], at: usize, number: u32) -> usize
+    ensures { Wrote (settings_phrase number) out.old at out.new result }
+{
+    match number {
+        38 => write(out, at, b"the version is not known"),
+        39 => write(out, at, b"a field is out of its range"),
+        _ => write_phrase(out, at, number),
+    }
+}
+
+// The line of a refusal of a settings file.
+pub fn write_settings_refusal(out: &mut [u8], at: usize, number: u32, place: usize) -> usize
+    ensures { Wrote (settings_refusal_text number place) out.old at out.new result }
+{
+    let refused = write_refused(out, at, number, place);
+    let colon = write(out, refused, b": ");
+    let of = write_subject(out, colon, number, place);
+    let said = write_settings_phrase(out, of, number);
     put(out, said, 10)
 }

@@ -10,7 +10,7 @@ pub fn write_help(out: &mut [u8]) -> usize
     write(
         out,
         0,
-        b"shrink keep size N       at most N nodes: cases are added until it fits\nshrink keep cases N      at least N cases\nshrink keep hex N        at least N cases, N in hexadecimal as weigh prints it\nshrink suppress size N   at most N nodes: cases are lost until it fits\nshrink suppress cases N  at most N cases\nshrink suppress hex N    at most N cases, N in hexadecimal as weigh prints it\nshrink settings FILE     what the words would do that settings .. > FILE has stored\nA condition that fits already loses no case and gains none, and comes out in the fewest nodes; as-is after N leaves its nodes as they are.\nReads a block file on standard input and writes it cut to fit to standard output, the summary to standard error; shrink nodes .. does the same with a node file, of up to 4096 nodes.\nkeep only adds cases, suppress only loses them. Numbers are decimal but for hex, with no zeros in front.\n",
+        b"shrink keep size N       at most N nodes: cases are added until it fits\nshrink keep cases N      at least N cases\nshrink keep hex N        at least N cases, N in hexadecimal as weigh prints it\nshrink suppress size N   at most N nodes: cases are lost until it fits\nshrink suppress cases N  at most N cases\nshrink suppress hex N    at most N cases, N in hexadecimal as weigh prints it\nA condition that fits already loses no case and gains none, and comes out in the fewest nodes; as-is after N leaves its nodes as they are.\nReads a block file on standard input and writes it cut to fit to standard output, the summary to standard error; shrink nodes .. does the same with a node file, of up to 4096 nodes.\nkeep only adds cases, suppress only loses them. Numbers are decimal but for hex, with no zeros in front.\n",
     )
 }
 
@@ -20,7 +20,7 @@ pub fn write_unknown(out: &mut [u8]) -> usize
     write(
         out,
         0,
-        b"shrink: the words are nodes where it is a node file, keep or suppress, size or cases or hex, a number, and as-is where it is wanted, or settings and the name of a file; shrink alone prints its help\n",
+        b"shrink: the words are nodes where it is a node file, keep or suppress, size or cases or hex, a number, and as-is where it is wanted; shrink alone prints its help\n",
     )
 }
 

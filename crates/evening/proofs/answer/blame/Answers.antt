@@ -5,4 +5,4 @@ use Rattle.evening.proofs.answer.blame.Goals as goal
 
 pub returns : goal.returns
 unfolding blamed_text
-returns c = (refl, wrote_then c.write-named.ensures c.write_refusal-end.ensures)
+returns c = (refl, wrote_then c.write-named.ensures c.write_settings_refusal-end.ensures)
