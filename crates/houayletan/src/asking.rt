@@ -65,11 +65,7 @@ pub fn houayletan_size_per_variable_3(
 }
 
 // The diagram that holds exactly where this one doesn't.
-pub fn houayletan_not_3(
-    words: &[u32],
-    room: &mut [u32],
-    output: &mut [u32],
-) -> HouayletanDiagram
+pub fn houayletan_not_3(words: &[u32], room: &mut [u32], output: &mut [u32]) -> HouayletanDiagram
     ensures { FlatDiagram (Negates words.now room.old room.new output.old output.new) result }
 {
     let made = not(words, room, output);

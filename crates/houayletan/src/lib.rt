@@ -2,6 +2,7 @@
 // include/houayletan.h declares the same for C. The names end in the number that its HOUAYLETAN_LINKED puts there, so that what was
 // compiled against an older header does not link.
 #![tactic(auto)]
+
 pub mod asking;
 pub mod comparing;
 pub mod cutting;
@@ -46,10 +47,7 @@ pub fn houayletan_exact_cardinality_3(words: &[u32], room: &mut [u32]) -> Houayl
 }
 
 // How many paths lead from the root to node 1.
-pub fn houayletan_exact_clause_cardinality_3(
-    words: &[u32],
-    room: &mut [u32],
-) -> HouayletanCount
+pub fn houayletan_exact_clause_cardinality_3(words: &[u32], room: &mut [u32]) -> HouayletanCount
     ensures { FlatCount (Counts words.now (path_count_of words.now) room.old room.new) result }
 {
     flat_count(exact_clause_cardinality(words, room))
@@ -85,11 +83,7 @@ pub fn houayletan_node_valuation_weights_3(
 }
 
 // The reduced diagram of the same function.
-pub fn houayletan_reduce_3(
-    words: &[u32],
-    room: &mut [u32],
-    output: &mut [u32],
-) -> HouayletanDiagram
+pub fn houayletan_reduce_3(words: &[u32], room: &mut [u32], output: &mut [u32]) -> HouayletanDiagram
     ensures { FlatDiagram (Reduces words.now room.old room.new output.old output.new) result }
 {
     flat_diagram(reduce(words, room, output))

@@ -2,6 +2,7 @@
 // include/houayletan.h declares the same for C. The names end in the number that its HOUAYLETAN_LINKED puts there, so that what was
 // compiled against an older header does not link.
 #![tactic(auto)]
+
 pub mod asking;
 pub mod comparing;
 pub mod cutting;

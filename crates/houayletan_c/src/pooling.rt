@@ -5,8 +5,8 @@ ghost use Rattle.summary_row.specs.Row.{words_of};
 ghost use Rattle.flat.specs.Flat.{Flat};
 
 use flat::HouayletanVerdict;
-use summary_row::Signal;
 use houayletan::pooling as called;
+use summary_row::Signal;
 
 // Puts a condition in an empty slot. Accepted, the verdict has the number of the nodes in use afterwards.
 #[unsafe(no_mangle)]

@@ -2,8 +2,8 @@
 ghost use Rattle.std.specs.Prelude.{◌≡◌};
 ghost use Rattle.setting_blocks.specs.Settings.{newest, read_by, shown, Writes};
 
-use setting_blocks::setting::{Setting, SettingRead, SettingWritten};
 use houayletan::settling as called;
+use setting_blocks::setting::{Setting, SettingRead, SettingWritten};
 
 // What is stored in a block of any version.
 #[unsafe(no_mangle)]

@@ -1,0 +1,6 @@
+use Rattle.list_cuts.specs.Approximates.{Approximates}
+use Rattle.houayletan.proofs.Flattening.{flat_diagram}
+use Rattle.houayletan.proofs.cutting.houayletan_overapproximate_3.Goals as goal
+
+pub returns : goal.returns
+returns c = flat_diagram (Approximates _ _ _ _ _ _ _) c.overapproximate.ensures _ c.flat_cut.ensures
