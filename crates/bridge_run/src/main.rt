@@ -2,25 +2,18 @@
 // of the verdict, then the value. Then a cut to a size that is met, x1 under a root with low = high: reduced, and as it is. Then a
 // refusal: two nodes of which the second is no terminal. Then D beside x2, in a table for their seven pairs and in one for six; and the
 // two words that are no diagram in second place. Then node files: a variable is too wide, and the bytes read as they were; D, there and
-// back; and a byte is missing. Then settings of version 2, read by both readers; in version 1 their flag is refused, and the block reads as it
-// was; without it they are written; and there are no bytes at all.
+// back; and a byte is missing.
 #![tactic(auto)]
 
-use blocks::layout::BLOCK;
 use diagram::limits::ROOM_PER_NODE;
 use diagram::node::word;
 use flat::{HouayletanComparison, HouayletanStored, HouayletanVerdict};
 use houayletan::asking::houayletan_is_false_3;
 use houayletan::comparing::houayletan_compare_3;
 use houayletan::cutting::{houayletan_overapproximate_3, houayletan_underapproximate_to_size_3};
-use houayletan::settling::{
-    houayletan_read_settings_3, houayletan_read_settings_v1_3, houayletan_write_settings_3,
-};
 use houayletan::storing::{houayletan_read_as_bytes_3, houayletan_write_as_bytes_3};
 use houayletan::{houayletan_exact_cardinality_3, houayletan_validate_3};
 use pairs::table::PAIR_WORDS;
-use setting_blocks::layout::TARGET_WORDS;
-use setting_blocks::setting::{Setting, SettingRead};
 
 // The number of standard output.
 const STDOUT: i32 = 1;
@@ -143,48 +136,6 @@ fn files(words: &[u32]) {
     fetch(&short, &mut output);
 }
 
-fn say_read(read: SettingRead) {
-    let setting = read.setting;
-    let target = setting.target;
-    say(b"number ", read.number as u64);
-    say(b" place ", read.place as u64);
-    say(b" version ", read.version as u64);
-    say(b", direction ", setting.direction as u64);
-    say(b", kind ", setting.kind as u64);
-    say(b", as_is ", setting.as_is as u64);
-    say_count(b", target ", target);
-    end_line();
-}
-
-fn recall(block: &[u8]) {
-    say_read(houayletan_read_settings_3(block));
-    say_read(houayletan_read_settings_v1_3(block));
-}
-
-fn settle(version: u32, as_is: u32, block: &mut [u8]) {
-    let setting = Setting {
-        direction: 1,
-        kind: 1,
-        as_is,
-        target: [5; TARGET_WORDS],
-    };
-    let written = houayletan_write_settings_3(version, setting, block);
-    say(b"number ", written.number as u64);
-    say(b" place ", written.place as u64);
-    say(b" bytes ", written.bytes as u64);
-    end_line();
-    recall(block);
-}
-
-fn settings() {
-    let mut block = [9u8; BLOCK];
-    settle(2, 1, &mut block);
-    settle(1, 1, &mut block);
-    settle(1, 0, &mut block);
-    let none = [9u8; 0];
-    recall(&none);
-}
-
 fn main() {
     let words = [3u32, 0, 0, 3, 1, 1, 2, 0, 1, 1, 2, 1, 0, 2, 3];
     let mut room = [7u32; 5 * ROOM_PER_NODE];
@@ -203,5 +154,4 @@ fn main() {
     compare_in(&words, &last, &mut room);
     compare_in(&words, &other, &mut room);
     files(&words);
-    settings();
 }
