@@ -23,7 +23,7 @@ PROMISES = "docs/PROMISES.md"
 EXPORTS = "crates/houayletan_c/src/*.rt"
 FUNCTIONS = [
     ("block_file", "read_file"), ("block_file", "write_file"), ("block_reading", "read_block"), ("report", "report"),
-    ("shrinking", "answer"), ("shrink_program", "run_program"), ("evening", "answer_evening"), ("evening", "store"),
+    ("shrinking", "answer"), ("shrink_program", "run_program"), ("evening_program", "run_program"), ("evening", "answer_evening"), ("evening", "store"),
 ]
 NAME = re.compile(r"[^\s(){}\[\],;:«»λ.]+")
 amiss = []
