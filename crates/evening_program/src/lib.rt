@@ -47,7 +47,10 @@ fn show(channel: i32, bytes: &[u8], end: usize) -> bool {
 // The summary says what was cut, so it is given only where the file is.
 fn deliver(file: &[u8], text: &[u8], ends: Ends) {
     if !show(STDOUT, file, ends.file) {
-        io::write_all(STDERR, b"shrink_stored: standard output could not be written\n");
+        io::write_all(
+            STDERR,
+            b"shrink_stored: standard output could not be written\n",
+        );
         return;
     }
     show(STDERR, text, ends.text);
