@@ -1,6 +1,6 @@
 // A site's conditions in one table of nodes, with a summary beside it: a lent row of structures, one for each signal.
-// What holds the row is proved by a walk of its code by hand. So it only copies the first records to local words, calls a covered function
-// with these, and copies back those that have changed.
+// What holds the row only copies the first records to local words, calls a function over words with these, and copies back those that have
+// changed.
 ghost use Rattle.std.specs.Prelude.{◌≡◌, min, ◌*◌, ◌≤◌, length};
 ghost use Rattle.diagram.specs.Limits.{max_variables};
 ghost use Rattle.pool.specs.Answers.{Reads};

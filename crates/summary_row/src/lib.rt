@@ -1,5 +1,4 @@
-// The summary as a lent row of small structures, one for each signal, and its way to and from the plain words that the covered code works on.
-// A function that holds the row is proved by a walk of its code by hand, so there are few and each is small.
+// The summary as a lent row of small structures, one for each signal, and its way to and from the plain words that the other code works on.
 #![tactic(auto)]
 
 ghost use Rattle.std.specs.Prelude.{◌≡◌, ◌*◌, ◌≤◌, ◌++◌, length, take as taking, drop as dropping};
