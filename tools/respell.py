@@ -1,7 +1,7 @@
 #!/usr/bin/env python3
 """Brings this repository's own definitions, fields and lemmas to the spelling of today's Rattle, as tools/respelling.tsv lists them.
 
-usage: python3 tools/respell.py        once, at the top of the repository, after /opt/rattle/port/port.py
+usage: python3 tools/respell.py        once, at the top of the repository, after the toolchain's port/port.py
 
 Words of specs/ and proofs/, of clauses and `ghost use` items in src/, of must-fail edits, and in code spans of pages. A function of
 src/, a string, an input and an output keep their names. A lemma that fell together with a definition got `_lem`.
@@ -13,7 +13,8 @@ import sys
 
 HERE = os.path.dirname(os.path.realpath(__file__))
 TABLE = os.path.join(HERE, "respelling.tsv")
-SNAKE = "/opt/rattle/port/notes/2026-11-18-names-are-in-snake-case/snake.py"
+KIT = os.path.dirname(subprocess.run(["rt", "doc"], stdout=subprocess.PIPE, universal_newlines=True, check=True).stdout.strip())
+SNAKE = os.path.join(KIT, "port/notes/2026-11-18-names-are-in-snake-case/snake.py")
 WORD = re.compile(r"[^\s(){}.;,@\"«»\[\]`]+")
 
 with open(TABLE, encoding="utf-8") as f:
