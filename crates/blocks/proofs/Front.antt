@@ -39,6 +39,14 @@ wrote_sealed ex ey a b d =
     let t = wrote_then (wrote_then a b) d in
     rw (ex, ey) at t
 
-pub wrote_block : (n number : ℕ) (w : List ℕ) {part f₀ f₁ : List ℕ} {p₀ p₁ : ℕ} → part ≡ front n number w → Wrote (sealed part) f₀ p₀ f₁ p₁ → Wrote (block_of n number w) f₀ p₀ f₁ p₁
+pub wrote_block : (n number : ℕ) (w : List ℕ) {part f₀ f₁ f₂ f₃ : List ℕ} {p₀ p₁ p₂ p₃ x y : ℕ} → part ≡ front n number w
+    → x ≡ total part → y ≡ weighted 1 part
+    → Wrote part f₀ p₀ f₁ p₁ → Wrote (two_bytes x) f₁ p₁ f₂ p₂ → Wrote (two_bytes y) f₂ p₂ f₃ p₃ → Wrote (block_of n number w) f₀ p₀ f₃ p₃
 unfolding block_of
-wrote_block n number w e a = rw e at a
+wrote_block n number w e ex ey a b d =
+    let t = wrote_then (wrote_then a b) d in
+    rw (ex, ey, e) at t
+
+pub wrote_block_sealed : (n number : ℕ) (w : List ℕ) {part f₀ f₁ : List ℕ} {p₀ p₁ : ℕ} → part ≡ front n number w → Wrote (sealed part) f₀ p₀ f₁ p₁ → Wrote (block_of n number w) f₀ p₀ f₁ p₁
+unfolding block_of
+wrote_block_sealed n number w e a = rw e at a

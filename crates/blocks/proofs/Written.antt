@@ -9,7 +9,7 @@ use lib.Seq.{take_at, drop_at, drop-drop, get_or-drop}
 use lib.Dec.{eqb}
 use borrow.Author.Tests.{eq-eqb, ne_eqb, lt-ltb}
 use Rattle.diagram.specs.Diagram.{var_of}
-use Rattle.blocks.specs.Block.{two, four, two_bytes, four_bytes, nodes_bytes, nodes_at, nodes_in, total, weighted, front, sealed, block_of, here, unused, sums_right, counts_right, block_outcome, nodes, block_bytes, block_words, summed, byte_span, max_stored, pair_span}
+use Rattle.blocks.specs.Block.{two, four, two_bytes, four_bytes, nodes_bytes, nodes_at, nodes_in, total, weighted, front, sealed, block_of, here, unused, sums_right, counts_right, block_outcome, nodes, block_bytes, block_words, summed as summed_bytes, byte_span, max_stored, pair_span}
 use Rattle.blocks.proofs.Testing.{taken}
 use Rattle.blocks.proofs.Front.{nodes_length, front_length, block_length}
 
@@ -89,15 +89,15 @@ module _ (f r : List ℕ) where
       append_assoc (f ++ two_bytes (total f)) (two_bytes (weighted 1 f)) r
       ∙ append_assoc f (two_bytes (total f)) (two_bytes (weighted 1 f) ++ r)
 
-  pub sums_sealed : length f ≡ summed → sums_right (sealed f ++ r) ≡ true
+  pub sums_sealed : length f ≡ summed_bytes → sums_right (sealed f ++ r) ≡ true
   unfolding sums_right
   sums_sealed long =
-      let front-taken : take summed (sealed f ++ r) ≡ f = ap (take summed) sealed_first ∙ take_at f (two_bytes (total f) ++ (two_bytes (weighted 1 f) ++ r)) summed long in
-      let sum : drop summed (sealed f ++ r) ≡ two_bytes (total f) ++ (two_bytes (weighted 1 f) ++ r) = at_next (sealed f ++ r) 0 summed f sealed_first long in
-      let sum-weighted : drop (summed + 2) (sealed f ++ r) ≡ two_bytes (weighted 1 f) ++ r = at_next (sealed f ++ r) summed 2 (two_bytes (total f)) sum refl in
+      let front-taken : take summed_bytes (sealed f ++ r) ≡ f = ap (take summed_bytes) sealed_first ∙ take_at f (two_bytes (total f) ++ (two_bytes (weighted 1 f) ++ r)) summed_bytes long in
+      let sum : drop summed_bytes (sealed f ++ r) ≡ two_bytes (total f) ++ (two_bytes (weighted 1 f) ++ r) = at_next (sealed f ++ r) 0 summed_bytes f sealed_first long in
+      let sum-weighted : drop (summed_bytes + 2) (sealed f ++ r) ≡ two_bytes (weighted 1 f) ++ r = at_next (sealed f ++ r) summed_bytes 2 (two_bytes (total f)) sum refl in
       both _ _
-      (eq-eqb _ _ (two_at (sealed f ++ r) summed (total f) sum ∙ rw front-taken))
-      (eq-eqb _ _ (two_at (sealed f ++ r) (summed + 2) (weighted 1 f) sum-weighted ∙ rw front-taken))
+      (eq-eqb _ _ (two_at (sealed f ++ r) summed_bytes (total f) sum ∙ rw front-taken))
+      (eq-eqb _ _ (two_at (sealed f ++ r) (summed_bytes + 2) (weighted 1 f) sum-weighted ∙ rw front-taken))
 
 -- ---- a block and what follows it
 
@@ -127,6 +127,9 @@ module _ (n number : ℕ) (w r : List ℕ) (held : ℕ) (whole : length w ≡ 3 
   front_long : length (front n number w) ≡ 508
   front_long = front_length n number w short
 
+  summed : take 508 bytes ≡ front n number w
+  summed = ap (take 508) front_first ∙ take_at (front n number w) sums 508 front_long
+
   -- field by field
   from_2 : drop 2 bytes ≡ two_bytes held ++ (nodes_bytes w ++ (replicate (500 - 10 * held) 0 ++ (four_bytes n ++ sums)))
   from_2 = at_next bytes 0 2 (two_bytes number) all_parts refl
@@ -141,6 +144,12 @@ module _ (n number : ℕ) (w r : List ℕ) (held : ℕ) (whole : length w ≡ 3 
   from_504 =
       let e : 4 + 10 * held + (500 - 10 * held) ≡ 504 = omega arith in
       rw e at (at_next bytes (4 + 10 * held) (500 - 10 * held) (replicate (500 - 10 * held) 0) from_zeros (length-replicate (500 - 10 * held) 0))
+
+  from_508 : drop 508 bytes ≡ sums
+  from_508 = at_next bytes 504 4 (four_bytes n) from_504 refl
+
+  from_510 : drop 510 bytes ≡ two_bytes (weighted 1 (front n number w)) ++ r
+  from_510 = at_next bytes 508 2 (two_bytes (total (front n number w))) from_508 refl
 
   numbered : two bytes 0 ≡ number
   numbered = two_is bytes 0 number (omega arith) all_parts
@@ -162,8 +171,11 @@ module _ (n number : ℕ) (w r : List ℕ) (held : ℕ) (whole : length w ≡ 3 
       rw (held_back, e, t) (zeros_total (500 - 10 * held))
 
   sums_back : sums_right bytes ≡ true
-  unfolding block_of
-  sums_back = sums_sealed (front n number w) r front_long
+  unfolding sums_right
+  sums_back =
+      both _ _
+      (eq-eqb _ _ (two_at bytes 508 (total (front n number w)) from_508 ∙ rw summed))
+      (eq-eqb _ _ (two_at bytes 510 (weighted 1 (front n number w)) from_510 ∙ rw summed))
 
   -- A later block states what the first one stated.
   module _ (stated : ℕ) (same : 0 < number → stated ≡ n) where

@@ -93,11 +93,12 @@ front nodes number w =
     ++ four_bytes nodes
 
 -- 508–509 the sum, 510–511 the weighted sum, both modulo 65,536, which two bytes are
-abbrev pub sealed : List ℕ → List ℕ
-sealed s = s ++ two_bytes (total s) ++ two_bytes (weighted 1 s)
-
 unfoldable pub block_of : ℕ → ℕ → List ℕ → List ℕ
 block_of nodes number w = front nodes number w ++ two_bytes (total (front nodes number w)) ++ two_bytes (weighted 1 (front nodes number w))
+
+-- bytes and behind them the two sums of them, as in a block
+abbrev pub sealed : List ℕ → List ℕ
+sealed s = s ++ two_bytes (total s) ++ two_bytes (weighted 1 s)
 
 -- every block but the last holds fifty nodes: so many does a block hold in a file of n
 abbrev pub here : ℕ → ℕ → ℕ

@@ -47,11 +47,15 @@ module _ {v : Verdict} where
       → (r : HouayletanDiagram) → (r.verdict ≡ flat_of (said v)) × (r.nodes ≡ nodes) → FlatDiagram promise r
   flat_diagram promise a r (e, f) = record { verdict = v; kept = rw f a; flat = e }
 
+  pub flat_target : (promise : Verdict → ℕ → ℕ → Type 0) {nodes trials : ℕ} → promise v nodes trials
+      → (r : HouayletanApproximation) → (r.verdict ≡ flat_of (said v)) × (r.nodes ≡ nodes) × (r.trials ≡ trials) → FlatTarget promise r
+  flat_target promise a r (e, f, g) = record { verdict = v; kept = rw (f, g) a; flat = e }
+
   -- the operation is asked with the flag that C's number is
-  pub flat_target : (promise : Bool → List ℕ → ℕ → List ℕ → List ℕ → List ℕ → List ℕ → Verdict → ℕ → ℕ → Type 0) {flag asked : Bool} {w : List ℕ} {target : ℕ} {room room' out out' : List ℕ} {nodes trials : ℕ}
+  pub flat_target_flagged : (promise : Bool → List ℕ → ℕ → List ℕ → List ℕ → List ℕ → List ℕ → Verdict → ℕ → ℕ → Type 0) {flag asked : Bool} {w : List ℕ} {target : ℕ} {room room' out out' : List ℕ} {nodes trials : ℕ}
       → promise flag w target room room' out out' v nodes trials → flag ≡ asked
       → (r : HouayletanApproximation) → (r.verdict ≡ flat_of (said v)) × (r.nodes ≡ nodes) × (r.trials ≡ trials) → FlatTarget (promise asked w target room room' out out') r
-  flat_target promise a same r (e, f, g) = record { verdict = v; kept = rw (f, g, sym same) a; flat = e }
+  flat_target_flagged promise a same r (e, f, g) = record { verdict = v; kept = rw (f, g, sym same) a; flat = e }
 
   -- a yes or a no as a number
   pub flat_answer : {w : List ℕ} {b told : Bool} {room room' : List ℕ} → Tells w b false room room' v told
