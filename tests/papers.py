@@ -220,7 +220,7 @@ def section(text, heading):
     return text.split(f"\n## {heading}\n")[1].split("\n## ")[0]
 
 
-ROW, CONSTANT = r"^\| (\d+) \| ", r"^pub const \w+: u32 = (\d+);$"
+ROW, VARIANT, NUMBER_OF = r"^\| (\d+) \| ", r"^    \w+ = (\d+),$", r"^number_of \w+ = (\d+)$"
 ruled, compared, pooled, stored, filed = (
     numbers(ROW, section(text_of(RULES), heading))
     for heading in ("Refusals", "Two diagrams compared", "A pool", "Refusals of block files", "Refusals of node files")
@@ -229,19 +229,18 @@ ruled, compared, pooled, stored, filed = (
 SETTINGS = "docs/SETTINGS.md"
 settled = numbers(ROW, section(text_of(SETTINGS), "Refusals"))
 own = ruled[:ruled.index(12) + 1]
+every = sorted(set(ruled + compared + pooled + stored + filed + settled))
 shown = ruled + compared + pooled + filed + [number for number in settled if number not in ruled]
 for path, found, said in [
-    ("crates/diagram/src/refusal.rt", sorted(numbers(CONSTANT, text_of("crates/diagram/src/refusal.rt"))), sorted(ruled + compared + pooled)),
+    ("crates/diagram/src/refusal.rt", sorted(numbers(VARIANT, text_of("crates/diagram/src/refusal.rt"))), every),
+    ("crates/diagram/specs/Refusal.antt", sorted(numbers(NUMBER_OF, text_of("crates/diagram/specs/Refusal.antt"))), every),
     ("crates/diagram/specs/Verdict.antt", numbers(r"\brow (\d+) ", text_of("crates/diagram/specs/Verdict.antt")), own),
     ("crates/comparison/specs/Comparison.antt", numbers(r"\brow (\d+) ", text_of("crates/comparison/specs/Comparison.antt")), compared),
     ("crates/pool/specs/Answers.antt", numbers(r"\brow (\d+) ", text_of("crates/pool/specs/Answers.antt")), pooled[3:] + pooled[:1] + [5, 4]),
     ("crates/summary/specs/Kept.antt", numbers(r"\brow (\d+) ", text_of("crates/summary/specs/Kept.antt")), pooled[:3]),
     ("include/houayletan.h", numbers(r"^ \*   {,2}(\d+)   ", text_of("include/houayletan.h")), shown),
     ("bindings/rust/src/refusal.rs", sorted(numbers(r"^            (\d+) => ", text_of("bindings/rust/src/refusal.rs"))), sorted(shown)),
-    ("crates/blocks/src/stored.rt", sorted(numbers(CONSTANT, text_of("crates/blocks/src/stored.rt"))), sorted(set(stored) - set(ruled))),
-    ("crates/node_file/src/layout.rt", sorted(numbers(CONSTANT, text_of("crates/node_file/src/layout.rt"))), sorted(filed)),
     ("crates/node_file/specs/NodeFile.antt", numbers(r"\brow (\d+) ", text_of("crates/node_file/specs/NodeFile.antt")), filed[:-1] + ruled[:2] + filed[-1:]),
-    ("crates/setting_blocks/src/layout.rt", numbers(r"^pub const (?!NEWEST|LARGEST_SIZE)\w+: u32 = (\d+);$", text_of("crates/setting_blocks/src/layout.rt")), [number for number in settled if number not in ruled + stored]),
     ("crates/setting_blocks/specs/Settings.antt", numbers(r"\brow (\d+) ", text_of("crates/setting_blocks/specs/Settings.antt")), settled),
 ]:
     if found != said:

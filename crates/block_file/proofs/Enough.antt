@@ -1,16 +1,15 @@
 -- Reading only the first bytes answers as the whole input does, where they are more than three blocks have.
-use Prim.Native.Nat.{ℕ, zero, suc, ◌+◌, ◌-◌, ◌*◌, ◌≤◌, ◌<◌, min}
+use Prim.Native.Nat.{ℕ, zero, suc, ◌+◌, ◌-◌, ◌*◌, ◌≤◌, ◌<◌}
 use mathlib.Core.Path.{◌≡◌, refl, sym, ap, ◌∙◌}
-use mathlib.Core.Bool.{cond}
 use mathlib.Core.List.{List}
 use native.Mathlib.Omega.{arith}
 use lib.ListN.{length, take, drop, length-take}
 use lib.Dec.{ltb}
 use borrow.Author.Tests.{lt-ltb, le-ltb}
 use Rattle.writing.proofs.Laws.{by_le}
-use Rattle.blocks.specs.Block.{Outcome, nodes, refused, row, block_outcome, block_output, block_bytes, max_stored}
+use Rattle.blocks.specs.Block.{Outcome, nodes, refused, block_outcome, block_output, block_bytes, max_stored}
 use Rattle.blocks.proofs.Enough.{drop_of_take, outcome_same, output_same}
-use Rattle.block_file.specs.File.{Reading, reading, end_of, after, read_on, read_file, block_count}
+use Rattle.block_file.specs.File.{Reading, end_of, after, read_on, read_file, block_count}
 
 module _ (s : List ℕ) (k : ℕ) where
   past_same : (a : ℕ) → a < k → ltb a (length (take k s)) ≡ ltb a (length s)

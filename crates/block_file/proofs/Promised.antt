@@ -1,13 +1,13 @@
 -- What is read, the writer accepts; and what is promised of block files.
-use Prim.Native.Nat.{ℕ, ◌*◌, ◌%◌, ◌≤◌, ◌<◌}
-use mathlib.Core.Path.{◌≡◌, refl, sym, ap, ◌∙◌}
+use Prim.Native.Nat.{ℕ, ◌*◌, ◌%◌, ◌≤◌}
+use mathlib.Core.Path.{◌≡◌, sym, ap, ◌∙◌}
 use mathlib.Core.Logic.{◌≢◌}
 use mathlib.Core.List.{List, ◌++◌}
 use native.Mathlib.Omega.{arith}
 use lib.ListN.{length, take, drop, length-take}
 use Rattle.diagram.specs.Diagram.{size}
 use Rattle.blocks.specs.Block.{Bytes, nodes, block_bytes, max_stored}
-use Rattle.block_file.specs.File.{block_count, file_of, reading, read_file, first_wide, write_outcome, written}
+use Rattle.block_file.specs.File.{block_count, reading, read_file, first_wide, write_outcome, written}
 use Rattle.block_file.specs.Files.{Files}
 use Rattle.block_file.proofs.Steps.{read_few}
 use Rattle.block_file.proofs.Storing.{storable, file_length, narrow_all, narrow_end}

@@ -3,19 +3,16 @@ use Prim.Native.Nat.{ℕ, zero, suc, ◌+◌, ◌-◌, ◌*◌, ◌≤◌, ◌<�
 use mathlib.Core.Path.{◌≡◌, refl, sym, ap, ◌∙◌}
 use mathlib.Core.List.{List, ◌++◌, append_assoc}
 use native.Mathlib.Omega.{arith}
-use lib.ListN.{length, get_or, take, drop, length-take, length-drop, take-append-drop, get_or-eq_default}
-use lib.Seq.{get_or-drop, get_or-take, take_at, drop_at, drop-drop, take_all}
-use lib.Dec.{ltb}
-use borrow.Author.Tests.{lt-ltb, le-ltb, ltb-false}
-use Rattle.diagram.specs.Diagram.{var_of, size}
-use Rattle.diagram.proofs.Count.{first_least}
+use lib.ListN.{length, get_or, take, drop, length-take, length-drop, take-append-drop}
+use lib.Seq.{take_at, drop_at, drop-drop, take_all}
+use borrow.Author.Tests.{lt-ltb, le-ltb}
+use Rattle.diagram.specs.Diagram.{size}
 use Rattle.writing.proofs.Laws.{by_le}
-use Rattle.blocks.specs.Block.{Outcome, nodes, said, here, block_of, block_outcome, block_output, two, block_bytes, block_nodes, block_words}
-use Rattle.blocks.specs.declared.stored.Stored.{Stored}
-use Rattle.blocks.specs.declared.stored.Stored.TheVariants.{Nodes}
+use Rattle.blocks.specs.Block.{Stored, Outcome, nodes, said, here, block_of, block_outcome, block_output, two, block_bytes, block_nodes, block_words}
+use Rattle.std.specs.Prelude.{Ok}
 use Rattle.blocks.proofs.Front.{block_length}
 use Rattle.blocks.proofs.Written.{Fits, held_back, words_back, taken_back}
-use Rattle.block_file.specs.File.{reading, after, read_on, read_file, blocks_from, file_of, part, block_count, first_wide, write_outcome, written, ReadsFile, WritesFile, Storable}
+use Rattle.block_file.specs.File.{reading, after, read_on, read_file, blocks_from, file_of, part, block_count, write_outcome, written, ReadsFile, WritesFile, Storable}
 use Rattle.block_file.proofs.Steps.{end_right}
 use Rattle.block_file.proofs.Storing.{part_few, part_small, part_narrow, file_length, is_written}
 use Rattle.block_file.proofs.Reading.{put_length, both_len, put_after}
@@ -133,7 +130,7 @@ written_reads w out lent {n} small e room =
 
 -- The same of the two functions: n nodes were written into `file`, and its blocks are read into `out`.
 pub written_then_read : {w before file out left : List ℕ} {n : ℕ} {r : Stored} → ((k : ℕ) → get_or w k 0 < 2 ^ 32)
-    → WritesFile w before file (Nodes n) → ReadsFile (take (block_bytes * block_count n) file) out left r → length w ≤ length out
+    → WritesFile w before file (Ok n) → ReadsFile (take (block_bytes * block_count n) file) out left r → length w ≤ length out
     → (said r ≡ nodes n) × (left ≡ w ++ drop (length w) out)
 unfolding written
 written_then_read {w} {before} {file} {out} {left} {n} {r} small a b room =

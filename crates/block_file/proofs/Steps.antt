@@ -9,9 +9,10 @@ use lib.ListN.{length, take, drop, length-drop}
 use lib.Dec.{ltb}
 use lib.Seq.{take_all}
 use borrow.Author.Tests.{lt-ltb, le-ltb}
-use Rattle.blocks.specs.Block.{Outcome, nodes, refused, said, row, block_outcome, block_output, Reads, block_bytes, block_nodes, max_stored}
-use Rattle.blocks.specs.declared.stored.Stored.{Stored}
-use Rattle.blocks.specs.declared.stored.Stored.TheVariants.{Nodes, Refused}
+use Rattle.blocks.specs.Block.{Stored, Outcome, nodes, refused, said, row, block_outcome, block_output, Reads, block_bytes, block_nodes, max_stored}
+use Rattle.diagram.specs.declared.verdict.Refused.{Refused}
+use Rattle.diagram.specs.declared.refusal.Refusal.TheVariants.{ShortBlock}
+use Rattle.std.specs.Prelude.{Ok, Err}
 use Rattle.blocks.proofs.Testing.{is_taken}
 use Rattle.writing.proofs.Laws.{by_le}
 use Rattle.block_file.specs.File.{Reading, reading, end_of, after, read_on, read_file, ReadsFile}
@@ -59,13 +60,13 @@ step_of s out number stated h o e = step_is s out number stated h ∙ rw e
 
 module _ {s before out left : List ℕ} {number stated : ℕ} {r : Stored} (a : Onward s before number stated out) (more : number < 3)
     (b : Reads number stated (drop (block_bytes * number) s) out left r) where
-  pub onward_refused : {k p : ℕ} → r ≡ Refused k p → ReadsFile s before left r
-  onward_refused {k} {p} e =
-      let o : block_outcome number stated (drop (block_bytes * number) s) (length out) ≡ refused k p = sym b.answer ∙ ap said e in
-      let l : left ≡ block_output number (drop (block_bytes * number) s) out (refused k p) = b.left ∙ rw o in
-      record { is = rw (e, l) (sym (step_of s out number stated more (refused k p) o) ∙ a.rest) }
+  pub onward_refused : {x : Refused} → r ≡ Err x → ReadsFile s before left (Err x)
+  onward_refused {x} e =
+      let o : block_outcome number stated (drop (block_bytes * number) s) (length out) ≡ said (Err x) = sym b.answer ∙ ap said e in
+      let l : left ≡ block_output number (drop (block_bytes * number) s) out (said (Err x)) = b.left ∙ rw o in
+      record { is = rw l (sym (step_of s out number stated more (said (Err x)) o) ∙ a.rest) }
 
-  module _ {n : ℕ} (e : r ≡ Nodes n) where
+  module _ {n : ℕ} (e : r ≡ Ok n) where
     outcome_is : block_outcome number stated (drop (block_bytes * number) s) (length out) ≡ nodes n
     outcome_is = sym b.answer ∙ ap said e
 
@@ -91,10 +92,10 @@ module _ {s before out left : List ℕ} {number stated : ℕ} {r : Stored} (a : 
     onward_ends {r'} h f = record { is = rw f (sym (stepped ∙ simp (le-ltb (block_nodes * (number + 1)) n h))) }
 
 -- No file goes on after three blocks.
-pub onward_over : {s before out : List ℕ} {number stated : ℕ} → Onward s before number stated out → 3 ≤ number → ReadsFile s before out (Refused 21 number)
+pub onward_over : {s before out : List ℕ} {number stated : ℕ} → Onward s before number stated out → 3 ≤ number → ReadsFile s before out (Err (record { reason = ShortBlock; place = 3 }))
 unfolding read_on
 onward_over {s} {before} {out} {number} a h =
-    let e : 3 - number ≡ 0 = omega arith in
+    let e : number ≡ 3 = omega (arith, a.within) in
     record { is = rw e at a.rest }
 
 -- ---- an answer has few nodes

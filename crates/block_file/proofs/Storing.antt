@@ -1,23 +1,22 @@
 -- The tests of the writer, and its blocks one after another.
-use Prim.Native.Nat.{ℕ, zero, suc, ◌+◌, ◌-◌, ◌*◌, ◌/◌, ◌%◌, ◌≤◌, ◌<◌}
+use Prim.Native.Nat.{ℕ, zero, suc, ◌+◌, ◌-◌, ◌*◌, ◌%◌, ◌≤◌, ◌<◌}
 use mathlib.Core.Path.{◌≡◌, refl, sym, ap, ◌∙◌}
 use mathlib.Core.Logic.{◌≢◌}
-use mathlib.Core.Bool.{Bool, true, false, not}
+use mathlib.Core.Bool.{Bool, true, false}
 use mathlib.Core.List.{List, [], ◌++◌}
 use native.Mathlib.Omega.{arith}
 use native.Mathlib.Numerals.{add-one}
 use lib.ListN.{length, get_or, take, drop, length-take, length-drop, length-append, get_or-eq_default}
 use lib.Seq.{take_all, get_or-take, get_or-drop}
-use lib.Dec.{eqb, ltb}
+use lib.Dec.{ltb}
 use borrow.Author.Tests.{lt-ltb, le-ltb, eq-eqb, ne_eqb, ltb-false, eqb-true, eqb-false, not-false}
 use Rattle.diagram.specs.Diagram.{var_of, size}
-use Rattle.diagram.specs.Verdict.{first}
 use Rattle.diagram.proofs.Count.{Scanned, scan_start, scan_on, scan_hit, scan_end, first_least}
 use Rattle.writing.specs.Writing.{Wrote}
 use Rattle.writing.proofs.Laws.{wrote_fits, by_le, Still, still_begins}
-use Rattle.blocks.specs.Block.{Outcome, nodes, refused, said, row, here, block_of, Whole, block_bytes, block_nodes, block_words, max_stored, pair_span}
-use Rattle.blocks.specs.declared.stored.Stored.{Stored}
-use Rattle.blocks.specs.declared.stored.Stored.TheVariants.{Nodes, Refused}
+use Rattle.blocks.specs.Block.{Stored, Outcome, nodes, refused, said, row, here, block_of, Whole, block_bytes, block_nodes, block_words, max_stored, pair_span}
+use Rattle.diagram.specs.declared.verdict.Refused.{Refused}
+use Rattle.std.specs.Prelude.{Ok, Err}
 use Rattle.blocks.proofs.Front.{block_length}
 use Rattle.block_file.specs.File.{widest, part, block_count, blocks_from, file_of, first_wide, write_outcome, written, WritesFile, Storable}
 
@@ -130,9 +129,9 @@ pub narrow_begins : (w : List ℕ) → Narrow w 0
 narrow_begins w = record { scanned = scan_start (λ q. ltb widest (var_of w q)) 0; within = omega arith }
 
 module _ {w : List ℕ} {p : ℕ} (a : Narrow w p) where
-  pub narrow_end : size w ≤ p → p ≡ first_wide w
+  pub narrow_end : size w ≤ p → size w ≡ first_wide w
   unfolding first_wide
-  narrow_end h = scan_end (λ q. ltb widest (var_of w q)) 0 (size w) p a.scanned (omega (arith, a.within))
+  narrow_end h = omega (arith, a.within, scan_end (λ q. ltb widest (var_of w q)) 0 (size w) p a.scanned (omega (arith, a.within)))
 
   module _ (more : p < size w) {x : ℕ} (e : x ≡ var_of w p) where
     pub narrow_hit : widest < x → p ≡ first_wide w
@@ -173,13 +172,13 @@ blocks_begin w file =
     let e : block_count (size w) - 0 ≡ block_count (size w) = omega arith in
     rw e (still_begins (blocks_from w 0 (block_count (size w))) file 0)
 
-pub blocks_step : (w : List ℕ) (number : ℕ) → block_nodes * number < size w
+pub blocks_step : (w : List ℕ) (number : ℕ) → number < block_count (size w)
     → blocks_from w number (block_count (size w) - number) ≡ block_of (size w) number (part w number) ++ blocks_from w (number + 1) (block_count (size w) - (number + 1))
 blocks_step w number h =
     let e : block_count (size w) - (number + 1) ≡ block_count (size w) - number - 1 = omega arith in
     rw e (blocks_next w number (block_count (size w) - number) (omega arith))
 
-pub blocks_end : (w : List ℕ) (number : ℕ) → size w ≤ block_nodes * number → blocks_from w number (block_count (size w) - number) ≡ []
+pub blocks_end : (w : List ℕ) (number : ℕ) → block_count (size w) ≤ number → blocks_from w number (block_count (size w) - number) ≡ []
 blocks_end w number h = blocks_none w number (block_count (size w) - number) (omega arith)
 
 -- ---- the answers
@@ -222,20 +221,20 @@ is_written w lent n e =
     }
 
 module _ (w file : List ℕ) {r : Stored} (e : said r ≡ write_outcome w (length file)) where
-  pub writes_refused : {k p : ℕ} → r ≡ Refused k p → WritesFile w file file r
+  pub writes_refused : {x : Refused} → r ≡ Err x → WritesFile w file file (Err x)
   unfolding written
-  writes_refused {k} {p} f =
-      let g : write_outcome w (length file) ≡ refused k p = sym e ∙ ap said f in
-      record { answer = e; leaves = rw g }
+  writes_refused {x} f =
+      let g : write_outcome w (length file) ≡ said (Err x) = sym e ∙ ap said f in
+      record { answer = sym g; leaves = rw g }
 
-  module _ {n : ℕ} (f : r ≡ Nodes n) where
+  module _ {n : ℕ} (f : r ≡ Ok n) where
     outcome_is : write_outcome w (length file) ≡ nodes n
     outcome_is = sym e ∙ ap said f
 
     pub writes_storable : Storable w
     writes_storable = (is_written w (length file) n outcome_is).lengths
 
-    pub writes_taken : {left : List ℕ} {p : ℕ} → Wrote (file_of w) file 0 left p → WritesFile w file left (Nodes n)
+    pub writes_taken : {left : List ℕ} {p : ℕ} → Wrote (file_of w) file 0 left p → WritesFile w file left (Ok n)
     unfolding written
     writes_taken {left} b =
         let l : length (file_of w) ≤ length file = omega (arith, file_length w, (is_written w (length file) n outcome_is).fits) in

@@ -1,9 +1,8 @@
 -- Block files (document 01, "The block file"). `w` is the words of nodes, three each, `s` the bytes of a file.
-use Rattle.std.specs.Prelude.{ℕ, zero, suc, ◌+◌, ◌-◌, ◌*◌, ◌/◌, ◌%◌, ◌≤◌, ◌<◌, ◌≡◌, Bool, cond, not, List, [], ◌∷◌, ◌++◌, length, get_or, take, drop, ltb, eqb}
+use Rattle.std.specs.Prelude.{ℕ, zero, suc, ◌+◌, ◌-◌, ◌*◌, ◌/◌, ◌%◌, ◌≤◌, ◌<◌, ◌≡◌, cond, not, List, [], ◌++◌, length, take, drop, ltb, eqb}
 use Rattle.diagram.specs.Diagram.{var_of, size}
 use Rattle.diagram.specs.Verdict.{first}
-use Rattle.blocks.specs.Block.{block_bytes, block_nodes, block_words, max_stored, pair_span, Outcome, nodes, refused, said, row, block_of, block_outcome, block_output}
-use Rattle.blocks.specs.declared.stored.Stored.{Stored}
+use Rattle.blocks.specs.Block.{Stored, block_bytes, block_nodes, block_words, max_stored, pair_span, Outcome, nodes, refused, said, row, block_of, block_outcome, block_output}
 
 -- ---- the file of some nodes
 

@@ -5,7 +5,9 @@ ghost use Rattle.block_file.specs.File.{end_of, ReadsFile};
 
 use block_reading::read_block;
 use blocks::layout::{BLOCK, MOST, NODES};
-use blocks::stored::{SHORT_BLOCK, Stored};
+use blocks::stored::Stored;
+use diagram::refusal::Refusal;
+use diagram::verdict::Refused;
 
 // The most blocks of a file.
 const MOST_BLOCKS: usize = (MOST + NODES - 1) / NODES;
@@ -16,34 +18,29 @@ fn end_of(len: usize, number: usize, nodes: usize) -> Stored
     ensures { said result ≡ end_of len number nodes }
 {
     if BLOCK * number < len {
-        return Stored::Refused {
-            number: SHORT_BLOCK,
+        return Err(Refused {
+            reason: Refusal::ShortBlock,
             place: number,
-        };
+        });
     }
-    Stored::Nodes(nodes)
+    Ok(nodes)
 }
 
 // Three words of the output for each node. A refused block keeps the nodes of the blocks before it.
 pub fn read_file(bytes: &[u8], output: &mut [u32]) -> Stored
     ensures { ReadsFile bytes.now output.old output.new result }
 {
-    let mut number = 0;
     let mut stated = 0;
-    while number < MOST_BLOCKS {
+    for number in 0..MOST_BLOCKS {
         let from = BLOCK * number;
-        let read = read_block(&bytes[from..], number, stated, output);
-        let Stored::Nodes(nodes) = read else {
-            return read;
-        };
-        stated = nodes;
-        number += 1;
-        if stated <= NODES * number {
-            return end_of(bytes.len(), number, stated);
+        stated = read_block(&bytes[from..], number, stated, output)?;
+        let due = number + 1;
+        if stated <= NODES * due {
+            return end_of(bytes.len(), due, stated);
         }
     }
-    Stored::Refused {
-        number: SHORT_BLOCK,
-        place: number,
-    }
+    Err(Refused {
+        reason: Refusal::ShortBlock,
+        place: MOST_BLOCKS,
+    })
 }

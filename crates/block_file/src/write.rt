@@ -7,10 +7,11 @@ ghost use Rattle.block_file.specs.File.{block_count, part, file_of, first_wide, 
 
 use block_reading::nodes_here;
 use blocks::layout::{BLOCK, MOST, NODES, PAIR_SPAN, WORDS};
-use blocks::stored::{Stored, TOO_MANY_STORED, WIDE_VARIABLE};
+use blocks::stored::Stored;
 use blocks::write::write_block;
 use diagram::node::word;
-use diagram::refusal::{BROKEN_WORDS, NO_WORDS, SHORT_OUTPUT};
+use diagram::refusal::Refusal;
+use diagram::verdict::Refused;
 
 // The widest variable that two bytes hold.
 const WIDEST: u32 = PAIR_SPAN - 1;
@@ -20,14 +21,12 @@ pub fn first_wide(words: &[u32]) -> usize
     ensures { result ≡ first_wide words.now }
 {
     let nodes = words.len() / 3;
-    let mut p = 0;
-    while p < nodes {
+    for p in 0..nodes {
         if WIDEST < word(words, 3 * p) {
             return p;
         }
-        p += 1;
     }
-    p
+    nodes
 }
 
 // The tests in their order; `lent` is the length of the buffer.
@@ -35,38 +34,38 @@ fn test_words(words: &[u32], lent: usize) -> Stored
     ensures { said result ≡ write_outcome words.now lent }
 {
     if words.len() == 0 {
-        return Stored::Refused {
-            number: NO_WORDS,
+        return Err(Refused {
+            reason: Refusal::NoWords,
             place: 0,
-        };
+        });
     }
     if words.len() % 3 != 0 {
-        return Stored::Refused {
-            number: BROKEN_WORDS,
+        return Err(Refused {
+            reason: Refusal::BrokenWords,
             place: 0,
-        };
+        });
     }
     let nodes = words.len() / 3;
     if MOST < nodes {
-        return Stored::Refused {
-            number: TOO_MANY_STORED,
+        return Err(Refused {
+            reason: Refusal::TooManyStored,
             place: 0,
-        };
+        });
     }
-    if lent < BLOCK * ((nodes + (NODES - 1)) / NODES) {
-        return Stored::Refused {
-            number: SHORT_OUTPUT,
+    if lent < BLOCK * nodes.div_ceil(NODES) {
+        return Err(Refused {
+            reason: Refusal::ShortOutput,
             place: 0,
-        };
+        });
     }
     let wide = first_wide(words);
     if wide < nodes {
-        return Stored::Refused {
-            number: WIDE_VARIABLE,
+        return Err(Refused {
+            reason: Refusal::WideVariable,
             place: wide,
-        };
+        });
     }
-    Stored::Nodes(nodes)
+    Ok(nodes)
 }
 
 // The block with this number: its fifty nodes, or those that are left.
@@ -86,10 +85,8 @@ fn put_blocks(file: &mut [u8], words: &[u32]) -> usize
 {
     let nodes = words.len() / 3;
     let mut place = 0;
-    let mut number = 0;
-    while NODES * number < nodes {
+    for number in 0..nodes.div_ceil(NODES) {
         place = put_block(file, place, words, number);
-        number += 1;
     }
     place
 }
@@ -98,10 +95,7 @@ fn put_blocks(file: &mut [u8], words: &[u32]) -> usize
 pub fn write_file(words: &[u32], file: &mut [u8]) -> Stored
     ensures { WritesFile words.now file.old file.new result }
 {
-    let tested = test_words(words, file.len());
-    let Stored::Nodes(nodes) = tested else {
-        return tested;
-    };
+    let nodes = test_words(words, file.len())?;
     put_blocks(file, words);
-    Stored::Nodes(nodes)
+    Ok(nodes)
 }

@@ -2,14 +2,16 @@
 #![tactic(auto)]
 
 ghost use Rattle.std.specs.Prelude.{◌≡◌, ◌||◌, ◌-◌, ◌*◌, ◌≤◌, ◌<◌, min, eqb, length};
+ghost use Rattle.diagram.specs.Refusal.{number_of};
 ghost use Rattle.blocks.specs.Block.{block_bytes, block_nodes, total, here, two, four, unused, counts_right, block_outcome, said, Reads};
 
 use blocks::fields::{get_four, get_two};
 use blocks::layout::{BLOCK, MOST, NODES, PLACE, PLACES, PLACES_END, WORDS};
 use blocks::nodes::get_nodes;
-use blocks::stored::{SHORT_BLOCK, Stored, TOO_MANY_STORED, UNUSED_BYTES, WRONG_COUNT, WRONG_SUM};
+use blocks::stored::Stored;
 use blocks::sums::{sum, sums_right};
-use diagram::refusal::SHORT_OUTPUT;
+use diagram::refusal::Refusal;
+use diagram::verdict::Refused;
 
 // How many nodes a block holds, by its number and the number of nodes in the file.
 pub fn nodes_here(nodes: usize, number: usize) -> usize
@@ -19,7 +21,7 @@ pub fn nodes_here(nodes: usize, number: usize) -> usize
         return 0;
     }
     let left = nodes - NODES * number;
-    if left < NODES { left } else { NODES }
+    left.min(NODES)
 }
 
 // Whether a block states the number of nodes that the first block stated.
@@ -59,10 +61,10 @@ fn unused_zero(block: &[u8], held: usize) -> bool
     sum(&block[from..PLACES_END]) == 0
 }
 
-fn refused(number: u32, place: usize) -> Stored
-    ensures { said result ≡ Rattle.blocks.specs.Block.refused number place }
+fn refused(reason: Refusal, place: usize) -> Stored
+    ensures { said result ≡ Rattle.blocks.specs.Block.refused (number_of reason) place }
 {
-    Stored::Refused { number, place }
+    Err(Refused { reason, place })
 }
 
 // The tests of a block in their order; `lent` is the length of the output.
@@ -70,39 +72,36 @@ fn test_block(block: &[u8], number: usize, stated: usize, lent: usize) -> Stored
     ensures { said result ≡ block_outcome number stated block.now lent }
 {
     if block.len() < BLOCK {
-        return refused(SHORT_BLOCK, number);
+        return refused(Refusal::ShortBlock, number);
     }
     if !sums_right(block) {
-        return refused(WRONG_SUM, number);
+        return refused(Refusal::WrongSum, number);
     }
     if !counts_right(block, number, stated) {
-        return refused(WRONG_COUNT, number);
+        return refused(Refusal::WrongCount, number);
     }
     let nodes = get_four(block, PLACES_END) as usize;
     if MOST < nodes {
-        return refused(TOO_MANY_STORED, number);
+        return refused(Refusal::TooManyStored, number);
     }
     let held = get_two(block, 2) as usize;
     let clean = unused_zero(block, held);
     let fits = WORDS * number + 3 * held <= lent;
     if !clean {
-        return refused(UNUSED_BYTES, number);
+        return refused(Refusal::UnusedBytes, number);
     }
     if !fits {
-        return refused(SHORT_OUTPUT, number);
+        return refused(Refusal::ShortOutput, number);
     }
-    Stored::Nodes(nodes)
+    Ok(nodes)
 }
 
 // Reads the block due, which is the first 512 bytes of `block`, to its place in the output; the answer is the number of nodes in the file.
 pub fn read_block(block: &[u8], number: usize, stated: usize, output: &mut [u32]) -> Stored
     ensures { Reads number stated block.now output.old output.new result }
 {
-    let tested = test_block(block, number, stated, output.len());
-    let Stored::Nodes(nodes) = tested else {
-        return tested;
-    };
+    let nodes = test_block(block, number, stated, output.len())?;
     let held = get_two(block, 2) as usize;
     get_nodes(block, PLACES, held, output, WORDS * number);
-    Stored::Nodes(nodes)
+    Ok(nodes)
 }

@@ -1,15 +1,14 @@
 -- What follows a block changes nothing of its reading.
-use Prim.Native.Nat.{ℕ, zero, suc, ◌+◌, ◌-◌, ◌*◌, ◌%◌, ◌≤◌, ◌<◌, min}
+use Prim.Native.Nat.{ℕ, zero, suc, ◌+◌, ◌-◌, ◌*◌, ◌≤◌, ◌<◌}
 use mathlib.Core.Path.{◌≡◌, refl, sym, ap, ◌∙◌}
-use mathlib.Core.Bool.{Bool, not, ◌&&◌, ◌||◌}
-use mathlib.Core.List.{List, [], ◌∷◌, ◌++◌}
+use mathlib.Core.List.{List, [], ◌∷◌}
 use native.Mathlib.Omega.{arith}
 use lib.ListN.{length, get_or, take, drop, length-take}
 use lib.Seq.{get_or-take, take-take}
-use lib.Dec.{ltb, eqb}
+use lib.Dec.{ltb}
 use borrow.Author.Tests.{lt-ltb, le-ltb}
 use Rattle.writing.proofs.Laws.{by_le}
-use Rattle.blocks.specs.Block.{two, four, nodes_at, nodes_in, total, weighted, here, unused, sums_right, counts_right, Outcome, nodes, refused, row, block_outcome, block_output, block_bytes, block_nodes}
+use Rattle.blocks.specs.Block.{two, four, nodes_at, unused, sums_right, counts_right, Outcome, nodes, refused, block_outcome, block_output, block_bytes, block_nodes}
 use Rattle.blocks.proofs.Testing.{is_taken, held_few}
 
 pub drop_of_take : (a k : ℕ) (l : List ℕ) → drop a (take (a + k) l) ≡ take k (drop a l)

@@ -1,13 +1,13 @@
 -- Lengths of what is written, and a block from its parts.
-use Prim.Native.Nat.{ℕ, zero, suc, ◌+◌, ◌-◌, ◌*◌, ◌/◌, ◌≤◌, ◌<◌}
-use mathlib.Core.Path.{◌≡◌, refl, sym, ap, ◌∙◌}
-use mathlib.Core.List.{List, [], ◌∷◌, ◌++◌}
+use Prim.Native.Nat.{ℕ, ◌+◌, ◌*◌, ◌/◌, ◌≤◌}
+use mathlib.Core.Path.{◌≡◌, refl}
+use mathlib.Core.List.{List, [], ◌∷◌}
 use native.Mathlib.Omega.{arith}
-use lib.ListN.{length, take, drop, replicate, length-append, length-replicate}
+use lib.ListN.{length, take, drop, length-append, length-replicate}
 use lib.Seq.{take_at}
 use Rattle.writing.specs.Writing.{Wrote}
 use Rattle.writing.proofs.Laws.{wrote_then, wrote_fits}
-use Rattle.blocks.specs.Block.{total, weighted, two_bytes, four_bytes, node_bytes, nodes_bytes, front, sealed, block_of, Whole, block_bytes, block_words}
+use Rattle.blocks.specs.Block.{total, weighted, two_bytes, nodes_bytes, front, sealed, block_of, block_bytes, block_words}
 
 pub nodes_length : (w : List ℕ) → length (nodes_bytes w) ≡ 10 * (length w / 3)
 unfolding nodes_bytes

@@ -1,19 +1,17 @@
 -- A block that is taken is the block that would be written for its nodes.
-use Prim.Native.Nat.{ℕ, zero, suc, ◌+◌, ◌-◌, ◌*◌, ◌/◌, ◌%◌, ◌≤◌, ◌<◌, ◌^◌, min}
+use Prim.Native.Nat.{ℕ, zero, suc, ◌+◌, ◌-◌, ◌*◌, ◌/◌, ◌%◌, ◌≤◌, ◌<◌}
 use mathlib.Core.Path.{◌≡◌, refl, sym, ap, ◌∙◌}
-use mathlib.Core.Bool.{Bool, true, false, cond, not, ◌&&◌, ◌||◌}
-use mathlib.Core.List.{List, [], ◌∷◌, ◌++◌, append_assoc, append-nil}
+use mathlib.Core.Bool.{true}
+use mathlib.Core.List.{List, [], ◌∷◌, ◌++◌, append_assoc}
 use native.Mathlib.Omega.{arith}
-use native.Mathlib.Numerals.{add-one}
-use lib.ListN.{length, get_or, take, drop, replicate, length-append, length-drop, length-take, length-replicate, take-append-drop}
-use lib.Seq.{take_all, take_at, drop_at, drop-drop, take-add, length-take-le, get_or-drop, get_or-take}
-use lib.Dec.{eqb, ltb}
+use lib.ListN.{length, get_or, take, drop, replicate, length-append, length-drop, take-append-drop}
+use lib.Seq.{take_at, drop-drop, length-take-le}
 use Rattle.writing.proofs.Laws.{drop_next}
 use Rattle.diagram.specs.Diagram.{var_of}
-use Rattle.blocks.specs.Block.{Bytes, two, four, two_bytes, four_bytes, node_bytes, nodes_bytes, node_at, nodes_at, nodes_in, total, weighted, front, sealed, block_of, here, unused, sums_right, counts_right, block_outcome, nodes, block_bytes, block_nodes, summed, byte_span, pair_span}
-use Rattle.blocks.proofs.Testing.{Taken, is_taken, Counted, counted, sums_of}
+use Rattle.blocks.specs.Block.{Bytes, two, four, two_bytes, four_bytes, nodes_bytes, node_at, nodes_at, nodes_in, total, weighted, front, sealed, block_of, sums_right, block_bytes, block_nodes, summed, byte_span, pair_span}
+use Rattle.blocks.proofs.Testing.{Taken, Counted, counted, sums_of}
 use Rattle.blocks.proofs.Answering.{nodes_at_length}
-use Rattle.blocks.proofs.Front.{nodes_length, front_length}
+use Rattle.blocks.proofs.Front.{front_length}
 
 low_byte : (a b : ℕ) → a < byte_span → (a + byte_span * b) % byte_span ≡ a
 low_byte a b h = omega arith

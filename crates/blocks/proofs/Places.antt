@@ -1,6 +1,6 @@
 -- Nodes in bytes, as a loop reads and writes them.
-use Prim.Native.Nat.{ℕ, zero, suc, ◌+◌, ◌-◌, ◌*◌, ◌≤◌, ◌<◌}
-use mathlib.Core.Path.{◌≡◌, refl, sym, ap, ◌∙◌}
+use Prim.Native.Nat.{ℕ, suc, ◌+◌, ◌-◌, ◌*◌, ◌≤◌, ◌<◌}
+use mathlib.Core.Path.{◌≡◌, refl, ap, ◌∙◌}
 use mathlib.Core.List.{List, [], ◌∷◌, ◌++◌}
 use native.Mathlib.Omega.{arith}
 use lib.ListN.{length, drop, get_or, set, length-drop, length-set}
@@ -24,14 +24,18 @@ wrote_node s from e f g x y z =
     let t = wrote_then x (wrote_then y z) in
     rw (e, f, g) at t
 
-pub nodes_next : (s : List ℕ) (from left : ℕ) → 0 < left → nodes_at s from left ≡ node_at s from ++ nodes_at s (from + 10) (left - 1)
+-- What is left once i of some nodes were read.
+pub nodes_next : (s : List ℕ) (from count i : ℕ) → i < count
+    → nodes_at s (from + 10 * i) (count - i) ≡ node_at s (from + 10 * i) ++ nodes_at s (from + 10 * (i + 1)) (count - (i + 1))
 unfolding nodes_at
-nodes_next s from zero h = absurd (omega arith)
-nodes_next s from (suc k) h = let e : suc k - 1 ≡ k = omega arith in rw e
+nodes_next s from count i h =
+    let e : count - i ≡ suc (count - (i + 1)) = omega arith in
+    let f : from + 10 * i + 10 ≡ from + 10 * (i + 1) = omega arith in
+    rw e (ap (λ (k : ℕ). node_at s (from + 10 * i) ++ nodes_at s k (count - (i + 1))) f)
 
-pub nodes_none : (s : List ℕ) (from left : ℕ) → left ≤ 0 → nodes_at s from left ≡ []
+pub nodes_none : (s : List ℕ) (from count i : ℕ) → count ≤ i → nodes_at s from (count - i) ≡ []
 unfolding nodes_at
-nodes_none s from left h = let e : left ≡ 0 = omega arith in rw e
+nodes_none s from count i h = let e : count - i ≡ 0 = omega arith in rw e
 
 three : (w : List ℕ) (i : ℕ) → i + 2 < length w
     → drop i w ≡ get_or w i 0 ∷ get_or w (i + 1) 0 ∷ get_or w (i + 2) 0 ∷ drop (i + 3) w
@@ -43,10 +47,10 @@ three w i h =
     (drop_next w (i + 1) (omega arith)
     ∙ rw e (ap (λ (l : List ℕ). get_or w (i + 1) 0 ∷ l) (drop_next w (i + 2) h ∙ rw f)))
 
-pub bytes_next : (w : List ℕ) (i : ℕ) {a b d : ℕ} → i + 2 < length w → a ≡ get_or w i 0 → b ≡ get_or w (i + 1) 0 → d ≡ get_or w (i + 2) 0
-    → nodes_bytes (drop i w) ≡ node_bytes a b d ++ nodes_bytes (drop (i + 3) w)
+pub bytes_next : (w : List ℕ) (i : ℕ) → 3 * i + 2 < length w
+    → nodes_bytes (drop (3 * i) w) ≡ node_bytes (get_or w (3 * i) 0) (get_or w (3 * i + 1) 0) (get_or w (3 * i + 2) 0) ++ nodes_bytes (drop (3 * (i + 1)) w)
 unfolding nodes_bytes
-bytes_next w i h e f g = rw (three w i h, e, f, g)
+bytes_next w i h = let e : 3 * i + 3 ≡ 3 * (i + 1) = omega arith in rw (three w (3 * i) h, e)
 
 few_none : (w : List ℕ) → length w ≤ 2 → nodes_bytes w ≡ []
 unfolding nodes_bytes

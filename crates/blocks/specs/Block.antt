@@ -1,8 +1,8 @@
 -- A block of 512 bytes (document 01, "The block file"). `s` is a list of bytes, `w` the words of nodes, three each.
-use Rattle.std.specs.Prelude.{ℕ, zero, suc, ◌+◌, ◌-◌, ◌*◌, ◌/◌, ◌%◌, ◌≤◌, ◌<◌, ◌^◌, min, ◌≡◌, Bool, cond, not, ◌&&◌, ◌||◌, List, [], ◌∷◌, ◌++◌, length, get_or, take, drop, replicate, ltb, eqb}
+use Rattle.std.specs.Prelude.{Result, Ok, Err, ℕ, zero, suc, ◌+◌, ◌-◌, ◌*◌, ◌/◌, ◌%◌, ◌≤◌, ◌<◌, ◌^◌, min, ◌≡◌, Bool, cond, not, ◌&&◌, ◌||◌, List, [], ◌∷◌, ◌++◌, length, get_or, take, drop, replicate, ltb, eqb}
 use Rattle.diagram.specs.Diagram.{var_of}
-use Rattle.blocks.specs.declared.stored.Stored.{Stored}
-use Rattle.blocks.specs.declared.stored.Stored.TheVariants.{Nodes, Refused}
+use Rattle.diagram.specs.Refusal.{number_of}
+use Rattle.diagram.specs.declared.verdict.Refused.{Refused}
 
 -- ---- the layout
 
@@ -140,9 +140,13 @@ pub data Outcome : Type 0 where
   nodes : ℕ → Outcome
   refused : ℕ → ℕ → Outcome
 
+-- What the code's answer says.
+abbrev pub Stored : Type 0
+Stored = Result ℕ Refused
+
 abbrev pub said : Stored → Outcome
-said (Nodes n) = nodes n
-said (Refused number place) = refused number place
+said (Ok n) = nodes n
+said (Err e) = refused (number_of e.reason) e.place
 
 unfoldable pub row : ℕ → Bool → ℕ → Outcome → Outcome
 row number test place below = cond test (refused number place) below

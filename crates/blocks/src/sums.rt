@@ -10,10 +10,8 @@ pub fn sum(bytes: &[u8]) -> u32
     ensures { result ≡ total bytes.now }
 {
     let mut sum: u32 = 0;
-    let mut i = 0;
-    while i < bytes.len() {
-        sum += bytes[i] as u32;
-        i += 1;
+    for byte in bytes {
+        sum += *byte as u32;
     }
     sum
 }
@@ -24,10 +22,8 @@ pub(crate) fn weighted_sum(bytes: &[u8]) -> u32
     ensures { result ≡ weighted 1 bytes.now }
 {
     let mut sum: u32 = 0;
-    let mut i = 0;
-    while i < bytes.len() {
-        sum += (i as u32 + 1) * (bytes[i] as u32);
-        i += 1;
+    for (i, byte) in bytes.iter().enumerate() {
+        sum += (i as u32 + 1) * (*byte as u32);
     }
     sum
 }

@@ -17,10 +17,10 @@ use block_file::write::write_file;
 use block_reading::read_block;
 use blocks::layout::{BLOCK, FILE, FILE_WORDS};
 use blocks::stored::Stored;
-use cases::{fill, least, number, words_of};
+use cases::{number, words_of};
 use diagram::node::word;
 use forms::Form;
-use messages::refusal::write_refusal;
+use messages::number::write_numbered;
 use naturals::Natural;
 use report::lines::REPORT;
 use report::weigh::report;
@@ -45,28 +45,24 @@ fn say(text: &[u8], value: u64) {
 
 fn say_stored(stored: Stored) {
     match stored {
-        Stored::Nodes(nodes) => say(b"nodes ", nodes as u64),
-        Stored::Refused { number, place } => {
-            say(b"refused ", number as u64);
-            say(b" at ", place as u64);
+        Ok(nodes) => say(b"nodes ", nodes as u64),
+        Err(refused) => {
+            say(b"refused ", refused.reason.number() as u64);
+            say(b" at ", refused.place as u64);
         }
     }
 }
 
 fn say_words(words: &[u32]) {
-    let mut i = 0;
-    while i < words.len() {
-        say(b" ", words[i] as u64);
-        i += 1;
+    for word in words {
+        say(b" ", u64::from(*word));
     }
     io::write_all(STDOUT, b"\n");
 }
 
 fn say_bytes(bytes: &[u8]) {
-    let mut i = 0;
-    while i < bytes.len() {
-        say(b" ", bytes[i] as u64);
-        i += 1;
+    for byte in bytes {
+        say(b" ", u64::from(*byte));
     }
     io::write_all(STDOUT, b"\n");
 }
@@ -75,21 +71,11 @@ fn say_bytes(bytes: &[u8]) {
 fn put_bytes(bytes: &mut [u8], words: &[u32]) -> usize
     ensures { result ≤ length bytes.new }
 {
-    let end = least(bytes.len(), words.len());
-    let mut i = 0;
-    while i < end {
+    let end = bytes.len().min(words.len());
+    for i in 0..end {
         bytes[i] = (words[i] % 256) as u8;
-        i += 1;
     }
     end
-}
-
-fn fill_bytes(bytes: &mut [u8], byte: u8) {
-    let mut i = 0;
-    while i < bytes.len() {
-        bytes[i] = byte;
-        i += 1;
-    }
 }
 
 fn blank_output() -> [u32; OUTPUT] {
@@ -101,7 +87,7 @@ fn blank_lines() -> [u8; REPORT] {
 }
 
 fn read_to(output: &mut [u32], bytes: &[u8], filling: u32) {
-    fill(output, filling);
+    output.fill(filling);
     let stored = read_file(bytes, output);
     say_stored(stored);
     say_words(output);
@@ -109,12 +95,12 @@ fn read_to(output: &mut [u32], bytes: &[u8], filling: u32) {
 
 fn read_case(bytes: &[u8], lent: usize, filling: u32) {
     let mut output = blank_output();
-    let end = least(lent, OUTPUT);
+    let end = lent.min(OUTPUT);
     read_to(&mut output[..end], bytes, filling);
 }
 
 fn block_to(output: &mut [u32], block: &[u8], number: usize, stated: usize, filling: u32) {
-    fill(output, filling);
+    output.fill(filling);
     let stored = read_block(block, number, stated, output);
     say_stored(stored);
     say_words(output);
@@ -127,12 +113,12 @@ fn block_case(bytes: &[u8], lent: usize, filling: u32) {
     let number = bytes[0] as usize;
     let stated = bytes[1] as usize;
     let mut output = blank_output();
-    let end = least(lent, OUTPUT);
+    let end = lent.min(OUTPUT);
     block_to(&mut output[..end], &bytes[2..], number, stated, filling);
 }
 
 fn write_to(file: &mut [u8], words: &[u32], filling: u32) {
-    fill_bytes(file, (filling % 256) as u8);
+    file.fill((filling % 256) as u8);
     let stored = write_file(words, file);
     say_stored(stored);
     say_bytes(file);
@@ -140,7 +126,7 @@ fn write_to(file: &mut [u8], words: &[u32], filling: u32) {
 
 fn write_case(words: &[u32], lent: usize, filling: u32) {
     let mut file = blank_lines();
-    let end = least(lent, REPORT);
+    let end = lent.min(REPORT);
     write_to(&mut file[..end], words, filling);
 }
 
@@ -165,76 +151,65 @@ fn report_case(bytes: &[u8], lent: usize) {
 
 fn refusal_case(number: u32, place: usize) {
     let mut lines = blank_lines();
-    let end = write_refusal(&mut lines, 0, number, place);
+    let end = write_numbered(&mut lines, 0, number, place);
     show(&lines, end);
 }
 
-// A number's text and a line feed, or `none`.
-fn say_text(valid: bool, text: &[u8], end: usize) {
-    if valid {
-        show(text, end);
-        io::write_all(STDOUT, b"\n");
-    } else {
-        io::write_all(STDOUT, b"none\n");
-    }
+// A number's text and a line feed.
+fn say_text(text: &[u8], end: usize) {
+    show(text, end);
+    io::write_all(STDOUT, b"\n");
+}
+
+fn say_none() {
+    io::write_all(STDOUT, b"none\n");
 }
 
 fn decimal_case(bytes: &[u8]) {
     let mut text = [0u8; DECIMAL];
-    let parsed = parse_decimal(bytes);
-    let end = write_decimal(&mut text, 0, parsed.value as u64);
-    say_text(parsed.valid, &text, end);
+    let Some(value) = parse_decimal(bytes) else {
+        return say_none();
+    };
+    let end = write_decimal(&mut text, 0, u64::from(value));
+    say_text(&text, end);
 }
 
 fn hexadecimal_case(bytes: &[u8]) {
     let mut text = [0u8; DECIMAL];
-    let parsed = parse_hexadecimal(bytes);
-    let end = write_hexadecimal(&mut text, 0, parsed.natural);
-    say_text(parsed.fits, &text, end);
-}
-
-// A word where its sums and products have room.
-fn wide(x: u32) -> u64
-    ensures { (result ≡ x) × (result < 2 ^ 32) }
-{
-    x as u64
+    let Some(natural) = parse_hexadecimal(bytes) else {
+        return say_none();
+    };
+    let end = write_hexadecimal(&mut text, 0, natural);
+    say_text(&text, end);
 }
 
 fn lowest(a: Natural) -> u64 {
-    wide(a.words[1]) * 4294967296 + wide(a.words[0])
+    u64::from(a.words[1]) * 4294967296 + u64::from(a.words[0])
 }
 
+// Two lines, of which both are `none` where it is no number.
 fn natural_case(bytes: &[u8]) {
     let mut text = [0u8; DECIMAL];
-    let parsed = parse_natural(bytes);
-    let natural = parsed.natural;
+    let Some(natural) = parse_natural(bytes) else {
+        say_none();
+        return say_none();
+    };
     let end = write_natural(&mut text, 0, natural);
-    say_text(parsed.fits, &text, end);
+    say_text(&text, end);
     let end = write_decimal(&mut text, 0, lowest(natural));
-    say_text(parsed.fits, &text, end);
+    say_text(&text, end);
 }
 
 fn run_bytes(kind: u32, bytes: &[u8], lent: usize, filling: u32) {
-    if kind == 0 {
-        read_case(bytes, lent, filling);
-    }
-    if kind == 2 {
-        report_case(bytes, lent);
-    }
-    if kind == 3 {
-        decimal_case(bytes);
-    }
-    if kind == 4 {
-        hexadecimal_case(bytes);
-    }
-    if kind == 5 {
-        natural_case(bytes);
-    }
-    if kind == 6 {
-        block_case(bytes, lent, filling);
-    }
-    if kind == 7 {
-        refusal_case(filling, lent);
+    match kind {
+        0 => read_case(bytes, lent, filling),
+        2 => report_case(bytes, lent),
+        3 => decimal_case(bytes),
+        4 => hexadecimal_case(bytes),
+        5 => natural_case(bytes),
+        6 => block_case(bytes, lent, filling),
+        7 => refusal_case(filling, lent),
+        _ => {}
     }
 }
 

@@ -10,9 +10,10 @@ use lib.Dec.{T}
 use lib.Ieee.{Float, binary64, mul, is_nan, nan_bits, of_bits}
 use Rattle.diagram.specs.Limits.{max_nodes}
 use Rattle.diagram.specs.Diagram.{var_of, size, vars, root, Ordered}
-use Rattle.diagram.specs.Verdict.{Outcome, accepted, refused, if_accepted, verdict_of, room_of, Checked}
-use Rattle.diagram.specs.declared.verdict.Verdict.{Verdict}
-use Rattle.diagram.specs.declared.verdict.Verdict.TheVariants.{Accepted as Yes, Refused as No}
+use Rattle.diagram.specs.Verdict.{Verdict, Outcome, accepted, refused, if_accepted, verdict_of, room_of, Checked}
+use Rattle.std.specs.Prelude.{Ok, Err}
+use Rattle.diagram.specs.declared.verdict.Extent.{Extent}
+use Rattle.diagram.specs.declared.verdict.Refused.{Refused}
 use Rattle.diagram.specs.declared.verdict.Output.TheVariants.{Nothing}
 use Rattle.diagram.proofs.Meaning.{verdict_accepted}
 use Rattle.diagram.proofs.Reading.{layered, root_in, var_most, accepted_ordered}
@@ -71,26 +72,26 @@ module _ (w : List ℕ) (n : ℕ) (en : n ≡ size w) (o : Ordered w) where
 -- ---- the answer
 
 module _ {w before after : List ℕ} {v : Verdict} (c : Checked w Nothing before after v) where
-  pub count_refused : {k p : ℕ} → v ≡ No k p → {x : Float} → x ≡ nought → CountsFloat w before after v x
-  count_refused e h = record { checked = c; counted = h ∙ sym (when_refused c e (cardinality_of w) nought) }
+  pub count_refused : {refusal : Refused} → v ≡ Err refusal → CountsFloat w before after (Err refusal) nought
+  count_refused e = record { checked = rw e at c; counted = sym (when_refused c e (cardinality_of w) nought) }
 
-  module _ {n u : ℕ} (e : v ≡ Yes n u) where
-    pub count_nodes : n ≤ max_nodes
+  module _ {extent : Extent} (e : v ≡ Ok extent) where
+    pub count_nodes : extent.nodes ≤ max_nodes
     count_nodes = let a = admitted c e in omega (arith, a.nodes, a.accepted.formed.few)
 
-    used_fits : 3 * n ≤ room_of w
+    used_fits : 3 * extent.nodes ≤ room_of w
     used_fits = omega (arith, (admitted c e).nodes)
 
-    pub count_fits : 3 * n ≤ length after
-    count_fits = lent_fits c e (3 * n) used_fits
+    pub count_fits : 3 * extent.nodes ≤ length after
+    count_fits = lent_fits c e (3 * extent.nodes) used_fits
 
-    pub count_asks : (n ≡ size w) × Ordered w × (u ≡ vars w) × (take (3 * n) after ≡ replicate (3 * n) 0)
-    count_asks = ((admitted c e).nodes, ordered c e, (admitted c e).variables, lent_zero c e (3 * n) used_fits)
+    pub count_asks : (extent.nodes ≡ size w) × Ordered w × (extent.vars ≡ vars w) × (take (3 * extent.nodes) after ≡ replicate (3 * extent.nodes) 0)
+    count_asks = ((admitted c e).nodes, ordered c e, (admitted c e).variables, lent_zero c e (3 * extent.nodes) used_fits)
 
-    pub count_accepted : {x : Float} {part : List ℕ} → x ≡ cardinality_of w → part ≡ replicate (length (take (3 * n) after)) 0
-        → CountsFloat w before (part ++ drop (3 * n) after) (Yes n u) x
+    pub count_accepted : {x : Float} {part : List ℕ} → x ≡ cardinality_of w → part ≡ replicate (length (take (3 * extent.nodes) after)) 0
+        → CountsFloat w before (part ++ drop (3 * extent.nodes) after) (Ok extent) x
     count_accepted {x} {part} h z = record {
-      checked = checked_as (still_checked c e) (lent_back c e (3 * n) used_fits part z);
+      checked = checked_as (still_checked c e) (lent_back c e (3 * extent.nodes) used_fits part z);
       counted = h ∙ sym (when_accepted c e (cardinality_of w) nought);
     }
 

@@ -7,8 +7,7 @@ use Rattle.std.specs.Float.Ieee.{add, mul, is_nan}
 use Rattle.std.specs.Float.Ieee.Exact.{HasValue}
 use Rattle.diagram.specs.Diagram.{var_of, low_of, high_of, vars, root, Ordered}
 use Rattle.diagram.specs.Valuations.{count_of}
-use Rattle.diagram.specs.Verdict.{verdict_of, if_accepted, Checked}
-use Rattle.diagram.specs.declared.verdict.Verdict.{Verdict}
+use Rattle.diagram.specs.Verdict.{Verdict, verdict_of, if_accepted, Checked}
 use Rattle.diagram.specs.declared.verdict.Output.TheVariants.{Nothing}
 
 -- 0.0, and 2 ^ k

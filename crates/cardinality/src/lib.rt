@@ -6,38 +6,22 @@ mod table;
 mod total;
 mod walk;
 
-ghost use Rattle.cardinality.specs.Cardinality.{CountsFloat};
+ghost use Rattle.diagram.specs.Verdict.{value_in, verdict_in};
+ghost use Rattle.cardinality.specs.Cardinality.{nought, CountsFloat};
 
-use diagram::verdict::{Output, Verdict};
+use diagram::verdict::{Finding, Output, Refused};
 use diagram_check::validate::admit;
-use floats::nought;
 use total::total;
-
-// A verdict, and a count, which is 0.0 where the words are refused.
-#[derive(Clone, Copy)]
-pub struct CountedFloat {
-    pub verdict: Verdict,
-    pub count: f64,
-}
 
 // Words of working room that are used for each node: a link and the bits of a count.
 const USED: usize = 3;
 
 // How many valuations the diagram holds for, skipped variables included.
-pub fn cardinality(words: &[u32], room: &mut [u32]) -> CountedFloat
-    ensures { CountsFloat words.now room.old room.new result.verdict result.count }
+pub fn cardinality(words: &[u32], room: &mut [u32]) -> Result<Finding<f64>, Refused>
+    ensures { CountsFloat words.now room.old room.new (verdict_in result) (value_in nought result) }
 {
-    let verdict = admit(words, room, Output::Nothing);
-    let Verdict::Accepted { nodes, vars } = verdict else {
-        return CountedFloat {
-            verdict,
-            count: nought(),
-        };
-    };
-    let used = USED * nodes;
-    let count = total(words, &mut room[..used], nodes, vars);
-    CountedFloat {
-        verdict: Verdict::Accepted { nodes, vars },
-        count,
-    }
+    let extent = admit(words, room, Output::Nothing)?;
+    let used = USED * extent.nodes;
+    let value = total(words, &mut room[..used], extent.nodes, extent.vars);
+    Ok(Finding { extent, value })
 }

@@ -59,10 +59,8 @@ fn count_down(words: &[u32], heads: &[u32], room: &mut [u32], nodes: usize, vars
     ensures { Floated words.now room.new 0 0 }
 {
     terminals(words, heads, room, nodes);
-    let mut c = vars;
-    while 0 < c {
-        level(words, heads, room, nodes, c - 1);
-        c -= 1;
+    for c in (0..vars).rev() {
+        level(words, heads, room, nodes, c);
     }
 }
 

@@ -1,5 +1,5 @@
 -- Laws of the cases of test programs.
 --     Reading    numbers in lines of text
---     Runs       words that are filled, and runs of equal words
+--     Runs       runs of equal words
 pub mod Reading
 pub mod Runs

@@ -8,19 +8,16 @@ use native.Mathlib.Numerals.{add-one}
 use native.Mathlib.Nat.{sub-zero}
 use lib.ListN.{length, get_or, set, take, drop, length-set, take-append-drop, drop_of_length-le}
 use lib.Seq.{drop-cons, drop-drop, take-suc-set, drop-set-lt, length-take-le}
-use lib.Dec.{leb, eqb}
-use borrow.Author.Tests.{lt-ltb, le-ltb, lt-leb, le-leb, eq-eqb, ne_eqb}
+use lib.Dec.{eqb}
+use borrow.Author.Tests.{lt-ltb, le-ltb, eq-eqb, ne_eqb}
+use Rattle.std.specs.Char.{is_ascii_digit}
 use Rattle.cases.specs.Lines.{is_digit, with_digit, number_in, span_of, number_at, after, line_ends, numbers_in, end_of, Reads}
 
 -- ---- one digit
 
-pub digit_high : (byte : ℕ) → 48 ≤ byte → leb byte 57 ≡ is_digit byte
+pub digit_same : (byte : ℕ) → is_ascii_digit byte ≡ is_digit byte
 unfolding is_digit
-digit_high byte h = rw (le-leb 48 byte h) refl
-
-pub digit_low : (byte : ℕ) → byte < 48 → leb 48 byte ≡ is_digit byte
-unfolding is_digit
-digit_low byte h = rw (lt-leb 48 byte h) refl
+digit_same byte = refl
 
 pub digit_added : (value byte : ℕ) → ((value * 10 + byte) % 4294967296 < 4294967296) × ((value * 10 + byte) % 4294967296 ≡ with_digit value byte)
 unfolding with_digit
@@ -88,13 +85,13 @@ module _ (text : List ℕ) where
         let span = none.1 in
         (omega arith, omega arith, sym none.0 ∙ d.number, omega arith)
 
-    pub digits_end : length text ≤ at → (from < at) × (at ≤ length text) × (value ≡ number_at text from) × (at ≡ after text from)
+    pub digits_end : length text ≤ at → (from < length text) × (length text ≤ length text) × (value ≡ number_at text from) × (length text ≡ after text from)
     digits_end h =
         let none = text_none at value h in
-        let begun = d.begun in
+        let high = d.high in
         let end = d.end in
         let span = none.1 in
-        (omega arith, d.high, sym none.0 ∙ d.number, omega arith)
+        (d.begun, omega arith, sym none.0 ∙ d.number, omega arith)
 
 -- ---- where a line ends
 

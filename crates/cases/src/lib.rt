@@ -2,7 +2,7 @@
 #![tactic(auto)]
 
 ghost use Rattle.std.specs.Prelude.{◌≡◌, ◌≤◌, ◌<◌, min, length, drop, replicate};
-ghost use Rattle.cases.specs.Lines.{is_digit, with_digit, number_at, after, line_ends, Reads, run_of};
+ghost use Rattle.cases.specs.Lines.{with_digit, number_at, after, line_ends, Reads, run_of};
 
 // A number of the text and where the next one begins.
 #[derive(Clone, Copy)]
@@ -16,12 +16,6 @@ pub struct Token {
 pub struct Line {
     pub count: usize,
     pub next: usize,
-}
-
-fn is_digit(byte: u8) -> bool
-    ensures { result ≡ is_digit byte }
-{
-    48 <= byte && byte <= 57
 }
 
 // A value with one decimal digit more, within 32 bits.
@@ -38,21 +32,19 @@ pub fn number(text: &[u8], from: usize) -> Token
     ensures { (from < result.next) × (result.next ≤ length text.now) × (result.value ≡ number_at text.now from) × (result.next ≡ after text.now from) }
 {
     let mut value: u64 = 0;
-    let mut at = from;
-    while at < text.len() {
+    for at in from..text.len() {
         let byte = text[at];
-        if !is_digit(byte) {
+        if !byte.is_ascii_digit() {
             return Token {
                 value: value as u32,
                 next: at + 1,
             };
         }
         value = with_digit(value, byte % 16);
-        at += 1;
     }
     Token {
         value: value as u32,
-        next: at,
+        next: text.len(),
     }
 }
 
@@ -66,7 +58,7 @@ pub fn line_ends(text: &[u8], at: usize) -> bool
     if text.len() < at {
         return true;
     }
-    text[at - 1] == 10
+    text[at - 1] == b'\n'
 }
 
 // The numbers up to the line's end, as words.
@@ -94,29 +86,23 @@ pub fn words_of(text: &[u8], from: usize, words: &mut [u32]) -> Line
 pub fn fill(room: &mut [u32], word: u32)
     ensures { room.new ≡ replicate (length room.old) word }
 {
-    let mut i = 0;
-    while i < room.len() {
-        room[i] = word;
-        i += 1;
-    }
+    room.fill(word);
 }
 
 // How many words from a place on equal a word.
 pub fn run_of(room: &[u32], from: usize, word: u32) -> usize
     ensures { result ≡ run_of (drop from room.now) word }
 {
-    let mut i = from;
-    while i < room.len() {
+    for i in from..room.len() {
         if room[i] != word {
             return i - from;
         }
-        i += 1;
     }
-    i - from
+    room.len().saturating_sub(from)
 }
 
 pub fn least(a: usize, b: usize) -> usize
     ensures { (result ≤ a) × (result ≤ b) × (result ≡ min a b) }
 {
-    if a < b { a } else { b }
+    a.min(b)
 }

@@ -1,39 +1,47 @@
 -- What is worked out in the table, and what the public function answers.
-use Prim.Native.Nat.{ℕ, zero, suc, ◌+◌, ◌-◌, ◌*◌, ◌/◌, ◌^◌, ◌≤◌, ◌<◌, min}
+use Prim.Native.Nat.{ℕ, zero, suc, ◌+◌, ◌*◌, ◌/◌, ◌^◌, ◌≤◌, ◌<◌, min}
 use mathlib.Core.Path.{◌≡◌, refl, sym, ap, ◌∙◌}
 use mathlib.Core.Logic.{◌≢◌}
-use mathlib.Core.Bool.{Bool, true, false, cond, not, ◌&&◌}
+use mathlib.Core.Bool.{Bool, true, false, true≢false, cond, not, ◌&&◌}
 use mathlib.Core.List.{List, [], ◌∷◌, ◌++◌}
 use native.Mathlib.Omega.{arith}
 use lib.ListN.{length, take, drop, replicate}
 use lib.Seq.{length-take-le}
 use lib.Dec.{leb, ltb, eqb}
 use borrow.Author.Tests.{lt-ltb, le-ltb, le-leb, eq-eqb, ne_eqb}
-use Rattle.naturals.specs.Natural.{value, word_count, Holds, Fitted, Answers as AnswersOf}
-use Rattle.naturals.specs.declared.Fit.{Fit}
-use Rattle.naturals.proofs.Answer.{holds_as, fitted_below, answers_yes}
-use Rattle.naturals.proofs.Place.{loads_inside}
+use Rattle.std.specs.Prelude.{Option, Some, None, is_some, is_none, Result, Ok, Err, is_ok, IsErrAnd, MatchResult}
+use Rattle.naturals.specs.Natural.{value, word_count, limit, Holds, Fitted, Answers as AnswersOf}
+use Rattle.naturals.specs.declared.Natural.{Natural}
+use Rattle.naturals.proofs.Answer.{holds_as, holds_zero, given, refused as none, answers_said}
 use Rattle.diagram.specs.Diagram.{vars, holds}
 use Rattle.diagram.specs.Valuations.{tally, count_of}
-use Rattle.diagram.specs.Verdict.{Outcome, accepted, refused, said, row, and_then, if_accepted, verdict_of}
-use Rattle.diagram.specs.declared.verdict.Verdict.{Verdict}
-use Rattle.diagram.specs.declared.verdict.Verdict.TheVariants.{Accepted as Yes, Refused as No}
+use Rattle.diagram.specs.Verdict.{Outcome, accepted, refused, said, row, and_then, if_accepted, verdict_of, verdict_in}
+use Rattle.diagram.specs.declared.verdict.Finding.{Finding}
+use Rattle.diagram.specs.declared.verdict.Refused.{Refused}
+use Rattle.diagram.specs.declared.refusal.Refusal.{Refusal}
+use Rattle.diagram.specs.declared.refusal.Refusal.TheVariants.{OtherVariables, TooManyPairs}
+use Rattle.diagram.specs.Refusal.{number_of}
 use Rattle.diagram.specs.declared.verdict.Output.TheVariants.{Nothing as NoOutput}
-use Rattle.diagram.proofs.Tests.{by_test, not_both, cond-true, cond-false}
+use Rattle.diagram.proofs.Tests.{cond-true, cond-false}
 use Rattle.diagram.proofs.Tally.{tally_zero, tally_suc, tally_same, tally_most}
 use Rattle.diagram.proofs.Words.{front_cleared}
 use Rattle.diagram.proofs.Entering.{refusal_is, verdict_is, admitted, ordered, when_accepted}
-use Rattle.counts.specs.Counted.{Counts}
+use Rattle.counts.specs.Counted.{Counts, words_in}
 use Rattle.counts.proofs.Nodes.{under_words}
 use Rattle.pairs.specs.Pairs.{pair_words, max_pairs, start, level_of, roots, all_of, pairs_of}
-use Rattle.pairs.specs.Table.{counts_from, Alike, Space, Met}
+use Rattle.pairs.specs.Table.{counts_from, Alike, Space, MetAll}
+use Rattle.pairs.proofs.Entries.{some_once}
 use Rattle.pairs.proofs.Meeting.{in_at}
+use Rattle.pairs.specs.declared.walk.Met.{Met as MetAt}
+use Rattle.std.proofs.lemmas.Option.{none-some}
 use Rattle.pairs.proofs.Numbering.{walks}
-use Rattle.comparison.specs.Comparison.{both, first_only, second_only, in_both, any_differ, shown, numeral, least, differ, alike_of, compare_of, room_left, whole_pairs, Tells, Compare}
+use Rattle.comparison.specs.Comparison.{both, first_only, second_only, in_both, any_differ, shown, numeral, least, differ, alike_of, compare_of, room_left, whole_pairs, Compared, which_number, words_of, Tells, Compare}
 use Rattle.worths.specs.Worth.{worth, flag_in, unlike_at, pair_at, Worths}
-use Rattle.comparison.specs.Work.{Rooted, Arriving, Told, Worked, Nothing, Differences, Answered, Known, beside_of, Besides}
+use Rattle.comparison.specs.Work.{Rooted, Arriving, Told, Worked, Differences, Known, beside_of, Besides}
 use Rattle.comparison.specs.declared.work.Found.{Found}
-use Rattle.comparison.specs.declared.compare.Compared.{Compared}
+use Rattle.comparison.specs.declared.compare.Comparison.{Comparison}
+use Rattle.comparison.specs.declared.compare.ComparisonRefused.{ComparisonRefused}
+use Rattle.comparison.specs.declared.compare.Which.TheVariants.{First, Second}
 use Rattle.comparison.proofs.Roots.{both_roots, unlike_roots}
 use Rattle.worths.proofs.Places.{flag_is}
 
@@ -71,19 +79,33 @@ second_whole a b e =
 -- ---- the two roots
 
 module _ {a b : List ℕ} {c : ℕ} {t : List ℕ} {place v : ℕ} (r : Rooted a b c t place v) where
-  pub root_done : {at : ℕ} → at ≡ counts_from c + word_count * place → {f : Fit} → AnswersOf (leb (at + word_count) (length t)) (value (take word_count (drop at t))) f
-      → {above : ℕ} → above ≡ level_of a b (pair_at a b place) → {g : Fit} → Fitted (value f.natural.words * 2 ^ above) g → Holds (in_both a b) g.natural.words
-  root_done {at} ea {f} h {above} el {g} fit =
-      let long = r.worths.listed.space.long in
-      let fits = r.worths.listed.standing.fits in
-      let inside = r.inside in
-      let variables = r.worths.listed.alike.first.formed.variables in
-      let read = (loads_inside t at h (omega arith)).1.worth in
-      let below : value (take word_count (drop at t)) ≡ worth ◌&&◌ a b (roots a b) =
-      rw ea ((r.worths.count place r.inside).worth ∙ ap (worth ◌&&◌ a b) r.here) in
-      let above-is : above ≡ level_of a b (roots a b) = el ∙ ap (level_of a b) r.here in
-      let is : value f.natural.words * 2 ^ above ≡ in_both a b = rw (read, below, above-is) (sym (both_roots r.worths.listed.alike)) in
-      (fitted_below (rw is at fit) (under_words word_count (in_both a b) (vars a) (tally_most (vars a) (both a b)) (omega arith))).1
+  module _ {at : ℕ} (ea : at ≡ counts_from c + word_count * place) {read : Option Natural} (h : AnswersOf (leb (at + word_count) (length t)) (value (take word_count (drop at t))) read) where
+    pub root_there : is_some read ≡ true
+    root_there =
+        let long = r.worths.listed.space.long in
+        let fits = r.worths.listed.standing.fits in
+        let inside = r.inside in
+        h.said ∙ le-leb (at + word_count) (length t) (omega arith)
+
+    module _ {below : Natural} (is : read ≡ Some below) {above : ℕ} (el : above ≡ level_of a b (pair_at a b place)) where
+      is_both : value below.words * 2 ^ above ≡ in_both a b
+      is_both =
+          let below-is : value below.words ≡ worth ◌&&◌ a b (roots a b) =
+          (answers_said h is).worth ∙ rw ea ((r.worths.count place r.inside).worth ∙ ap (worth ◌&&◌ a b) r.here) in
+          let above-is : above ≡ level_of a b (roots a b) = el ∙ ap (level_of a b) r.here in
+          rw (below-is, above-is) (sym (both_roots r.worths.listed.alike))
+
+      module _ {shifted : Option Natural} (fit : Fitted (value below.words * 2 ^ above) shifted) where
+        told : Fitted (in_both a b) shifted
+        told = rw is_both at fit
+
+        pub root_fits : is_some shifted ≡ true
+        root_fits =
+            let variables = r.worths.listed.alike.first.formed.variables in
+            told.said ∙ lt-ltb (in_both a b) limit (under_words word_count (in_both a b) (vars a) (tally_most (vars a) (both a b)) (omega arith))
+
+        pub root_done : {count : Natural} → shifted ≡ Some count → Holds (in_both a b) count.words
+        root_done e = answers_said told e
 
   module _ {d : Bool} (ed : d ≡ not (eqb (flag_in c t place) 0)) where
     pub differ_is : d ≡ any_differ a b
@@ -92,8 +114,11 @@ module _ {a b : List ℕ} {c : ℕ} {t : List ℕ} {place v : ℕ} (r : Rooted a
     pub differ_some : d ≡ true → any_differ a b ≡ true
     differ_some e = sym differ_is ∙ e
 
-    pub shown_none : d ≡ false → {words : List ℕ} → Holds 0 words → Holds (shown a b) words
-    shown_none e h = holds_as (sym (cond-false (any_differ a b) (numeral (least (vars a) (differ a b))) 0 (sym differ_is ∙ e))) h
+    pub shown_some : d ≡ true → {number : Natural} → Holds (shown a b) number.words → AnswersOf (any_differ a b) (shown a b) (Some number)
+    shown_some e h = given (differ_some e) h
+
+    pub shown_none : d ≡ false → AnswersOf (any_differ a b) (shown a b) None
+    shown_none e = none (sym differ_is ∙ e)
 
 pub rooted : {a b : List ℕ} {c : ℕ} {t t' : List ℕ} {count place v : ℕ} → Arriving a b c t count place v → Worths a b c t' count → Rooted a b c t' place v
 rooted {a} {b} {c} {t} {t'} k w = record {
@@ -114,30 +139,27 @@ module _ {a b : List ℕ} (alike : Alike a b) where
   pairs_few : pairs_of a b ≤ max_pairs
   pairs_few = walks.few a b alike.first alike.second alike.variables
 
-  worked_full : {places : ℕ} {r : Found} → r.full ≡ true → places < pairs_of a b → Worked a b places r
-  worked_full {places} {r} e over = record {
-    full = e ∙ sym (lt-ltb places (pairs_of a b) over);
-    told = λ f. absurd (not_both r.full e f);
-  }
+  worked_full : {places : ℕ} → places < pairs_of a b → Worked a b places None
+  worked_full {places} over = record { full = sym (lt-ltb places (pairs_of a b) over); told = λ found e. absurd (none-some _ e) }
 
   module _ (t : List ℕ) {c : ℕ} (ec : c ≡ min (length t / pair_words) max_pairs) where
-    pub work_none : c ≡ 0 → {r : Found} → r.full ≡ true → Worked a b (length t / pair_words) r
-    work_none e f = worked_full f (omega (arith, pairs_some))
+    pub work_none : c ≡ 0 → Worked a b (length t / pair_words) None
+    work_none e = worked_full (omega (arith, pairs_some))
 
     pub work_space : c ≢ 0 → Space c t
     work_space some = record { some = omega arith; few = omega arith; long = omega arith }
 
-    module _ {t' : List ℕ} {place k : ℕ} (m : Met a b c (all_of a b) t' (roots a b) place k) where
-      pub work_over : c < k → {r : Found} → r.full ≡ true → Worked a b (length t / pair_words) r
-      work_over over f = worked_full f (omega (arith, m.is_count, pairs_few))
+    module _ {t' : List ℕ} {r : Option MetAt} (m : MetAll a b c (all_of a b) t' (roots a b) r) where
+      pub work_over : r ≡ None → Worked a b (length t / pair_words) None
+      work_over none = worked_full (omega (arith, m.full none, pairs_few))
 
-      module _ (some : c ≢ 0) (fits : k ≤ c) where
-        count_is : k ≡ pairs_of a b
-        count_is = omega (arith, m.is_count)
+      module _ (some : c ≢ 0) {met : MetAt} (there : r ≡ Some met) where
+        count_is : met.count ≡ pairs_of a b
+        count_is = m.is_count met there
 
-        pub work_arrives : length t' ≡ length t → {v : ℕ} → v ≡ vars a → Arriving a b c t' k place v
+        pub work_arrives : length t' ≡ length t → {v : ℕ} → v ≡ vars a → Arriving a b c t' met.count met.place v
         work_arrives same ev =
-            let arrived = m.arrived fits in
+            let arrived = m.arrived met there in
             let s = work_space some in
             let long = s.long in
             record {
@@ -148,8 +170,11 @@ module _ {a b : List ℕ} (alike : Alike a b) where
               variables = ev;
             }
 
-        pub work_told : {r : Found} → (r.full ≡ false) × Told a b r → Worked a b (length t / pair_words) r
-        work_told e = record { full = e.0 ∙ sym (le-ltb (length t / pair_words) (pairs_of a b) (omega (arith, count_is))); told = λ f. e.1 }
+        pub work_told : {found : Found} → Told a b found → Worked a b (length t / pair_words) (Some found)
+        work_told k = record {
+          full = sym (le-ltb (length t / pair_words) (pairs_of a b) (omega (arith, (m.arrived met there).tabled.standing.fits)));
+          told = λ found e. let same = some_once e in rw same at k;
+        }
 
 -- ---- rows of the verdict
 
@@ -170,29 +195,23 @@ split_row n false p m v o = refl
 -- ---- the answer
 
 -- what a refusal tells
-tells_none : {a b : List ℕ} {r : Compared} (o : Outcome) {n p : ℕ} → o ≡ refused n p → Nothing r → Tells a b o r
-tells_none o e k = rw e (record { first = k.first; second = k.second; both = k.both; differ = k.differ; smallest = k.smallest })
+tells_none : {a b : List ℕ} {e : ComparisonRefused} (o : Outcome) {n p : ℕ} → o ≡ refused n p → Tells a b o (Err e)
+tells_none o e = rw e (record { first = holds_zero; second = holds_zero; both = holds_zero; differ = refl; smallest = holds_zero })
 
-pub answered_full : {x y : List ℕ} {v : ℕ} {told : Found} → told.full ≡ true → {r : Compared} → (r.verdict ≡ No 32 0) × (r.which ≡ 0) × Nothing r → Answered x y v told r
-answered_full {told = told} e k = record {
-  which = k.1;
-  full = λ f. (ap said k.0, k.2);
-  answer = λ f. absurd (not_both told.full e f);
-}
+-- the words of a number, or of zero where there is none
+words_are : {can : Bool} {n : ℕ} (r : Option Natural) → AnswersOf can n r → (can ≡ false → n ≡ 0) → Holds n (words_of r)
+words_are (Some x) h z = h.holds x refl
+words_are None h z = holds_as (sym (z (sym h.said))) holds_zero
 
 -- the table's whole pairs are in it
 pub whole_fits : (table : List ℕ) → whole_pairs table ≤ length table
 whole_fits table = omega arith
 
--- a number less another
-pub less_by : {x y : List ℕ} {f : Fit} → AnswersOf (leb (value y) (value x)) (value x - value y) f → (m n : ℕ) → Holds m x → Holds n y → n ≤ m
-    → Holds (m - n) f.natural.words
-less_by {x} {y} h m n hm hn l =
-    let em = hm.worth in
-    let en = hn.worth in
-    holds_as (omega arith) (answers_yes h (le-leb (value y) (value x) (omega arith))).1
+-- what a refusal of both together says
+abbrev pub OfBoth : Refusal → ComparisonRefused → Type 0
+OfBoth reason e = (e.refused.reason ≡ reason) × (e.refused.place ≡ 0) × (which_number e.which ≡ 0)
 
-module _ {a b : List ℕ} {v u : ℕ} {x y : List ℕ} (k : Known a b v u x y) (table : List ℕ) where
+module _ {a b : List ℕ} {x y : Finding Natural} (k : Known a b x y) (table : List ℕ) where
   beside_apart : vars a ≢ vars b → beside_of a b (length table) ≡ refused 31 0
   unfolding beside_of row
   beside_apart ne = simp (ne_eqb (vars a) (vars b) ne)
@@ -201,70 +220,104 @@ module _ {a b : List ℕ} {v u : ℕ} {x y : List ℕ} (k : Known a b v u x y) (
   unfolding beside_of row
   beside_alike e = simp (eq-eqb (vars a) (vars b) e)
 
-  pub beside_refused : v ≢ u → {r : Compared} → (r.verdict ≡ No 31 0) × (r.which ≡ 0) × Nothing r → Besides a b table table r
-  beside_refused ne {r} e =
-      let apart : vars a ≢ vars b = λ s. ne (k.variables ∙ s ∙ sym k.others) in
-      record {
-        verdict = ap said e.0 ∙ sym (beside_apart apart);
-        which = e.1;
-        tells = tells_none (beside_of a b (length table)) (beside_apart apart) e.2;
-        table_left_lem = sym (cond-false (eqb (vars a) (vars b)) (replicate (whole_pairs table) 0 ++ drop (whole_pairs table) table) table (ne_eqb (vars a) (vars b) apart));
-      }
+  abbrev left_of : List ℕ
+  left_of = cond (eqb (vars a) (vars b)) (replicate (whole_pairs table) 0 ++ drop (whole_pairs table) table) table
 
-  module _ (same : v ≡ u) where
+  both_refused : {reason : Refusal} → beside_of a b (length table) ≡ refused (number_of reason) 0 → {e : ComparisonRefused} → OfBoth reason e
+      → {table' : List ℕ} → table' ≡ left_of → Besides a b table table' (Err e)
+  both_refused is h left = record {
+    verdict = rw (h.0, h.1) (sym is);
+    which = h.2;
+    tells = tells_none (beside_of a b (length table)) is;
+    table_left_lem = left;
+  }
+
+  pub beside_refused : x.extent.vars ≢ y.extent.vars → {e : ComparisonRefused} → OfBoth OtherVariables e → Besides a b table table (Err e)
+  beside_refused ne h =
+      let apart : vars a ≢ vars b = λ s. ne (k.variables ∙ s ∙ sym k.others) in
+      both_refused (beside_apart apart) h
+      (sym (cond-false (eqb (vars a) (vars b)) (replicate (whole_pairs table) 0 ++ drop (whole_pairs table) table) table (ne_eqb (vars a) (vars b) apart)))
+
+  module _ (same : x.extent.vars ≡ y.extent.vars) where
     vars_same : vars a ≡ vars b
     vars_same = sym k.variables ∙ same ∙ k.others
 
-    pub beside_asks : Alike a b × (v ≡ vars a)
+    pub beside_asks : Alike a b × (x.extent.vars ≡ vars a)
     beside_asks = (record { first = k.first; second = k.second; variables = vars_same }, k.variables)
 
-    pub beside_done : {part : List ℕ} {told : Found} {r : Compared}
-        → Worked a b (length (take (whole_pairs table) table) / pair_words) told × (part ≡ replicate (length (take (whole_pairs table) table)) 0)
-        → Answered x y v told r → Besides a b table (part ++ drop (whole_pairs table) table) r
-    beside_done {part} {told} {r} w n = by_test told.full
-        (λ e.
-        let is : beside_of a b (length table) ≡ refused 32 0 =
-        beside_alike vars_same ∙ row_on 32 0 (ltb (length table / pair_words) (pairs_of a b)) (accepted (pairs_of a b) (vars a)) (sym full_is ∙ e) in
-        let out = n.full e in
-        record { verdict = out.0 ∙ sym is; which = n.which; tells = tells_none (beside_of a b (length table)) is out.1; table_left_lem = left })
-        (λ e.
-        let is : beside_of a b (length table) ≡ accepted (pairs_of a b) (vars a) =
-        beside_alike vars_same ∙ row_off 32 0 (ltb (length table / pair_words) (pairs_of a b)) (accepted (pairs_of a b) (vars a)) (sym full_is ∙ e) in
-        let out = n.answer e in
-        let t = w.0.told e in
-        record {
-          verdict = out.0 ∙ rw (t.pairs, k.variables) (sym is);
-          which = n.which;
-          tells = rw is (tells_all t out.1);
-          table_left_lem = left;
-        })
-      where
-        long : length (take (whole_pairs table) table) ≡ whole_pairs table
-        long = length-take-le (whole_pairs table) table (whole_fits table)
+    module _ {part : List ℕ} {told : Option Found} (w : Worked a b (length (take (whole_pairs table) table) / pair_words) told × (part ≡ replicate (length (take (whole_pairs table) table)) 0)) where
+      long : length (take (whole_pairs table) table) ≡ whole_pairs table
+      long = length-take-le (whole_pairs table) table (whole_fits table)
 
-        full_is : told.full ≡ ltb (length table / pair_words) (pairs_of a b)
-        full_is =
-            let places : length (take (whole_pairs table) table) / pair_words ≡ length table / pair_words = omega (arith, long) in
-            w.0.full ∙ ap (λ (n : ℕ). ltb n (pairs_of a b)) places
+      full_is : is_none told ≡ ltb (length table / pair_words) (pairs_of a b)
+      full_is =
+          let places : length (take (whole_pairs table) table) / pair_words ≡ length table / pair_words = omega (arith, long) in
+          w.0.full ∙ ap (λ (n : ℕ). ltb n (pairs_of a b)) places
 
-        left : part ++ drop (whole_pairs table) table ≡ cond (eqb (vars a) (vars b)) (replicate (whole_pairs table) 0 ++ drop (whole_pairs table) table) table
-        left =
-            front_cleared table (whole_pairs table) part (whole_fits table) w.1
-            ∙ sym (cond-true (eqb (vars a) (vars b)) (replicate (whole_pairs table) 0 ++ drop (whole_pairs table) table) table (eq-eqb (vars a) (vars b) vars_same))
+      left : part ++ drop (whole_pairs table) table ≡ left_of
+      left =
+          front_cleared table (whole_pairs table) part (whole_fits table) w.1
+          ∙ sym (cond-true (eqb (vars a) (vars b)) (replicate (whole_pairs table) 0 ++ drop (whole_pairs table) table) table (eq-eqb (vars a) (vars b) vars_same))
 
-        tells_all : Told a b told → Differences x y told r → Tells a b (accepted (pairs_of a b) (vars a)) r
-        tells_all t d =
-            let first = first_whole a b in
-            let second = second_whole a b vars_same in
+      pub beside_full : told ≡ None → {e : ComparisonRefused} → OfBoth TooManyPairs e → Besides a b table (part ++ drop (whole_pairs table) table) (Err e)
+      beside_full none-told h =
+          let is : beside_of a b (length table) ≡ refused 32 0 =
+          beside_alike vars_same ∙ row_on 32 0 (ltb (length table / pair_words) (pairs_of a b)) (accepted (pairs_of a b) (vars a)) (sym full_is ∙ ap is_none none-told) in
+          both_refused is h left
+
+      module _ {found : Found} (is-told : told ≡ Some found) where
+        found_told : Told a b found
+        found_told = w.0.told found is-told
+
+        pub beside_shares : (value found.both.words ≤ value x.value.words) × (value found.both.words ≤ value y.value.words)
+        beside_shares =
+            let both-is = found_told.both.worth in
+            let first-is = k.first_count.worth in
+            let second-is = k.second_count.worth in
+            (omega (arith, first_whole a b), omega (arith, second_whole a b vars_same))
+
+        pub beside_done : {r : Finding Comparison} → Differences x.value.words y.value.words x.extent.vars found r
+            → Besides a b table (part ++ drop (whole_pairs table) table) (Ok r)
+        beside_done {r} d =
+            let is : beside_of a b (length table) ≡ accepted (pairs_of a b) (vars a) =
+            beside_alike vars_same ∙ row_off 32 0 (ltb (length table / pair_words) (pairs_of a b)) (accepted (pairs_of a b) (vars a)) (sym full_is ∙ ap is_none is-told) in
             record {
-              first = holds_as (omega arith) (d.first (count_of a) (in_both a b) k.first_count t.both (omega arith));
-              second = holds_as (omega arith) (d.second (count_of b) (in_both a b) k.second_count t.both (omega arith));
-              both = rw d.both t.both;
-              differ = d.differ ∙ t.differ;
-              smallest = rw d.smallest t.smallest;
+              verdict = rw (d.pairs, d.variables, found_told.pairs, k.variables) (sym is);
+              which = refl;
+              tells = rw is tells_all;
+              table_left_lem = left;
             }
+          where
+            tells_all : Tells a b (accepted (pairs_of a b) (vars a)) (Ok r)
+            tells_all =
+                let both-is = found_told.both.worth in
+                let first-is = k.first_count.worth in
+                let second-is = k.second_count.worth in
+                let first = first_whole a b in
+                let second = second_whole a b vars_same in
+                record {
+                  first = holds_as (omega arith) d.first;
+                  second = holds_as (omega arith) d.second;
+                  both = rw d.both found_told.both;
+                  differ = rw d.smallest found_told.smallest.said;
+                  smallest = rw d.smallest (words_are found.smallest found_told.smallest (cond-false (any_differ a b) (numeral (least (vars a) (differ a b))) 0));
+                }
 
 -- ---- the two checks
+
+ok_once : {A D : Type 0} {x y : A} → ◌≡◌ {A = Result A D} (Ok x) (Ok y) → x ≡ y
+ok_once e = cc
+
+-- where another error is made of one: what there is stays, and the error is made of one that was there
+pub mapped_ok : {A E D : Type 0} (Q : E → D → Type 0) (r : Result A E) {s : Result A D} → MatchResult r (λ y. s ≡ Ok y) (λ e. IsErrAnd s (Q e)) → {x : A} → s ≡ Ok x
+    → r ≡ Ok x
+mapped_ok Q (Ok y) m {x} e = let same : y ≡ x = ok_once (sym m ∙ e) in ap Ok same
+mapped_ok Q (Err y) m e = absurd (rw e at m)
+
+pub mapped_err : {A E D : Type 0} (Q : E → D → Type 0) (r : Result A E) {s : Result A D} → MatchResult r (λ y. s ≡ Ok y) (λ e. IsErrAnd s (Q e)) → {f : D} → s ≡ Err f
+    → (e : E) × (r ≡ Err e) × Q e f
+mapped_err Q (Ok y) m e = absurd (true≢false (ap is_ok (sym m ∙ e)))
+mapped_err Q (Err y) m e = (y, refl, rw e at m)
 
 sides : (m v : ℕ) (t : Bool) (x y : List ℕ) → cond t x y ≡ if_accepted (row 31 (not t) 0 (accepted m v)) x y
 unfolding row
@@ -277,51 +330,51 @@ module _ (a b room table : List ℕ) where
   unfolding compare_of
   compare_from o e = ap (λ (s : Outcome). and_then s (row 32 (ltb (length table / pair_words) (pairs_of a b)) 0 (accepted (pairs_of a b) (vars a)))) e
 
-  module _ {room' : List ℕ} {v : Verdict} {count : List ℕ} (c : Counts a (count_of a) room room' v count) where
-    module _ {n p : ℕ} (e : v ≡ No n p) where
-      first_says : verdict_of a NoOutput (length room) ≡ refused n p
-      first_says = refusal_is c.checked e
+  module _ {room' : List ℕ} (r : Result (Finding Natural) Refused) (c : Counts a (count_of a) room room' (verdict_in r) (words_in r)) where
+    module _ {x : Refused} (e : r ≡ Err x) where
+      first_says : verdict_of a NoOutput (length room) ≡ said (Err x)
+      first_says = refusal_is c.checked (ap verdict_in e)
 
-      first_alike : alike_of a b (length room) ≡ refused n p
+      first_alike : alike_of a b (length room) ≡ said (Err x)
       unfolding alike_of
       first_alike = rw first_says refl
 
-      pub first_refused : {r : Compared} → (r.verdict ≡ v) × (r.which ≡ 0) × Nothing r → Compare a b room room' table table r
-      first_refused {r} k = record {
-        verdict = ap said (k.0 ∙ e) ∙ sym (compare_from (refused n p) first_alike);
-        which = k.1 ∙ rw first_says refl;
-        tells = tells_none (compare_of a b (length room) (length table)) (compare_from (refused n p) first_alike) k.2;
+      pub first_refused : {f : ComparisonRefused} → f ≡ record { refused = x; which = First } → Compare a b room room' table table (Err f)
+      first_refused {f} k = record {
+        verdict = rw k (sym (compare_from (said (Err x)) first_alike));
+        which = rw (k, first_says) refl;
+        tells = tells_none (compare_of a b (length room) (length table)) (compare_from (said (Err x)) first_alike);
         room_left_lem = c.checked.left ∙ rw first_says refl;
         table_left_lem = rw first_alike refl;
       }
 
-    module _ {n u : ℕ} (e : v ≡ Yes n u) {room'' : List ℕ} {w : Verdict} {other : List ℕ} (d : Counts b (count_of b) room' room'' w other) (kept : length room' ≡ length room) where
-      first_accepts : verdict_of a NoOutput (length room) ≡ accepted n u
-      first_accepts = verdict_is c.checked e
+    module _ {x : Finding Natural} (e : r ≡ Ok x) {room'' : List ℕ} (s : Result (Finding Natural) Refused) (d : Counts b (count_of b) room' room'' (verdict_in s) (words_in s)) (kept : length room' ≡ length room) where
+      first_accepts : verdict_of a NoOutput (length room) ≡ said (Ok x.extent)
+      first_accepts = verdict_is c.checked (ap verdict_in e)
 
       left_is : room'' ≡ room_left a b room
       left_is = d.checked.left ∙ rw c.checked.left (rw first_accepts refl)
 
-      module _ {m p : ℕ} (f : w ≡ No m p) where
-        second_says : verdict_of b NoOutput (length room) ≡ refused m p
-        second_says = ap (verdict_of b NoOutput) (sym kept) ∙ refusal_is d.checked f
+      module _ {y : Refused} (f : s ≡ Err y) where
+        second_says : verdict_of b NoOutput (length room) ≡ said (Err y)
+        second_says = ap (verdict_of b NoOutput) (sym kept) ∙ refusal_is d.checked (ap verdict_in f)
 
-        second_alike : alike_of a b (length room) ≡ refused m p
+        second_alike : alike_of a b (length room) ≡ said (Err y)
         unfolding alike_of
         second_alike = rw (first_accepts, second_says) refl
 
-        pub second_refused : {r : Compared} → (r.verdict ≡ w) × (r.which ≡ 1) × Nothing r → Compare a b room room'' table table r
-        second_refused {r} k = record {
-          verdict = ap said (k.0 ∙ f) ∙ sym (compare_from (refused m p) second_alike);
-          which = k.1 ∙ rw (first_accepts, second_says) refl;
-          tells = tells_none (compare_of a b (length room) (length table)) (compare_from (refused m p) second_alike) k.2;
+        pub second_refused : {g : ComparisonRefused} → g ≡ record { refused = y; which = Second } → Compare a b room room'' table table (Err g)
+        second_refused {g} k = record {
+          verdict = rw k (sym (compare_from (said (Err y)) second_alike));
+          which = rw (k, first_accepts, second_says) refl;
+          tells = tells_none (compare_of a b (length room) (length table)) (compare_from (said (Err y)) second_alike);
           room_left_lem = left_is;
           table_left_lem = rw second_alike refl;
         }
 
-      module _ {m q : ℕ} (f : w ≡ Yes m q) where
-        second_accepts : verdict_of b NoOutput (length room) ≡ accepted m q
-        second_accepts = ap (verdict_of b NoOutput) (sym kept) ∙ verdict_is d.checked f
+      module _ {y : Finding Natural} (f : s ≡ Ok y) where
+        second_accepts : verdict_of b NoOutput (length room) ≡ said (Ok y.extent)
+        second_accepts = ap (verdict_of b NoOutput) (sym kept) ∙ verdict_is d.checked (ap verdict_in f)
 
         both_alike : alike_of a b (length room) ≡ row 31 (not (eqb (vars a) (vars b))) 0 (accepted (pairs_of a b) (vars a))
         unfolding alike_of
@@ -333,18 +386,21 @@ module _ (a b room table : List ℕ) where
             compare_from (row 31 (not (eqb (vars a) (vars b))) 0 (accepted (pairs_of a b) (vars a))) both_alike
             ∙ split_row 31 (not (eqb (vars a) (vars b))) 0 (pairs_of a b) (vars a) (row 32 (ltb (length table / pair_words) (pairs_of a b)) 0 (accepted (pairs_of a b) (vars a)))
 
-        pub both_known : Known a b u q count other
-        both_known = record {
-          first = ordered c.checked e;
-          second = ordered d.checked f;
-          variables = (admitted c.checked e).variables;
-          others = (admitted d.checked f).variables;
-          first_count = holds_as (when_accepted c.checked e (count_of a) 0) c.counted;
-          second_count = holds_as (when_accepted d.checked f (count_of b) 0) d.counted;
-        }
+        pub both_known : Known a b x y
+        both_known =
+            let ea = ap verdict_in e in
+            let eb = ap verdict_in f in
+            record {
+              first = ordered c.checked ea;
+              second = ordered d.checked eb;
+              variables = (admitted c.checked ea).variables;
+              others = (admitted d.checked eb).variables;
+              first_count = holds_as (when_accepted c.checked ea (count_of a) 0) (rw e at c.counted);
+              second_count = holds_as (when_accepted d.checked eb (count_of b) 0) (rw f at d.counted);
+            }
 
-        pub compare_done : {table' : List ℕ} {r : Compared} → Besides a b table table' r → Compare a b room room'' table table' r
-        compare_done {table'} {r} k = record {
+        pub compare_done : {table' : List ℕ} {result : Compared} → Besides a b table table' result → Compare a b room room'' table table' result
+        compare_done {table'} k = record {
           verdict = k.verdict ∙ sym both_verdict;
           which = k.which ∙ rw (first_accepts, second_accepts) refl;
           tells = rw both_verdict k.tells;

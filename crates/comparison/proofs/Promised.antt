@@ -22,7 +22,7 @@ use Rattle.counts.specs.Counting.{Number}
 use Rattle.counts.proofs.Turns.{counting}
 use Rattle.pairs.specs.Pairs.{pair_words, Reached, pairs_of}
 use Rattle.pairs.proofs.Numbering.{walks}
-use Rattle.comparison.specs.Comparison.{differ, least, alike_of, compare_of}
+use Rattle.comparison.specs.Comparison.{differ, alike_of, compare_of}
 use Rattle.comparison.specs.Compares.{BothAccepted, Compares}
 use Rattle.comparison.specs.Work.{beside_of}
 use Rattle.comparison.proofs.Least.{least_length, least_passes, least_least}

@@ -9,9 +9,11 @@ use native.Mathlib.Nat.{sub-zero, mul-one, mul_assoc, pow-suc, zero-mul, add-mul
 use lib.ListN.{length}
 use lib.Pow.{pow_pos}
 use lib.Dec.{ltb, eqb}
-use borrow.Author.Tests.{ltb-true, ltb-false}
-use Rattle.naturals.specs.Natural.{value, limit, Holds, FittedIn, word_count}
-use Rattle.naturals.proofs.Answer.{holds_as, fitted_below}
+use borrow.Author.Tests.{ltb-true, ltb-false, lt-ltb}
+use Rattle.naturals.specs.Natural.{value, limit, Holds, Fitted, word_count}
+use Rattle.naturals.specs.declared.Natural.{Natural}
+use Rattle.std.specs.Prelude.{Option, Some, is_some}
+use Rattle.naturals.proofs.Answer.{holds_as, answers_said}
 use Rattle.diagram.specs.Diagram.{vars, holds}
 use Rattle.diagram.specs.Valuations.{tally}
 use Rattle.diagram.proofs.Tests.{by_test, cond-true}
@@ -183,30 +185,44 @@ module _ {a b : List ℕ} {c : ℕ} {t : List ℕ} {place v : ℕ} (r : Rooted a
           ap numeral (least_same (vars a) (differ a b) (beside unlike a b 0 (roots a b)) (differ_roots alike_of_lem))
           ∙ ap (λ (m : ℕ). numeral (least m (beside unlike a b 0 (roots a b)))) (sym (sub-zero (vars a)))
 
-  pub find_goes_on : {at i at' bit : ℕ} {words words' : List ℕ} {fits : Bool} → Finding a b c t at i words → i < v → Turned a b c t at i at' bit
-      → FittedIn word_count (value words * 2 + bit) fits words' → Finding a b c t at' (i + 1) words'
-  find_goes_on {at} {i} {at'} {bit} {words} {words'} f less turned fit =
-      let is-v = r.variables in
-      let rest : vars a - i ≡ suc (vars a - suc i) = omega arith in
-      let n = f.so_far in
-      let doubled : n * 2 ^ (vars a - i) ≡ (n * 2) * 2 ^ (vars a - suc i) =
-      rw rest (ap (λ (m : ℕ). n * m) (pow-suc 2 (vars a - suc i)) ∙ omega (arith, mul_assoc n (2 ^ (vars a - suc i)) 2, mul_assoc n 2 (2 ^ (vars a - suc i)), ap (λ (m : ℕ). n * m) (twice (2 ^ (vars a - suc i))))) in
-      let number_is : numeral (least (vars a) (differ a b)) ≡ (n * 2 + bit) * 2 ^ (vars a - suc i) + number_from a b (suc i) (pair_at a b at') =
-      f.whole ∙ omega (arith, doubled, turned.number, add-mul (n * 2) bit (2 ^ (vars a - suc i))) in
-      let small : numeral (least (vars a) (differ a b)) < 2 ^ vars a =
-      rw (← ap (λ (m : ℕ). 2 ^ m) (least_length (vars a) (differ a b))) (numeral_less (least (vars a) (differ a b))) in
-      let below = le-mul_of_pos_right (n * 2 + bit) (pow_pos (vars a - suc i)) in
-      let variables = alike_of_lem.first.formed.variables in
-      let fits_all : n * 2 + bit < limit = under_words word_count (n * 2 + bit) (vars a) (omega arith) (omega arith) in
-      let told : FittedIn word_count (n * 2 + bit) _ words' = rw f.number.worth at fit in
-      let next : i + 1 ≡ suc i = omega arith in
-      rw next (record {
-        searching = turned.searching;
-        within = omega arith;
-        so_far = n * 2 + bit;
-        number = (fitted_below told fits_all).1;
-        whole = number_is;
-      })
+  module _ {at i at' bit : ℕ} {words : List ℕ} (f : Finding a b c t at i words) (less : i < v) (turned : Turned a b c t at i at' bit) where
+    abbrev n : ℕ
+    n = f.so_far
+
+    number_is : numeral (least (vars a) (differ a b)) ≡ (n * 2 + bit) * 2 ^ (vars a - suc i) + number_from a b (suc i) (pair_at a b at')
+    number_is =
+        let is-v = r.variables in
+        let rest : vars a - i ≡ suc (vars a - suc i) = omega arith in
+        let doubled : n * 2 ^ (vars a - i) ≡ (n * 2) * 2 ^ (vars a - suc i) =
+        rw rest (ap (λ (m : ℕ). n * m) (pow-suc 2 (vars a - suc i)) ∙ omega (arith, mul_assoc n (2 ^ (vars a - suc i)) 2, mul_assoc n 2 (2 ^ (vars a - suc i)), ap (λ (m : ℕ). n * m) (twice (2 ^ (vars a - suc i))))) in
+        f.whole ∙ omega (arith, doubled, turned.number, add-mul (n * 2) bit (2 ^ (vars a - suc i)))
+
+    fits_all : n * 2 + bit < limit
+    fits_all =
+        let small : numeral (least (vars a) (differ a b)) < 2 ^ vars a =
+        rw (← ap (λ (m : ℕ). 2 ^ m) (least_length (vars a) (differ a b))) (numeral_less (least (vars a) (differ a b))) in
+        let below = le-mul_of_pos_right (n * 2 + bit) (pow_pos (vars a - suc i)) in
+        let variables = alike_of_lem.first.formed.variables in
+        under_words word_count (n * 2 + bit) (vars a) (omega (arith, number_is)) (omega arith)
+
+    module _ {longer : Option Natural} (fit : Fitted (value words * 2 + bit) longer) where
+      told : Fitted (n * 2 + bit) longer
+      told = rw f.number.worth at fit
+
+      pub find_there : is_some longer ≡ true
+      find_there = told.said ∙ lt-ltb (n * 2 + bit) limit fits_all
+
+      pub find_goes_on : {next : Natural} → longer ≡ Some next → Finding a b c t at' (i + 1) next.words
+      find_goes_on is =
+          let is-v = r.variables in
+          let one : i + 1 ≡ suc i = omega arith in
+          rw one (record {
+            searching = turned.searching;
+            within = omega arith;
+            so_far = n * 2 + bit;
+            number = answers_said told is;
+            whole = number_is;
+          })
 
   pub find_ends : {at i : ℕ} {words : List ℕ} → Finding a b c t at i words → v ≤ i → Holds (shown a b) words
   find_ends {at} {i} f over =

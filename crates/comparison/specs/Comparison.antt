@@ -1,12 +1,17 @@
 -- Two diagrams a and b beside each other (document 02, E1).
-use Rattle.std.specs.Prelude.{ℕ, zero, suc, ◌+◌, ◌*◌, ◌/◌, ◌^◌, ◌≡◌, Bool, true, false, cond, not, ◌&&◌, ◌||◌, List, [], ◌∷◌, ◌++◌, length, drop, replicate, ltb, eqb}
-use Rattle.naturals.specs.Natural.{Holds}
+use Rattle.std.specs.Prelude.{Option, Some, None, is_some, Result, Ok, Err, ℕ, zero, suc, ◌+◌, ◌*◌, ◌/◌, ◌^◌, ◌≡◌, Bool, true, false, cond, not, ◌&&◌, ◌||◌, List, [], ◌∷◌, ◌++◌, length, drop, replicate, ltb, eqb}
+use Rattle.naturals.specs.Natural.{word_count, Holds}
+use Rattle.naturals.specs.declared.Natural.{Natural}
 use Rattle.diagram.specs.Diagram.{vars, holds}
 use Rattle.diagram.specs.Valuations.{tally}
-use Rattle.diagram.specs.Verdict.{Outcome, accepted, said, row, and_then, if_accepted, verdict_of, room_after}
+use Rattle.diagram.specs.Verdict.{Verdict, Outcome, accepted, said, row, and_then, if_accepted, verdict_of, room_after}
+use Rattle.diagram.specs.declared.verdict.Finding.{Finding}
 use Rattle.diagram.specs.declared.verdict.Output.TheVariants.{Nothing}
 use Rattle.pairs.specs.Pairs.{pair_words, pairs_of}
-use Rattle.comparison.specs.declared.compare.Compared.{Compared}
+use Rattle.comparison.specs.declared.compare.Comparison.{Comparison}
+use Rattle.comparison.specs.declared.compare.ComparisonRefused.{ComparisonRefused}
+use Rattle.comparison.specs.declared.compare.Which.{Which}
+use Rattle.comparison.specs.declared.compare.Which.TheVariants.{First, Second}
 
 -- ---- what is told
 
@@ -83,18 +88,60 @@ whole_pairs table = pair_words * (length table / pair_words)
 abbrev pub table_left : List ℕ → List ℕ → ℕ → List ℕ → List ℕ
 table_left a b room table = if_accepted (alike_of a b room) (replicate (whole_pairs table) 0 ++ drop (whole_pairs table) table) table
 
--- ---- the contract: every field of the answer, the room and the table, for any words
+-- ---- what the code answers, number by number: all are zero where it is refused
+
+abbrev pub Compared : Type 0
+Compared = Result (Finding Comparison) ComparisonRefused
+
+abbrev pub which_number : Which → ℕ
+which_number First = 0
+which_number Second = 1
+
+abbrev pub verdict_told : Compared → Verdict
+verdict_told (Ok x) = Ok x.extent
+verdict_told (Err e) = Err e.refused
+
+abbrev pub which_told : Compared → ℕ
+which_told (Ok x) = 0
+which_told (Err e) = which_number e.which
+
+abbrev pub first_told : Compared → List ℕ
+first_told (Ok x) = x.value.first.words
+first_told (Err e) = replicate word_count 0
+
+abbrev pub second_told : Compared → List ℕ
+second_told (Ok x) = x.value.second.words
+second_told (Err e) = replicate word_count 0
+
+abbrev pub both_told : Compared → List ℕ
+both_told (Ok x) = x.value.both.words
+both_told (Err e) = replicate word_count 0
+
+-- They differ where there is a smallest such valuation; its words, and those of zero where there is none.
+abbrev pub differ_told : Compared → Bool
+differ_told (Ok x) = is_some x.value.smallest
+differ_told (Err e) = false
+
+abbrev pub words_of : Option Natural → List ℕ
+words_of (Some a) = a.words
+words_of None = replicate word_count 0
+
+abbrev pub smallest_told : Compared → List ℕ
+smallest_told (Ok x) = words_of x.value.smallest
+smallest_told (Err e) = replicate word_count 0
+
+-- ---- the contract: all that is answered, the room and the table, for any words
 
 pub record Tells (a b : List ℕ) (outcome : Outcome) (r : Compared) : Type 0 where
-  pub first : Holds (if_accepted outcome (first_only a b) 0) r.first.words
-  pub second : Holds (if_accepted outcome (second_only a b) 0) r.second.words
-  pub both : Holds (if_accepted outcome (in_both a b) 0) r.both.words
-  pub differ : r.differ ≡ if_accepted outcome (any_differ a b) false
-  pub smallest : Holds (if_accepted outcome (shown a b) 0) r.smallest.words
+  pub first : Holds (if_accepted outcome (first_only a b) 0) (first_told r)
+  pub second : Holds (if_accepted outcome (second_only a b) 0) (second_told r)
+  pub both : Holds (if_accepted outcome (in_both a b) 0) (both_told r)
+  pub differ : differ_told r ≡ if_accepted outcome (any_differ a b) false
+  pub smallest : Holds (if_accepted outcome (shown a b) 0) (smallest_told r)
 
 pub record Compare (a b room room' table table' : List ℕ) (r : Compared) : Type 0 where
-  pub verdict : said r.verdict ≡ compare_of a b (length room) (length table)
-  pub which : r.which ≡ which_of a b (length room)
+  pub verdict : said (verdict_told r) ≡ compare_of a b (length room) (length table)
+  pub which : which_told r ≡ which_of a b (length room)
   pub tells : Tells a b (compare_of a b (length room) (length table)) r
   pub room_left_lem : room' ≡ room_left a b room
   pub table_left_lem : table' ≡ table_left a b (length room) table

@@ -1,14 +1,16 @@
 -- What is told from the table while two diagrams are compared. Auxiliary: no promise to a caller names it.
-use Rattle.std.specs.Prelude.{ℕ, suc, ◌+◌, ◌-◌, ◌*◌, ◌/◌, ◌^◌, ◌≤◌, ◌<◌, ◌≡◌, true, false, cond, not, List, ◌++◌, length, drop, replicate, ltb, eqb}
-use Rattle.naturals.specs.Natural.{Holds}
+use Rattle.std.specs.Prelude.{Option, Some, is_none, ℕ, suc, ◌+◌, ◌-◌, ◌*◌, ◌/◌, ◌^◌, ◌≤◌, ◌<◌, ◌≡◌, cond, not, List, ◌++◌, length, drop, replicate, ltb, eqb}
+use Rattle.naturals.specs.Natural.{value, Holds, Answers}
+use Rattle.naturals.specs.declared.Natural.{Natural}
 use Rattle.diagram.specs.Diagram.{vars, Ordered}
 use Rattle.diagram.specs.Valuations.{count_of}
-use Rattle.diagram.specs.Verdict.{Outcome, accepted, refused, said, row}
+use Rattle.diagram.specs.Verdict.{Outcome, accepted, said, row}
+use Rattle.diagram.specs.declared.verdict.Finding.{Finding}
 use Rattle.pairs.specs.Pairs.{pair_words, level_of, roots, pairs_of}
 use Rattle.worths.specs.Worth.{unlike, beside, worth_from, Listed, pair_at, Worths}
-use Rattle.comparison.specs.Comparison.{in_both, any_differ, shown, numeral, least, whole_pairs, Tells}
+use Rattle.comparison.specs.Comparison.{in_both, any_differ, shown, numeral, least, whole_pairs, Compared, verdict_told, which_told, Tells}
 use Rattle.comparison.specs.declared.work.Found.{Found}
-use Rattle.comparison.specs.declared.compare.Compared.{Compared}
+use Rattle.comparison.specs.declared.compare.Comparison.{Comparison}
 
 -- All are noted, and a place is the two roots'.
 pub record Rooted (a b : List ℕ) (c : ℕ) (t : List ℕ) (place v : ℕ) : Type 0 where
@@ -39,46 +41,33 @@ pub record Arriving (a b : List ℕ) (c : ℕ) (t : List ℕ) (count place v : �
   pub here : pair_at a b place ≡ roots a b
   pub variables : v ≡ vars a
 
--- What is worked out in a table of so many words: the pairs are too many, or all is told.
+-- What is worked out in a table of so many places: the pairs are too many, or all is told.
 pub record Told (a b : List ℕ) (r : Found) : Type 0 where
   pub pairs : r.pairs ≡ pairs_of a b
   pub both : Holds (in_both a b) r.both.words
-  pub differ : r.differ ≡ any_differ a b
-  pub smallest : Holds (shown a b) r.smallest.words
+  pub smallest : Answers (any_differ a b) (shown a b) r.smallest
 
-pub record Worked (a b : List ℕ) (places : ℕ) (r : Found) : Type 0 where
-  pub full : r.full ≡ ltb places (pairs_of a b)
-  pub told : r.full ≡ false → Told a b r
-
--- Nothing is told.
-pub record Nothing (r : Compared) : Type 0 where
-  pub first : Holds 0 r.first.words
-  pub second : Holds 0 r.second.words
-  pub both : Holds 0 r.both.words
-  pub differ : r.differ ≡ false
-  pub smallest : Holds 0 r.smallest.words
+pub record Worked (a b : List ℕ) (places : ℕ) (r : Option Found) : Type 0 where
+  pub full : is_none r ≡ ltb places (pairs_of a b)
+  pub told : (found : Found) → r ≡ Some found → Told a b found
 
 -- An answer from what was worked out and the two diagrams' counts x and y.
-pub record Differences (x y : List ℕ) (told : Found) (r : Compared) : Type 0 where
-  pub first : (m n : ℕ) → Holds m x → Holds n told.both.words → n ≤ m → Holds (m - n) r.first.words
-  pub second : (m n : ℕ) → Holds m y → Holds n told.both.words → n ≤ m → Holds (m - n) r.second.words
-  pub both : r.both.words ≡ told.both.words
-  pub differ : r.differ ≡ told.differ
-  pub smallest : r.smallest.words ≡ told.smallest.words
-
-pub record Answered (x y : List ℕ) (v : ℕ) (told : Found) (r : Compared) : Type 0 where
-  pub which : r.which ≡ 0
-  pub full : told.full ≡ true → (said r.verdict ≡ refused 32 0) × Nothing r
-  pub answer : told.full ≡ false → (said r.verdict ≡ accepted told.pairs v) × Differences x y told r
+pub record Differences (x y : List ℕ) (v : ℕ) (found : Found) (r : Finding Comparison) : Type 0 where
+  pub pairs : r.extent.nodes ≡ found.pairs
+  pub variables : r.extent.vars ≡ v
+  pub first : Holds (value x - value found.both.words) r.value.first.words
+  pub second : Holds (value y - value found.both.words) r.value.second.words
+  pub both : r.value.both ≡ found.both
+  pub smallest : r.value.smallest ≡ found.smallest
 
 -- What the checks of two accepted diagrams have told: their variable counts, and their counts.
-pub record Known (a b : List ℕ) (v u : ℕ) (x y : List ℕ) : Type 0 where
+pub record Known (a b : List ℕ) (x y : Finding Natural) : Type 0 where
   pub first : Ordered a
   pub second : Ordered b
-  pub variables : v ≡ vars a
-  pub others : u ≡ vars b
-  pub first_count : Holds (count_of a) x
-  pub second_count : Holds (count_of b) y
+  pub variables : x.extent.vars ≡ vars a
+  pub others : y.extent.vars ≡ vars b
+  pub first_count : Holds (count_of a) x.value.words
+  pub second_count : Holds (count_of b) y.value.words
 
 -- What is answered then: 31, 32, or all is told.
 unfoldable pub beside_of : List ℕ → List ℕ → ℕ → Outcome
@@ -88,7 +77,7 @@ beside_of a b table =
     (accepted (pairs_of a b) (vars a)))
 
 pub record Besides (a b table table' : List ℕ) (r : Compared) : Type 0 where
-  pub verdict : said r.verdict ≡ beside_of a b (length table)
-  pub which : r.which ≡ 0
+  pub verdict : said (verdict_told r) ≡ beside_of a b (length table)
+  pub which : which_told r ≡ 0
   pub tells : Tells a b (beside_of a b (length table)) r
   pub table_left_lem : table' ≡ cond (eqb (vars a) (vars b)) (replicate (whole_pairs table) 0 ++ drop (whole_pairs table) table) table

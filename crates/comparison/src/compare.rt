@@ -1,81 +1,89 @@
 // Two diagrams beside each other: document 02, E1.
-ghost use Rattle.std.specs.Prelude.{◌≡◌, ◌/◌, length, replicate};
+ghost use Rattle.std.specs.Prelude.{◌≡◌, ◌≤◌, ◌/◌, Option, length, replicate};
+ghost use Rattle.naturals.specs.Natural.{value};
 ghost use Rattle.diagram.specs.Diagram.{vars as varsOf};
 ghost use Rattle.pairs.specs.Pairs.{pair_words};
 ghost use Rattle.pairs.specs.Table.{Alike};
-ghost use Rattle.comparison.specs.Comparison.{Compare};
-ghost use Rattle.comparison.specs.Work.{Worked, Nothing, Answered, Known, Besides};
+ghost use Rattle.comparison.specs.Comparison.{which_number, Compare};
+ghost use Rattle.comparison.specs.Work.{Worked, Differences, Known, Besides};
 
 use crate::work::{Found, work};
-use diagram::refusal::{OTHER_VARIABLES, TOO_MANY_PAIRS};
+use diagram::refusal::Refusal;
 use diagram::room::clear;
-use diagram::verdict::Verdict;
+use diagram::verdict::{Extent, Finding, Refused};
 use exact_counts::exact_cardinality;
-use naturals::{Natural, subtract, zero};
+use naturals::{Natural, subtract};
 use pairs::table::PAIR_WORDS;
 
-// A verdict, and which diagram a refusal is about: 0 the first, or none, and 1 the second. Accepted, `nodes` are the pairs reached. How
-// many valuations hold in the first only, in the second only and in both; whether there is one in which they differ, and the smallest
-// such as a number, in which variable 0 is the highest bit. All zero where it is refused.
-#[derive(Clone, Copy)]
-pub struct Compared {
-    pub verdict: Verdict,
-    pub which: u32,
+// The diagram that a refusal is about. Refusals 31 and 32 are about both, and name the first, as C has it.
+#[derive(Clone, Copy, Debug, PartialEq, Eq)]
+pub enum Which {
+    First = 0,
+    Second = 1,
+}
+
+impl Which {
+    // The number that C and the programs know it by.
+    pub fn number(self) -> u32
+        ensures { result ≡ which_number self }
+    {
+        self as u32
+    }
+}
+
+#[derive(Clone, Copy, Debug, PartialEq, Eq)]
+pub struct ComparisonRefused {
+    pub refused: Refused,
+    pub which: Which,
+}
+
+// How many valuations hold in the first only, in the second only and in both; and the smallest valuation in which they differ, if there is
+// one, as a number, in which variable 0 is the highest bit.
+#[derive(Clone, Copy, Debug, PartialEq, Eq)]
+pub struct Comparison {
     pub first: Natural,
     pub second: Natural,
     pub both: Natural,
-    pub differ: bool,
-    pub smallest: Natural,
+    pub smallest: Option<Natural>,
 }
 
-fn refused(verdict: Verdict, which: u32) -> Compared
-    ensures { (result.verdict ≡ verdict) × (result.which ≡ which) × Nothing result }
+// The nodes of the extent are the pairs reached.
+pub type Compared = Result<Finding<Comparison>, ComparisonRefused>;
+
+// A refusal of both together.
+fn of_both(reason: Refusal) -> ComparisonRefused
+    ensures { (result.refused.reason ≡ reason) × (result.refused.place ≡ 0) × (which_number result.which ≡ 0) }
 {
-    Compared {
-        verdict,
-        which,
-        first: zero(),
-        second: zero(),
-        both: zero(),
-        differ: false,
-        smallest: zero(),
+    ComparisonRefused {
+        refused: Refused { reason, place: 0 },
+        which: Which::First,
     }
 }
 
-fn answered(first: Natural, second: Natural, vars: u32, told: Found) -> Compared
-    ensures { Answered first.words second.words vars told result }
+// Each has its own share of what both hold for.
+fn answered(first: Natural, second: Natural, vars: u32, found: Found) -> Finding<Comparison>
+    requires { (value found.both.words ≤ value first.words) × (value found.both.words ≤ value second.words) }
+    ensures { Differences first.words second.words vars found result }
 {
-    if told.full {
-        return refused(
-            Verdict::Refused {
-                number: TOO_MANY_PAIRS,
-                place: 0,
-            },
-            0,
-        );
-    }
-    let both = told.both;
-    let smallest = told.smallest;
-    let in_first = subtract(first, both);
-    let in_second = subtract(second, both);
-    let only_first = in_first.natural;
-    let only_second = in_second.natural;
-    Compared {
-        verdict: Verdict::Accepted {
-            nodes: told.pairs,
+    let both = found.both;
+    let only_first = subtract(first, both).unwrap();
+    let only_second = subtract(second, both).unwrap();
+    Finding {
+        extent: Extent {
+            nodes: found.pairs,
             vars,
         },
-        which: 0,
-        first: only_first,
-        second: only_second,
-        both,
-        differ: told.differ,
-        smallest,
+        value: Comparison {
+            first: only_first,
+            second: only_second,
+            both,
+            smallest: found.smallest,
+        },
     }
 }
 
 // The table is zero afterwards.
-fn work_and_clear(first: &[u32], second: &[u32], table: &mut [u32], vars: u32) -> Found
+fn work_and_clear(first: &[u32], second: &[u32], table: &mut [u32], vars: u32) -> Option<Found>
     requires { Alike first.now second.now × (vars ≡ varsOf first.now) }
     ensures { Worked first.now second.now (length table.old / pair_words) result × (table.new ≡ replicate (length table.old) 0) }
 {
@@ -90,47 +98,36 @@ fn beside(
     first: &[u32],
     second: &[u32],
     table: &mut [u32],
-    vars: u32,
-    others: u32,
-    in_first: Natural,
-    in_second: Natural,
+    of_first: Finding<Natural>,
+    of_second: Finding<Natural>,
 ) -> Compared
-    requires { Known first.now second.now vars others in_first.words in_second.words }
+    requires { Known first.now second.now of_first of_second }
     ensures { Besides first.now second.now table.old table.new result }
 {
+    let vars = of_first.extent.vars;
+    let others = of_second.extent.vars;
     if vars != others {
-        return refused(
-            Verdict::Refused {
-                number: OTHER_VARIABLES,
-                place: 0,
-            },
-            0,
-        );
+        return Err(of_both(Refusal::OtherVariables));
     }
     let whole = PAIR_WORDS * (table.len() / PAIR_WORDS);
     let told = work_and_clear(first, second, &mut table[..whole], vars);
-    answered(in_first, in_second, vars, told)
+    let Some(found) = told else {
+        return Err(of_both(Refusal::TooManyPairs));
+    };
+    Ok(answered(of_first.value, of_second.value, vars, found))
 }
 
 // `room` serves both checks in turn; `table` has PAIR_WORDS words for each pair.
 pub fn compare(first: &[u32], second: &[u32], room: &mut [u32], table: &mut [u32]) -> Compared
     ensures { Compare first.now second.now room.old room.new table.old table.new result }
 {
-    let of_first = exact_cardinality(first, room);
-    let verdict = of_first.verdict;
-    let Verdict::Accepted { nodes: _, vars } = verdict else {
-        return refused(verdict, 0);
-    };
-    let of_second = exact_cardinality(second, room);
-    let other = of_second.verdict;
-    let Verdict::Accepted {
-        nodes: _,
-        vars: others,
-    } = other
-    else {
-        return refused(other, 1);
-    };
-    let in_first = of_first.count;
-    let in_second = of_second.count;
-    beside(first, second, table, vars, others, in_first, in_second)
+    let of_first = exact_cardinality(first, room).map_err(|refused| ComparisonRefused {
+        refused,
+        which: Which::First,
+    })?;
+    let of_second = exact_cardinality(second, room).map_err(|refused| ComparisonRefused {
+        refused,
+        which: Which::Second,
+    })?;
+    beside(first, second, table, of_first, of_second)
 }

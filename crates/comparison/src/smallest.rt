@@ -58,13 +58,10 @@ pub(crate) fn smallest(
 {
     let mut number = zero();
     let mut at = place;
-    let mut variable = 0;
-    while variable < vars {
+    for variable in 0..vars {
         let next = turn(first, second, table, capacity, at, variable);
-        let longer = times_plus(number, 2, next.bit);
-        number = longer.natural;
+        number = times_plus(number, 2, next.bit).unwrap();
         at = next.place;
-        variable += 1;
     }
     number
 }

@@ -1,40 +1,25 @@
 // What is worked out in the table.
-ghost use Rattle.std.specs.Prelude.{◌≡◌, true, false, ◌/◌, length};
-ghost use Rattle.naturals.specs.Natural.{Holds};
+ghost use Rattle.std.specs.Prelude.{◌≡◌, ◌/◌, length};
+ghost use Rattle.naturals.specs.Natural.{Holds, Answers};
 ghost use Rattle.diagram.specs.Diagram.{vars as varsOf};
 ghost use Rattle.pairs.specs.Pairs.{pair_words};
 ghost use Rattle.pairs.specs.Table.{Alike};
-ghost use Rattle.comparison.specs.Comparison.{in_both, shown as shownOf};
+ghost use Rattle.comparison.specs.Comparison.{in_both, any_differ, shown as shownOf};
 ghost use Rattle.comparison.specs.Work.{Rooted, Arriving, Told, Worked};
 
 use crate::smallest::smallest;
-use naturals::{Natural, load, shift_left, zero};
+use naturals::{Natural, load, shift_left};
 use pairs::table::capacity_of;
 use pairs::walk::walk;
 use worths::flags::differs_at;
 use worths::sums::{count_from, level_at, note_all};
 
-// What was found: that there are more pairs than places, and nothing else; or how many pairs there are, how many valuations both diagrams
-// hold for, whether they differ, and the smallest valuation in which they do, zero where there is none.
-#[derive(Clone, Copy)]
+// How many pairs there are, how many valuations both diagrams hold for, and the smallest valuation in which they differ, if there is one.
+#[derive(Clone, Copy, Debug, PartialEq, Eq)]
 pub(crate) struct Found {
     pub pairs: usize,
-    pub full: bool,
     pub both: Natural,
-    pub differ: bool,
-    pub smallest: Natural,
-}
-
-fn full() -> Found
-    ensures { result.full ≡ true }
-{
-    Found {
-        pairs: 0,
-        full: true,
-        both: zero(),
-        differ: false,
-        smallest: zero(),
-    }
+    pub smallest: Option<Natural>,
 }
 
 // The count at the place of the two roots, doubled for the variables above them.
@@ -49,13 +34,12 @@ fn root_count(
     requires { Rooted first.now second.now capacity table.now place vars }
     ensures { Holds (in_both first.now second.now) result.words }
 {
-    let below = load(table, count_from(capacity, place));
+    let below = load(table, count_from(capacity, place)).unwrap();
     let above = level_at(first, second, table, capacity, place);
-    let scaled = shift_left(below.natural, above.0);
-    scaled.natural
+    shift_left(below, above.0).unwrap()
 }
 
-// The smallest valuation, or zero.
+// The smallest valuation in which they differ.
 fn shown(
     first: &[u32],
     second: &[u32],
@@ -63,14 +47,14 @@ fn shown(
     capacity: usize,
     place: usize,
     vars: u32,
-) -> Natural
+) -> Option<Natural>
     requires { Rooted first.now second.now capacity table.now place vars }
-    ensures { Holds (shownOf first.now second.now) result.words }
+    ensures { Answers (any_differ first.now second.now) (shownOf first.now second.now) result }
 {
     if differs_at(table, capacity, place) {
-        return smallest(first, second, table, capacity, place, vars);
+        return Some(smallest(first, second, table, capacity, place, vars));
     }
-    zero()
+    None
 }
 
 fn tell(
@@ -83,29 +67,25 @@ fn tell(
     vars: u32,
 ) -> Found
     requires { Arriving first.now second.now capacity table.old count place vars }
-    ensures { (result.full ≡ false) × Told first.now second.now result }
+    ensures { Told first.now second.now result }
 {
     note_all(first, second, table, capacity, count, vars);
     Found {
         pairs: count,
-        full: false,
         both: root_count(first, second, table, capacity, place, vars),
-        differ: differs_at(table, capacity, place),
         smallest: shown(first, second, table, capacity, place, vars),
     }
 }
 
-pub(crate) fn work(first: &[u32], second: &[u32], table: &mut [u32], vars: u32) -> Found
+// Nothing where there are more pairs than places.
+pub(crate) fn work(first: &[u32], second: &[u32], table: &mut [u32], vars: u32) -> Option<Found>
     requires { Alike first.now second.now × (vars ≡ varsOf first.now) }
     ensures { Worked first.now second.now (length table.old / pair_words) result }
 {
     let capacity = capacity_of(table.len());
     if capacity == 0 {
-        return full();
+        return None;
     }
-    let met = walk(first, second, table, capacity);
-    if capacity < met.count {
-        return full();
-    }
-    tell(first, second, table, capacity, met.count, met.place, vars)
+    let met = walk(first, second, table, capacity)?;
+    Some(tell(first, second, table, capacity, met.count, met.place, vars))
 }

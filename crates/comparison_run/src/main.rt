@@ -14,7 +14,7 @@ use comparison::compare::{Compared, compare};
 use diagram::limits::{MAX_NODES, ROOM_PER_NODE};
 use diagram::node::word;
 use diagram::verdict::Verdict;
-use naturals::Natural;
+use naturals::{Natural, zero};
 use pairs::table::PAIR_WORDS;
 
 // The number of standard output.
@@ -45,16 +45,16 @@ fn say(text: &[u8], value: u64) {
 
 fn say_verdict(verdict: Verdict, which: u32) {
     match verdict {
-        Verdict::Accepted { nodes, vars } => {
-            say(b"accepted pairs ", nodes as u64);
-            say(b" vars ", vars as u64);
+        Ok(extent) => {
+            say(b"accepted pairs ", extent.nodes as u64);
+            say(b" vars ", u64::from(extent.vars));
         }
-        Verdict::Refused { number, place } => {
-            say(b"refused ", number as u64);
-            say(b" at ", place as u64);
+        Err(refused) => {
+            say(b"refused ", u64::from(refused.reason.number()));
+            say(b" at ", refused.place as u64);
         }
     }
-    say(b" which ", which as u64);
+    say(b" which ", u64::from(which));
 }
 
 fn say_left(name: &[u8], lent: &[u32], word: u32) {
@@ -71,10 +71,8 @@ fn hex(x: u32, width: usize) {
 // Without zeros in front.
 fn show(a: Natural) {
     let mut begun = false;
-    let mut i = naturals::WORDS;
-    while 0 < i {
-        i -= 1;
-        let x = a.words[i];
+    for word in a.words.iter().rev() {
+        let x = *word;
         if begun {
             hex(x, 8);
         } else {
@@ -94,22 +92,30 @@ fn say_number(name: &[u8], a: Natural) {
     show(a);
 }
 
-fn say_answer(answer: Compared) {
-    let verdict = answer.verdict;
-    let first = answer.first;
-    let second = answer.second;
-    let both = answer.both;
-    let smallest = answer.smallest;
-    say_verdict(verdict, answer.which);
+fn say_numbers(first: Natural, second: Natural, both: Natural, smallest: Option<Natural>) {
     say_number(b", first ", first);
     say_number(b" second ", second);
     say_number(b" both ", both);
-    if answer.differ {
+    if smallest.is_some() {
         io::write_all(STDOUT, b", differ yes");
     } else {
         io::write_all(STDOUT, b", differ no");
     }
-    say_number(b" smallest ", smallest);
+    say_number(b" smallest ", smallest.unwrap_or(zero()));
+}
+
+fn say_answer(answer: Compared) {
+    match answer {
+        Ok(found) => {
+            let told = found.value;
+            say_verdict(Ok(found.extent), 0);
+            say_numbers(told.first, told.second, told.both, told.smallest);
+        }
+        Err(refusal) => {
+            say_verdict(Err(refusal.refused), refusal.which.number());
+            say_numbers(zero(), zero(), zero(), None);
+        }
+    }
 }
 
 fn run_case(

@@ -6,12 +6,12 @@ use native.Mathlib.Omega.{arith}
 use lib.ListN.{length, take, drop}
 use Rattle.diagram.specs.Limits.{max_nodes, max_words}
 use Rattle.diagram.specs.Diagram.{size}
-use Rattle.diagram.specs.Verdict.{Outcome, accepted, refused as rejected, said as judged, verdict_of}
-use Rattle.diagram.specs.declared.verdict.Verdict.{Verdict}
+use Rattle.diagram.specs.Verdict.{Verdict, Outcome, accepted, refused as rejected, said as judged, verdict_of}
 use Rattle.diagram.specs.declared.verdict.Output.TheVariants.{Nothing}
-use Rattle.blocks.specs.Block.{nodes as stored, refused as unread, said}
-use Rattle.blocks.specs.declared.stored.Stored.{Stored}
-use Rattle.blocks.specs.declared.stored.Stored.TheVariants.{Nodes, Refused as Unread}
+use Rattle.std.specs.Prelude.{Ok, Err}
+use Rattle.diagram.specs.Refusal.{number_of}
+use Rattle.diagram.specs.declared.verdict.Refused.{Refused}
+use Rattle.blocks.specs.Block.{Stored, nodes as stored, refused as unread, said}
 use Rattle.block_file.specs.File.{Reading, reading}
 use Rattle.forms.specs.Form.{read_as, write_as, file_as, bytes_as, left_as, FormReads, FormWrites}
 use Rattle.forms.specs.declared.Form.{Form}
@@ -44,28 +44,28 @@ found_of (reading (stored m) l) e = if_found_lem m l (verdict_of (take (3 * m) l
 found_of (reading (unread k p) l) e = let z : ◌≡◌ {A = ℕ} 0 1 = cc in absurd (omega arith)
 
 module _ (form : Form) (s before left : List ℕ) {r : Stored} (a : FormReads form s before left r) where
-  pub read_few : {n : ℕ} → r ≡ Nodes n → 3 * n ≤ max_words
+  pub read_few : {n : ℕ} → r ≡ Ok n → 3 * n ≤ max_words
   read_few e = omega (arith, form_few form s before (sym (rw e at a.is)))
 
-  pub finds_none : {k p : ℕ} → r ≡ Unread k p → Finds form s before left r
+  pub finds_none : {x : Refused} → r ≡ Err x → Finds form s before left (Err x)
   finds_none e = record { is = rw (sym a.is, e) refl }
 
-  pub finds : {n : ℕ} (v : Verdict) (q : Stored) → r ≡ Nodes n → judged v ≡ verdict_of (take (3 * n) left) Nothing room_lent → said q ≡ if_diagram n (judged v) → Finds form s before left q
+  pub finds : {n : ℕ} (v : Verdict) (q : Stored) → r ≡ Ok n → judged v ≡ verdict_of (take (3 * n) left) Nothing room_lent → said q ≡ if_diagram n (judged v) → Finds form s before left q
   finds v q e f g = record { is = rw (sym a.is, e, g, f) refl }
 
 -- ---- the file
 
 module _ (from : Form) (s before left : List ℕ) {r : Stored} (a : Finds from s before left r) where
-  pub found_few : {n : ℕ} → r ≡ Nodes n → 3 * n ≤ max_words
+  pub found_few : {n : ℕ} → r ≡ Ok n → 3 * n ≤ max_words
   found_few e = omega (arith, form_few from s before (found_of (read_as from s before) (sym (rw e at a.is))).reads)
 
   module _ (is-blank : before ≡ blank) {file text text' : List ℕ} {end text-end : ℕ} where
-    pub file_refused : {k p : ℕ} → r ≡ Unread k p → (end ≡ 0) × Wrote (refusal_text k p) text 0 text' text-end
+    pub file_refused : {x : Refused} → r ≡ Err x → (end ≡ 0) × Wrote (refusal_text (number_of x.reason) x.place) text 0 text' text-end
         → Converts (file_done from s (length file)) file file text text' end text-end
     unfolding file_done
     file_refused e t = rw (sym is-blank, sym a.is, e) (record { stored = refl; stored_end = t.0; told = t.1 })
 
-    pub file_done_lem : {n : ℕ} {to : Form} {file' : List ℕ} → to ≡ other from → r ≡ Nodes n
+    pub file_done_lem : {n : ℕ} {to : Form} {file' : List ℕ} → to ≡ other from → r ≡ Ok n
         → Converts (storing to (take (3 * n) left) (length file)) file file' text text' end text-end
         → Converts (file_done from s (length file)) file file' text text' end text-end
     unfolding file_done
@@ -74,22 +74,22 @@ module _ (from : Form) (s before left : List ℕ) {r : Stored} (a : Finds from s
 -- ---- the other form
 
 module _ (to : Form) (w file left : List ℕ) {r : Stored} (h : FormWrites to w file left r) where
-  outcome_is : {n : ℕ} → r ≡ Nodes n → write_as to w (length file) ≡ stored n
+  outcome_is : {n : ℕ} → r ≡ Ok n → write_as to w (length file) ≡ stored n
   outcome_is e = sym h.answer ∙ ap said e
 
-  pub store_few : {n : ℕ} → r ≡ Nodes n → n ≤ max_nodes
+  pub store_few : {n : ℕ} → r ≡ Ok n → n ≤ max_nodes
   store_few {n} e = (is_stored to w (length file) n (outcome_is e)).few
 
   module _ {text text' : List ℕ} {end text-end : ℕ} where
-    pub store_refused : {k p : ℕ} → r ≡ Unread k p → (end ≡ 0) × Wrote (refusal_text k p) text 0 text' text-end
+    pub store_refused : {x : Refused} → r ≡ Err x → (end ≡ 0) × Wrote (refusal_text (number_of x.reason) x.place) text 0 text' text-end
         → Converts (storing to w (length file)) file left text text' end text-end
     unfolding storing left_as
-    store_refused {k = k} {p = p} e t =
-        let o : write_as to w (length file) ≡ unread k p = sym h.answer ∙ ap said e in
+    store_refused {x = x} e t =
+        let o : write_as to w (length file) ≡ unread (number_of x.reason) x.place = sym h.answer ∙ ap said e in
         let l : left ≡ file = rw o at h.leaves in
         rw (l, o) (record { stored = refl; stored_end = t.0; told = t.1 })
 
-    pub store_done : {n : ℕ} → r ≡ Nodes n → end ≡ bytes_as to n → Wrote (nodes_text n) text 0 text' text-end
+    pub store_done : {n : ℕ} → r ≡ Ok n → end ≡ bytes_as to n → Wrote (nodes_text n) text 0 text' text-end
         → Converts (storing to w (length file)) file left text text' end text-end
     unfolding storing left_as
     store_done {n = n} e f t =

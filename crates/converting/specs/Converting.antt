@@ -4,8 +4,7 @@ use Rattle.std.specs.Prelude.{ℕ, ◌+◌, ◌*◌, ◌≡◌, Bool, true, fals
 use Rattle.diagram.specs.Diagram.{size}
 use Rattle.diagram.specs.Verdict.{Outcome, accepted, refused as rejected, verdict_of}
 use Rattle.diagram.specs.declared.verdict.Output.TheVariants.{Nothing}
-use Rattle.blocks.specs.Block.{Outcome as Stores, nodes as stored, refused as unread, said}
-use Rattle.blocks.specs.declared.stored.Stored.{Stored}
+use Rattle.blocks.specs.Block.{Stored, Outcome as Stores, nodes as stored, refused as unread, said}
 use Rattle.block_file.specs.File.{Reading, reading}
 use Rattle.node_file.specs.NodeFile.{node_file_bytes}
 use Rattle.forms.specs.Form.{read_as, write_as, file_as}

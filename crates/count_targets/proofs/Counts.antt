@@ -9,9 +9,10 @@ use Rattle.naturals.specs.Natural.{value}
 use Rattle.diagram.specs.Limits.{max_nodes, max_variables}
 use Rattle.diagram.specs.Diagram.{size, vars, Accepted}
 use Rattle.diagram.specs.Valuations.{count_of}
-use Rattle.diagram.specs.Verdict.{accepted, said, most, Checked}
-use Rattle.diagram.specs.declared.verdict.Verdict.{Verdict}
-use Rattle.diagram.specs.declared.verdict.Verdict.TheVariants.{Accepted as Yes, Refused as No}
+use Rattle.diagram.specs.Verdict.{Verdict, accepted, said, most, Checked}
+use Rattle.std.specs.Prelude.{Ok, Err}
+use Rattle.diagram.specs.declared.verdict.Extent.{Extent}
+use Rattle.diagram.specs.declared.verdict.Refused.{Refused}
 use Rattle.diagram.specs.declared.verdict.Output.TheVariants.{Diagram}
 use Rattle.diagram.proofs.Entering.{refusal_is, verdict_is, admitted}
 use Rattle.diagram.proofs.Tests.{by-eq}
@@ -253,28 +254,35 @@ told_own true w k e = over_count_own w k e
 told_own false w k e = under_count_own w k e
 
 module _ (above as_is : Bool) {w : List ℕ} (k : ℕ) {room room' : List ℕ} (out : List ℕ) {verdict : Verdict} (checked : Checked w (Diagram (length out)) room room' verdict) where
-  pub check_refuses : {i p : ℕ} → verdict ≡ No i p → ToCount above as_is w k room room' out out verdict 0 0
-  check_refuses e = meets_refused (count_verdict above w k) (to_count above as_is w k) out checked.left e (rw (refusal_is checked e) refl)
+  pub check_refuses : {x : Refused} → verdict ≡ Err x → ToCount above as_is w k room room' out out (Err x) 0 0
+  check_refuses e = meets_refused (count_verdict above w k) (to_count above as_is w k) out checked.left refl (rw (refusal_is checked e) refl)
 
-  module _ {n v : ℕ} (e : verdict ≡ Yes n v) where
-    pub open_few : v ≤ max_variables
+  module _ {x : Extent} (e : verdict ≡ Ok x) where
+    pub open_few : x.vars ≤ max_variables
     open_few = let is = (admitted checked e).variables in let few = (admitted checked e).accepted.formed.variables in omega arith
 
-    module _ (l : Verdict) (says : (w : List ℕ) → n ≡ size w → v ≡ vars w → said l ≡ count_told_of above w k) where
+    module _ (l : Verdict) (says : (w : List ℕ) → x.nodes ≡ size w → x.vars ≡ vars w → said l ≡ count_told_of above w k) where
       -- the check accepts: the verdict is what is told of the target
+      target_is : count_told_of above w k ≡ said l
+      target_is = sym (says w (admitted checked e).nodes (admitted checked e).variables)
+
       told_is : count_verdict above w k (length room) (length out) ≡ said l
-      told_is = rw (verdict_is checked e) (sym (says w (admitted checked e).nodes (admitted checked e).variables))
+      told_is = rw (verdict_is checked e) target_is
 
-      pub open_refuses : {i p : ℕ} → l ≡ No i p → ToCount above as_is w k room room' out out l 0 0
-      open_refuses f = meets_refused (count_verdict above w k) (to_count above as_is w k) out checked.left f (told_is ∙ ap said f)
+      pub open_refuses : {y : Refused} → l ≡ Err y → ToCount above as_is w k room room' out out (Err y) 0 0
+      open_refuses f = meets_refused (count_verdict above w k) (to_count above as_is w k) out checked.left refl (told_is ∙ ap said f)
 
-      module _ {n' v' : ℕ} (f : l ≡ Yes n' v') where
-        pub open_counts : Counting above w room' out k n v
-        open_counts = record {
-          targeting = check_targets out checked e;
-          target = told_own above w k (sym (says w (admitted checked e).nodes (admitted checked e).variables) ∙ ap said f);
-        }
+      module _ {y : Extent} (f : l ≡ Ok y) where
+        own : count_told_of above w k ≡ accepted (size w) (vars w)
+        own = told_own above w k (target_is ∙ ap said f)
+
+        pub open_counts : Counting above w room' out k x.nodes x.vars
+        open_counts = record { targeting = check_targets out checked e; target = own }
+
+        -- both accept, and count the same
+        both_accept : count_verdict above w k (length room) (length out) ≡ said (Ok x)
+        both_accept = let given = admitted checked e in told_is ∙ sym target_is ∙ own ∙ (rw (given.nodes, given.variables) refl)
 
         pub open_meets : {room'' out' : List ℕ} {j trials : ℕ} → Hit (to_count above as_is w k) room' room'' out out' j trials
-            → ToCount above as_is w k room room'' out out' l j trials
-        open_meets h = meets_hit (count_verdict above w k) (to_count above as_is w k) out checked.left f (told_is ∙ ap said f) h
+            → ToCount above as_is w k room room'' out out' (Ok x) j trials
+        open_meets h = meets_hit (count_verdict above w k) (to_count above as_is w k) out checked.left refl both_accept h

@@ -1,11 +1,12 @@
 // To a count.
 ghost use Rattle.std.specs.Prelude.{true, false};
 ghost use Rattle.naturals.specs.Natural.{value};
+ghost use Rattle.diagram.specs.Verdict.{verdict_in};
 ghost use Rattle.negation.specs.Negation.{negated};
 ghost use Rattle.approximation.specs.Search.{under_to_count};
 ghost use Rattle.approximation.specs.Met.{under_count_answer, over_count_answer};
 ghost use Rattle.trials.specs.Trials.{Found};
-ghost use Rattle.targets.specs.Targets.{UnderToCount, OverToCount};
+ghost use Rattle.targets.specs.Targets.{nodes_in, trials_in, UnderToCount, OverToCount};
 ghost use Rattle.targets.specs.Hits.{Hit};
 ghost use Rattle.count_targets.specs.Aims.{to_count, ToCount, remaining, Mirroring, Lacking, Counting};
 
@@ -13,7 +14,7 @@ use count_search::{count_of, seek};
 use diagram::limits::MAX_WORDS;
 use diagram::node::BddPointer;
 use diagram::room::{clear, most};
-use diagram::verdict::{Output, Verdict};
+use diagram::verdict::{Finding, Output};
 use diagram_check::validate::admit;
 use levels::CHAINS;
 use naturals::{Natural, at_most, excess, is_zero, power_of_two};
@@ -86,12 +87,12 @@ fn under_negation(
     requires { Lacking words.now heads.now room.old (value target.words) (value count.words) nodes vars }
     ensures { Found (negated words.now) (under_to_count (negated words.now) (remaining words.now (value target.words))) room.old room.new result.nodes result.trials }
 {
-    let all = power_of_two(vars);
-    let left = excess(all.natural, target);
+    let all = power_of_two(vars).unwrap();
+    let left = excess(all, target);
     if is_zero(left) {
         return constantly(room, BddPointer(0), nodes, vars);
     }
-    let others = excess(all.natural, count);
+    let others = excess(all, count);
     turn_and_seek(words, heads, room, left, others, nodes, vars)
 }
 
@@ -150,30 +151,21 @@ fn to_count(
     room: &mut [u32],
     output: &mut [u32],
 ) -> Approximated
-    ensures { ToCount above as_is words.now (value target.words) room.old room.new output.old output.new result.verdict result.nodes result.trials }
+    ensures { ToCount above as_is words.now (value target.words) room.old room.new output.old output.new (verdict_in result) (nodes_in result) (trials_in result) }
 {
-    let verdict = admit(words, room, Output::Diagram(output.len()));
-    let Verdict::Accepted { nodes, vars } = verdict else {
-        return Approximated {
-            verdict,
-            nodes: 0,
-            trials: 0,
-        };
-    };
-    let told = tell(target, above, nodes, vars);
-    let Verdict::Accepted { nodes: _, vars: _ } = told else {
-        return Approximated {
-            verdict: told,
-            nodes: 0,
-            trials: 0,
-        };
-    };
-    let found = hit(words, target, above, as_is, room, output, nodes, vars);
-    Approximated {
-        verdict: told,
-        nodes: found.nodes,
-        trials: found.trials,
-    }
+    let extent = admit(words, room, Output::Diagram(output.len()))?;
+    tell(target, above, extent.nodes, extent.vars)?;
+    let value = hit(
+        words,
+        target,
+        above,
+        as_is,
+        room,
+        output,
+        extent.nodes,
+        extent.vars,
+    );
+    Ok(Finding { extent, value })
 }
 
 // The answer has at most so many valuations, and it holds only where the diagram does.
@@ -184,7 +176,7 @@ pub fn underapproximate_to_cardinality(
     room: &mut [u32],
     output: &mut [u32],
 ) -> Approximated
-    ensures { UnderToCount as_is words.now (value target.words) room.old room.new output.old output.new result.verdict result.nodes result.trials }
+    ensures { UnderToCount as_is words.now (value target.words) room.old room.new output.old output.new (verdict_in result) (nodes_in result) (trials_in result) }
 {
     to_count(words, target, false, as_is, room, output)
 }
@@ -197,7 +189,7 @@ pub fn overapproximate_to_cardinality(
     room: &mut [u32],
     output: &mut [u32],
 ) -> Approximated
-    ensures { OverToCount as_is words.now (value target.words) room.old room.new output.old output.new result.verdict result.nodes result.trials }
+    ensures { OverToCount as_is words.now (value target.words) room.old room.new output.old output.new (verdict_in result) (nodes_in result) (trials_in result) }
 {
     to_count(words, target, true, as_is, room, output)
 }

@@ -10,8 +10,7 @@ use lib.ListN.{length, take, drop, length-drop}
 use lib.Seq.{ext_get_or, get_or-drop}
 use lib.Dec.{leb}
 use Rattle.naturals.specs.Natural.{value, word_count, Holds, Answers, Stores}
-use Rattle.naturals.specs.declared.Fit.{Fit}
-use Rattle.naturals.proofs.Place.{stored_after, stored_before, stores_length, stores_holds, stores_apart, loads_inside}
+use Rattle.naturals.proofs.Place.{stored_after, stored_before, stores_length, stores_holds, stores_apart}
 use Rattle.in_place.specs.InPlace.{number_in, words_for, Put}
 use Rattle.in_place.proofs.Placed.{put_apart, number_few, words_enough}
 use Rattle.counts.specs.Table.{num, In, Noted}
@@ -35,10 +34,6 @@ noted base s q {words} {after} {done} inside r x h =
     }
 
 -- ---- what the functions on tables give
-
-pub count_read : (base : ℕ) (s : List ℕ) (q i : ℕ) → i ≡ q → In base s q → {f : Fit}
-    → Answers (leb (base + word_count * i + word_count) (length s)) (value (take word_count (drop (base + word_count * i) s))) f → Holds (num base s q) f.natural.words
-count_read base s q i e inside a = let b = rw e at a in (loads_inside s (base + word_count * q) b inside).1
 
 pub note_done : (base : ℕ) (s : List ℕ) (q i : ℕ) → i ≡ q → In base s q → {words after : List ℕ} {done : Bool}
     → Stores word_count s (base + word_count * i) words done after → (x : ℕ) → Holds x words → Noted base s q x after

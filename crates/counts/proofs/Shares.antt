@@ -9,8 +9,6 @@ use native.Mathlib.Nat.{le-mul_of_pos_right}
 use lib.Pow.{pow_pos}
 use borrow.Author.Tests.{lt-ltb}
 use Rattle.naturals.specs.Natural.{value, word_count, limit_in, Holds, Fitted}
-use Rattle.naturals.specs.declared.Fit.{Fit}
-use Rattle.naturals.proofs.Answer.{fitted_below}
 use Rattle.in_place.specs.InPlace.{words_for, shifted_in, Clear, Adding, Fitting}
 use Rattle.in_place.specs.declared.sum.Shifted.{Shifted}
 use Rattle.in_place.proofs.Placed.{words_enough}
@@ -84,11 +82,3 @@ module _ {how : Bool} {w : List ℕ} {base : ℕ} {s : List ℕ} {p : ℕ} (k : 
         rw (part_is first (omega arith), part_is second (omega arith)) refl in
         let mine : Fitting word_count (words_for left) s (base + word_count * p) (shifted_in (words_for left) s a + shifted_in (words_for left) s b) fits after = rw (ep, eu) at f in
         noted_sum base s p (words_for left) k.inside mine sum (words_enough (shared_of how w base s p) left most)
-
--- the number of the whole, from that of the root
-pub root_done : {how : Bool} {w table : List ℕ} {base n : ℕ} → Rooted how w base table n → {below : List ℕ} → Holds (num base table (n - 1)) below
-    → {above d : ℕ} → above ≡ var_of w (n - 1) → d ≡ doublings how above → {t : Fit} → Fitted (value below * 2 ^ d) t
-    → Holds (root_of how w base table n) t.natural.words
-root_done {how} {w} {table} {base} {n} a {below} h {above} {d} ea ed fit =
-    let is : value below * 2 ^ d ≡ root_of how w base table n = rw (h.worth, ed, ea) refl in
-    (fitted_below (rw is at fit) a.fits).1

@@ -5,13 +5,3 @@
 pub mod links;
 pub mod root;
 pub mod table;
-
-use diagram::verdict::Verdict;
-use naturals::Natural;
-
-// A verdict, and a count, which is zero where the words are refused.
-#[derive(Clone, Copy)]
-pub struct Counted {
-    pub verdict: Verdict,
-    pub count: Natural,
-}

@@ -28,6 +28,5 @@ pub fn root_worth(
     let root = BddPointer((nodes - 1) as u32);
     let below = count_at(table, base, root);
     let above = var_of(words, root);
-    let scaled = shift_left(below, doublings(valuations, above.0));
-    scaled.natural
+    shift_left(below, doublings(valuations, above.0)).unwrap()
 }

@@ -11,8 +11,7 @@ pub fn count_at(table: &[u32], base: usize, node: BddPointer) -> Natural
     requires { In base table.now node.0 }
     ensures { Holds (num base table.now node.0) result.words }
 {
-    let loaded = load(table, base + naturals::WORDS * node.to_index());
-    loaded.natural
+    load(table, base + naturals::WORDS * node.to_index()).unwrap()
 }
 
 // Writes the count of a node.

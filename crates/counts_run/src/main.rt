@@ -11,9 +11,9 @@ ghost use Rattle.std.specs.Float.Ieee.{is_nan};
 use cardinality::cardinality;
 use cases::{fill, least, line_ends, number, run_of, words_of};
 use diagram::limits::{MAX_NODES, MAX_VARIABLES, ROOM_PER_NODE};
-use diagram::verdict::Verdict;
+use diagram::verdict::{Finding, Refused, Verdict};
 use exact_counts::{exact_cardinality, exact_clause_cardinality};
-use naturals::Natural;
+use naturals::{Natural, zero};
 use negation::not;
 use queries::per_variable::size_per_variable;
 use queries::{is_clause, is_false, is_true, is_valuation, num_vars, size};
@@ -42,13 +42,13 @@ fn say(text: &[u8], value: u64) {
 
 fn say_verdict(verdict: Verdict) {
     match verdict {
-        Verdict::Accepted { nodes, vars } => {
-            say(b"accepted nodes ", nodes as u64);
-            say(b" vars ", vars as u64);
+        Ok(extent) => {
+            say(b"accepted nodes ", extent.nodes as u64);
+            say(b" vars ", extent.vars as u64);
         }
-        Verdict::Refused { number, place } => {
-            say(b"refused ", number as u64);
-            say(b" at ", place as u64);
+        Err(refused) => {
+            say(b"refused ", refused.reason.number() as u64);
+            say(b" at ", refused.place as u64);
         }
     }
 }
@@ -56,10 +56,16 @@ fn say_verdict(verdict: Verdict) {
 // All words, the highest first.
 fn say_natural(text: &[u8], natural: Natural) {
     io::write_all(STDOUT, text);
-    let mut i = naturals::WORDS;
-    while 0 < i {
-        i -= 1;
-        io::print_hex(STDOUT, natural.words[i] as u64, 8);
+    for word in natural.words.iter().rev() {
+        io::print_hex(STDOUT, *word as u64, 8);
+    }
+}
+
+// Zero where the words are refused.
+fn say_count(text: &[u8], counted: Result<Finding<Natural>, Refused>) {
+    match counted {
+        Ok(found) => say_natural(text, found.value),
+        Err(_) => say_natural(text, zero()),
     }
 }
 
@@ -71,51 +77,63 @@ fn say_float(text: &[u8], x: f64)
     io::print_hex(STDOUT, f64::to_bits(x), 16);
 }
 
-fn say_yes(text: &[u8], yes: bool) {
+// No where the words are refused.
+fn say_yes(text: &[u8], told: Result<Finding<bool>, Refused>) {
     io::write_all(STDOUT, text);
-    if yes {
-        io::write_all(STDOUT, b"yes");
-    } else {
-        io::write_all(STDOUT, b"no");
+    match told {
+        Ok(
+            Finding {
+                extent: _,
+                value: true,
+            },
+        ) => {
+            io::write_all(STDOUT, b"yes");
+        }
+        _ => {
+            io::write_all(STDOUT, b"no");
+        }
+    }
+}
+
+// 0 where the words are refused.
+fn say_amount(text: &[u8], told: Result<Finding<usize>, Refused>) {
+    match told {
+        Ok(found) => say(text, found.value as u64),
+        Err(_) => say(text, 0),
     }
 }
 
 fn say_words(words: &[u32], count: usize) {
-    let end = least(count, words.len());
-    let mut i = 0;
-    while i < end {
-        say(b" ", words[i] as u64);
-        i += 1;
+    for word in words.iter().take(count) {
+        say(b" ", *word as u64);
     }
 }
 
 fn run_float(words: &[u32], room: &mut [u32]) {
-    let float = cardinality(words, room);
-    say_float(b", float ", float.count);
+    match cardinality(words, room) {
+        Ok(found) => say_float(b", float ", found.value),
+        Err(_) => say_float(b", float ", 0.0),
+    }
 }
 
 fn run_counts(words: &[u32], room: &mut [u32]) {
     let valuations = exact_cardinality(words, room);
-    let verdict = valuations.verdict;
-    say_verdict(verdict);
-    let count = valuations.count;
-    say_natural(b", count ", count);
-    let paths = exact_clause_cardinality(words, room);
-    let number_of_paths = paths.count;
-    say_natural(b", paths ", number_of_paths);
+    say_verdict(valuations.map(|found| found.extent));
+    say_count(b", count ", valuations);
+    say_count(b", paths ", exact_clause_cardinality(words, room));
     run_float(words, room);
 }
 
 fn run_sizes(words: &[u32], room: &mut [u32]) {
-    say(b", size ", size(words, room).amount as u64);
-    say(b", vars ", num_vars(words, room).amount as u64);
-    say_yes(b", true ", is_true(words, room).yes);
-    say_yes(b", false ", is_false(words, room).yes);
+    say_amount(b", size ", size(words, room));
+    say_amount(b", vars ", num_vars(words, room));
+    say_yes(b", true ", is_true(words, room));
+    say_yes(b", false ", is_false(words, room));
 }
 
 fn run_walks(words: &[u32], room: &mut [u32]) {
-    say_yes(b", clause ", is_clause(words, room).yes);
-    say_yes(b", valuation ", is_valuation(words, room).yes);
+    say_yes(b", clause ", is_clause(words, room));
+    say_yes(b", valuation ", is_valuation(words, room));
 }
 
 fn say_room(room: &[u32], word: u32) {
@@ -126,11 +144,8 @@ fn say_room(room: &[u32], word: u32) {
 
 fn listed(verdict: Verdict) -> usize {
     match verdict {
-        Verdict::Accepted { nodes: _, vars } => vars as usize,
-        Verdict::Refused {
-            number: _,
-            place: _,
-        } => 0,
+        Ok(extent) => extent.vars as usize,
+        Err(_) => 0,
     }
 }
 
@@ -161,8 +176,7 @@ fn run_short(words: &[u32], room: &mut [u32]) {
     let mut output = [9u32; 5];
     let negated = not(words, room, &mut output);
     io::write_all(STDOUT, b", short ");
-    let verdict = negated.verdict;
-    say_verdict(verdict);
+    say_verdict(negated.map(|found| found.extent));
     say(b" kept ", run_of(&output, 0, 9) as u64);
 }
 
@@ -170,9 +184,8 @@ fn run_not(words: &[u32], room: &mut [u32], output: &mut [u32], word: u32) {
     fill(output, word);
     let negated = not(words, room, output);
     io::write_all(STDOUT, b", not ");
-    let verdict = negated.verdict;
-    say_verdict(verdict);
-    say(b" nodes ", negated.nodes as u64);
+    say_verdict(negated.map(|found| found.extent));
+    say_amount(b" nodes ", negated);
     io::write_all(STDOUT, b" words");
     say_words(output, words.len());
     io::write_all(STDOUT, b"\n");

@@ -26,9 +26,7 @@ pub fn mark_all(list: &[u32], room: &mut [u32], most: usize)
     requires { Markable list.now room.old most }
     ensures { Marked list.now most room.old room.new }
 {
-    let mut i = 0;
-    while i < list.len() {
-        mark(room, most, BddPointer(list[i]));
-        i += 1;
+    for pointer in list {
+        mark(room, most, BddPointer(*pointer));
     }
 }

@@ -49,12 +49,10 @@ pub(crate) fn send(
     requires { Sending words.now most sent.old nodes }
     ensures { Sent words.now (marked_in most room.now) target.0 sent.old sent.new }
 {
-    let mut p = 0;
-    while p < nodes {
+    for p in 0..nodes {
         let node = BddPointer(p as u32);
         let low = sent_link(room, most, target, node, low_link_of(words, node));
         let high = sent_link(room, most, target, node, high_link_of(words, node));
         put_node(sent, node, var_of(words, node), low, high);
-        p += 1;
     }
 }

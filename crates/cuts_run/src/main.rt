@@ -14,11 +14,12 @@ use cases::{fill, least, run_of, words_of};
 use count_targets::count::{overapproximate_to_cardinality, underapproximate_to_cardinality};
 use diagram::limits::{MAX_NODES, ROOM_PER_NODE};
 use diagram::node::word;
-use diagram::verdict::Verdict;
-use list_cuts::{Approximation, overapproximate, underapproximate};
-use naturals::{Natural, load};
+use diagram::verdict::{Finding, Refused};
+use list_cuts::{overapproximate, underapproximate};
+use naturals::{Natural, load, zero};
 use targets::Approximated;
 use targets::size::{overapproximate_to_size, underapproximate_to_size};
+use trials::answers::Answer;
 
 // The number of standard output.
 const STDOUT: i32 = 1;
@@ -43,16 +44,31 @@ fn say(text: &[u8], value: u64) {
     io::print_decimal(STDOUT, value);
 }
 
-fn say_verdict(verdict: Verdict) {
-    match verdict {
-        Verdict::Accepted { nodes, vars } => {
-            say(b"accepted nodes ", nodes as u64);
-            say(b" vars ", vars as u64);
+fn say_refused(number: u32, place: usize) {
+    say(b"refused ", number as u64);
+    say(b" at ", place as u64);
+}
+
+// A letter that no operation has is refused with number 0.
+fn say_verdict(asked: Option<Approximated>) {
+    match asked {
+        Some(Ok(found)) => {
+            say(b"accepted nodes ", found.extent.nodes as u64);
+            say(b" vars ", found.extent.vars as u64);
         }
-        Verdict::Refused { number, place } => {
-            say(b"refused ", number as u64);
-            say(b" at ", place as u64);
-        }
+        Some(Err(refused)) => say_refused(refused.reason.number(), refused.place),
+        None => say_refused(0, 0),
+    }
+}
+
+// No nodes and no trials where the case is refused.
+fn answer_of(asked: Option<Approximated>) -> Answer {
+    match asked {
+        Some(Ok(found)) => found.value,
+        _ => Answer {
+            nodes: 0,
+            trials: 0,
+        },
     }
 }
 
@@ -65,10 +81,8 @@ fn say_room(room: &[u32], word: u32) {
 fn say_words(words: &[u32], count: usize) {
     io::write_all(STDOUT, b", words");
     let end = least(count, words.len());
-    let mut i = 0;
-    while i < end {
-        say(b" ", words[i] as u64);
-        i += 1;
+    for word in &words[..end] {
+        say(b" ", *word as u64);
     }
 }
 
@@ -83,46 +97,24 @@ fn say_output(output: &[u32], word: u32, nodes: usize) {
 }
 
 // A cut by a list makes no trials.
-fn by_list(cut: Approximation) -> Approximated {
-    let verdict = cut.verdict;
-    Approximated {
-        verdict,
-        nodes: cut.nodes,
+fn by_list(cut: Result<Finding<usize>, Refused>) -> Approximated {
+    let found = cut?;
+    let value = Answer {
+        nodes: found.value,
         trials: 0,
-    }
-}
-
-fn refused_letter() -> Approximated {
-    Approximated {
-        verdict: Verdict::Refused {
-            number: 0,
-            place: 0,
-        },
-        nodes: 0,
-        trials: 0,
-    }
+    };
+    Ok(Finding {
+        extent: found.extent,
+        value,
+    })
 }
 
 // A count target: the words of a count, least first.
 fn count_of(list: &[u32]) -> Natural {
-    let read = load(list, 0);
-    read.natural
+    load(list, 0).unwrap_or(zero())
 }
 
-// Capitals are the letters below it.
-const CAPITALS_END: u8 = 91;
-
-fn is_capital(letter: u8) -> bool {
-    letter < CAPITALS_END
-}
-
-fn small(letter: u8) -> u8 {
-    if letter < CAPITALS_END {
-        return letter + 32;
-    }
-    letter
-}
-
+// The answer; none where no operation has the letter.
 fn ask(
     letter: u8,
     as_is: bool,
@@ -130,26 +122,16 @@ fn ask(
     list: &[u32],
     room: &mut [u32],
     output: &mut [u32],
-) -> Approximated {
-    if letter == 117 {
-        return by_list(underapproximate(words, list, room, output));
+) -> Option<Approximated> {
+    match letter {
+        b'u' => Some(by_list(underapproximate(words, list, room, output))),
+        b'o' => Some(by_list(overapproximate(words, list, room, output))),
+        b's' => Some(underapproximate_to_size(words, word(list, 0), as_is, room, output)),
+        b't' => Some(overapproximate_to_size(words, word(list, 0), as_is, room, output)),
+        b'c' => Some(underapproximate_to_cardinality(words, count_of(list), as_is, room, output)),
+        b'd' => Some(overapproximate_to_cardinality(words, count_of(list), as_is, room, output)),
+        _ => None,
     }
-    if letter == 111 {
-        return by_list(overapproximate(words, list, room, output));
-    }
-    if letter == 115 {
-        return underapproximate_to_size(words, word(list, 0), as_is, room, output);
-    }
-    if letter == 116 {
-        return overapproximate_to_size(words, word(list, 0), as_is, room, output);
-    }
-    if letter == 99 {
-        return underapproximate_to_cardinality(words, count_of(list), as_is, room, output);
-    }
-    if letter == 100 {
-        return overapproximate_to_cardinality(words, count_of(list), as_is, room, output);
-    }
-    refused_letter()
 }
 
 fn run_case(
@@ -163,9 +145,17 @@ fn run_case(
 ) {
     fill(output, filled);
     fill(room, marked);
-    let answer = ask(small(letter), is_capital(letter), words, list, room, output);
-    let verdict = answer.verdict;
-    say_verdict(verdict);
+    let as_is = letter.is_ascii_uppercase();
+    let asked = ask(
+        letter.to_ascii_lowercase(),
+        as_is,
+        words,
+        list,
+        room,
+        output,
+    );
+    say_verdict(asked);
+    let answer = answer_of(asked);
     say(b", answer nodes ", answer.nodes as u64);
     say(b" trials ", answer.trials as u64);
     say_room(room, marked);

@@ -9,12 +9,13 @@ use lib.ListN.{length, drop, replicate}
 use lib.Dec.{leb, ltb, eqb}
 use Rattle.diagram.specs.Limits.{max_nodes, max_variables, room_per_node}
 use Rattle.diagram.specs.Diagram.{var_of, low_of, high_of, size, vars, Terminal, InRange, Formed}
-use Rattle.diagram.specs.Verdict.{Outcome, said, Checked, accepted, refused, row, room_of, short, lengths_of, is_terminal, terminals_of, first_node, ranges_of, graph_of, contents_of, verdict_of}
+use Rattle.diagram.specs.Verdict.{Verdict, Outcome, said, Checked, accepted, refused, row, room_of, short, lengths_of, is_terminal, terminals_of, first_node, ranges_of, graph_of, contents_of, verdict_of}
 use Rattle.diagram.specs.Faults.{fault_of, is_faulty}
 use Rattle.diagram.specs.Marking.{Sized}
 use Rattle.diagram.specs.declared.verdict.Output.{Output}
-use Rattle.diagram.specs.declared.verdict.Verdict.{Verdict}
-use Rattle.diagram.specs.declared.verdict.Verdict.TheVariants.{Accepted, Refused}
+use Rattle.diagram.specs.declared.verdict.Refused.{Refused}
+use Rattle.std.specs.Prelude.{Result, Err, IsErrAnd}
+use Rattle.std.proofs.lemmas.Result.{err_from_is_err_and}
 use Rattle.diagram.proofs.Tests.{by_test, and_both, cond-true, cond-false}
 use Rattle.diagram.proofs.Outcomes.{never_both}
 use Rattle.diagram.proofs.Count.{first_least}
@@ -137,33 +138,33 @@ formed_of w room n v m e r =
     }
 
 -- passing on: a refusal ends the checks, an acceptance hands them to the next
-module _ (w : List ℕ) (first-verdict : Verdict) (e : said first-verdict ≡ terminals_of w) where
-  pub terminals_refused : (k p : ℕ) → first-verdict ≡ Refused k p → said first-verdict ≡ contents_of w
+module _ (w : List ℕ) where
+  pub terminals_refused : (k p : ℕ) → refused k p ≡ terminals_of w → refused k p ≡ contents_of w
   unfolding contents_of
-  terminals_refused k p x = rw (sym e ∙ ap said x, x)
+  terminals_refused k p e = rw (← e) refl
 
-  module _ (n v : ℕ) (x : first-verdict ≡ Accepted n v) (next : Verdict) (f : said next ≡ ranges_of w) where
-    pub ranges_refused : (k p : ℕ) → next ≡ Refused k p → said next ≡ contents_of w
+  module _ (n v : ℕ) (e : accepted n v ≡ terminals_of w) where
+    pub ranges_refused : (k p : ℕ) → refused k p ≡ ranges_of w → refused k p ≡ contents_of w
     unfolding contents_of
-    ranges_refused k p y = rw (sym e ∙ ap said x, sym f ∙ ap said y, y)
+    ranges_refused k p f = rw (← e, ← f) refl
 
-    pub graph_decides : (n' v' : ℕ) → next ≡ Accepted n' v' → (last-verdict : Verdict) → said last-verdict ≡ graph_of w → said last-verdict ≡ contents_of w
+    pub graph_decides : (n' v' : ℕ) → accepted n' v' ≡ ranges_of w → (last-verdict : Verdict) → said last-verdict ≡ graph_of w → said last-verdict ≡ contents_of w
     unfolding contents_of
-    graph_decides n' v' y last-verdict g = rw (sym e ∙ ap said x, sym f ∙ ap said y) g
+    graph_decides n' v' f last-verdict g = rw (← e, ← f) g
 
-module _ (w : List ℕ) (o : Output) (before : List ℕ) (first-verdict : Verdict) (e : said first-verdict ≡ lengths_of w o (length before)) where
-  pub lengths_refused : (k p : ℕ) → first-verdict ≡ Refused k p → Checked w o before before first-verdict
+module _ (w : List ℕ) (o : Output) (before : List ℕ) where
+  pub lengths_refused : (r : Refused) → said (Err r) ≡ lengths_of w o (length before) → Checked w o before before (Err r)
   unfolding verdict_of
-  lengths_refused k p x =
-      let f = sym e ∙ ap said x in
-      record { verdict = rw (f, x); left = rw f }
+  lengths_refused r e = record { verdict = rw (← e) refl; left = rw (← e) refl }
 
-  pub contents_decide : (n v : ℕ) → first-verdict ≡ Accepted n v → (r : Verdict) → said r ≡ contents_of w
+  pub contents_decide : (n v : ℕ) → accepted n v ≡ lengths_of w o (length before) → (r : Verdict) → said r ≡ contents_of w
       → (all : ℕ) → all ≡ room_of w → (after : List ℕ) → after ≡ replicate all 0 ++ drop all before → Checked w o before after r
   unfolding verdict_of
-  contents_decide n v x r g all ea after h =
-      let f = sym e ∙ ap said x in
-      record { verdict = rw f g; left = rw (f, h, ea) }
+  contents_decide n v e r g all ea after h = record { verdict = rw (← e) g; left = rw (← e, h, ea) refl }
+
+-- what a `?` passes on is the refusal that it met
+pub passed_on : {A E : Type 0} (r : Result A E) (e : E) → IsErrAnd r (λ y. y ≡ e) → r ≡ Err e
+passed_on r e h = let p = err_from_is_err_and r h in p.1 ∙ ap Err p.2
 
 -- what the search asks of the words and the room
 pub sized_of : (w : List ℕ) (room n v all : ℕ) (part : List ℕ) → Measured w room n v → all ≡ room_of w → length part ≡ all → Sized w part

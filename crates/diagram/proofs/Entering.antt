@@ -8,9 +8,11 @@ use lib.ListN.{length, get_or, take, drop, replicate, get_or-replicate, length-r
 use lib.Seq.{get_or-take, length-take-le, take_at}
 use borrow.Author.Tests.{ltb-false}
 use Rattle.diagram.specs.Diagram.{size, Ordered}
-use Rattle.diagram.specs.Verdict.{Outcome, accepted, refused, said, and_then, if_accepted, most, room_of, short, cleared, room_after, lengths_of, contents_of, verdict_of, Checked, Answers, Builds}
-use Rattle.diagram.specs.declared.verdict.Verdict.{Verdict}
-use Rattle.diagram.specs.declared.verdict.Verdict.TheVariants.{Accepted as Yes, Refused as No}
+use Rattle.diagram.specs.Verdict.{Verdict, Outcome, accepted, refused, said, and_then, if_accepted, most, room_of, short, cleared, room_after, lengths_of, contents_of, verdict_of, Checked, Answers, Builds}
+use Rattle.diagram.specs.declared.verdict.Extent.{Extent}
+use Rattle.diagram.specs.declared.verdict.Refused.{Refused}
+use Rattle.diagram.specs.Refusal.{number_of}
+use Rattle.std.specs.Prelude.{Ok, Err}
 use Rattle.diagram.specs.declared.verdict.Output.{Output}
 use Rattle.diagram.specs.declared.verdict.Output.TheVariants.{Diagram}
 use Rattle.diagram.proofs.Meaning.{Admitted, verdict_accepted}
@@ -28,33 +30,33 @@ lengths_first (accepted m u) b n v e x y = refl
 lengths_first (refused k p) b n v e x y = let z : ◌≡◌ {A = ℕ} 0 1 = cc in absurd (omega arith)
 
 module _ {w : List ℕ} {output : Output} {before after : List ℕ} {v : Verdict} (c : Checked w output before after v) where
-  pub refusal_is : {k p : ℕ} → v ≡ No k p → verdict_of w output (length before) ≡ refused k p
+  pub refusal_is : {e : Refused} → v ≡ Err e → verdict_of w output (length before) ≡ said (Err e)
   refusal_is e = sym c.verdict ∙ ap said e
 
   -- a refusal: what is asked of an acceptance doesn't matter
-  pub when_refused : {k p : ℕ} → v ≡ No k p → {A : Type 0} (x y : A) → if_accepted (verdict_of w output (length before)) x y ≡ y
+  pub when_refused : {r : Refused} → v ≡ Err r → {A : Type 0} (x y : A) → if_accepted (verdict_of w output (length before)) x y ≡ y
   when_refused e x y = rw (refusal_is e)
 
-  module _ {n u : ℕ} (e : v ≡ Yes n u) where
-    pub verdict_is : verdict_of w output (length before) ≡ accepted n u
+  module _ {a : Extent} (e : v ≡ Ok a) where
+    pub verdict_is : verdict_of w output (length before) ≡ accepted a.nodes a.vars
     verdict_is = sym c.verdict ∙ ap said e
 
     pub when_accepted : {A : Type 0} (x y : A) → if_accepted (verdict_of w output (length before)) x y ≡ x
     when_accepted x y = rw verdict_is
 
-    pub admitted : Admitted w output (length before) n u
-    admitted = verdict_accepted w output (length before) n u verdict_is
+    pub admitted : Admitted w output (length before) a.nodes a.vars
+    admitted = verdict_accepted w output (length before) a.nodes a.vars verdict_is
 
     pub ordered : Ordered w
     ordered = accepted_ordered w admitted.accepted
 
-    pub still_checked : Checked w output before after (Yes n u)
+    pub still_checked : Checked w output before after (Ok a)
     still_checked = rw e at c
 
     pub room_cleared : after ≡ cleared w before
     unfolding verdict_of
     room_cleared =
-        c.left ∙ lengths_first (lengths_of w output (length before)) (contents_of w) n u verdict_is (cleared w before) before
+        c.left ∙ lengths_first (lengths_of w output (length before)) (contents_of w) a.nodes a.vars verdict_is (cleared w before) before
 
     room_length_lem : length after ≡ length before
     room_length_lem =
@@ -91,19 +93,19 @@ lent_enough w lent e = ltb-false lent (3 * most w) e
 
 module _ (outcome : ℕ → ℕ → Outcome) (kind : ℕ → Output) (answer : List ℕ) {w room room' : List ℕ} (out : List ℕ)
     (left : room' ≡ room_after w (kind (length out)) room) {r : Verdict} where
-  pub answers_refused : {k p : ℕ} → r ≡ No k p → outcome (length room) (length out) ≡ refused k p → Answers outcome kind answer w room room' out out r
+  pub answers_refused : {x : Refused} → r ≡ Err x → outcome (length room) (length out) ≡ said (Err x) → Answers outcome kind answer w room room' out out r
   answers_refused e is = record { verdict = ap said e ∙ sym is; left = left; output = rw is refl }
 
-  pub answers_accepted : {n u : ℕ} → r ≡ Yes n u → outcome (length room) (length out) ≡ accepted n u → {out' : List ℕ}
+  pub answers_accepted : {a : Extent} → r ≡ Ok a → outcome (length room) (length out) ≡ said (Ok a) → {out' : List ℕ}
       → out' ≡ answer ++ drop (length answer) out → Answers outcome kind answer w room room' out out' r
   answers_accepted e is written = record { verdict = ap said e ∙ sym is; left = left; output = rw is written }
 
 module _ (outcome : ℕ → ℕ → Outcome) (answer : List ℕ) {w room room' : List ℕ} (out : List ℕ)
     (left : room' ≡ room_after w (Diagram (length out)) room) {r : Verdict} where
-  pub builds_refused : {k p : ℕ} → r ≡ No k p → outcome (length room) (length out) ≡ refused k p → Builds outcome answer w room room' out out r 0
+  pub builds_refused : {x : Refused} → r ≡ Err x → outcome (length room) (length out) ≡ said (Err x) → Builds outcome answer w room room' out out r 0
   builds_refused e is = record { answers = answers_refused outcome Diagram answer out left e is; nodes = rw is refl }
 
-  pub builds_accepted : {n u : ℕ} → r ≡ Yes n u → outcome (length room) (length out) ≡ accepted n u → {out' : List ℕ} {count : ℕ} → count ≡ size answer
+  pub builds_accepted : {a : Extent} → r ≡ Ok a → outcome (length room) (length out) ≡ said (Ok a) → {out' : List ℕ} {count : ℕ} → count ≡ size answer
       → out' ≡ answer ++ drop (length answer) out → Builds outcome answer w room room' out out' r count
   builds_accepted e is counted written =
       record { answers = answers_accepted outcome Diagram answer out left e is written; nodes = rw is counted }

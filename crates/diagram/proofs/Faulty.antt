@@ -1,11 +1,11 @@
 -- Refusals 8 to 10 node by node are the first node with a fault, and its fault.
-use Prim.Native.Nat.{ℕ, zero, suc, ◌+◌, ◌-◌, ◌≤◌, ◌<◌}
-use mathlib.Core.Path.{◌≡◌, refl, sym, ◌∙◌, ap}
-use mathlib.Core.Bool.{Bool, true, false, not}
+use Prim.Native.Nat.{ℕ, zero, suc, ◌+◌, ◌-◌}
+use mathlib.Core.Path.{◌≡◌, ◌∙◌, ap}
+use mathlib.Core.Bool.{Bool, true, false}
 use mathlib.Core.List.{List}
 use native.Mathlib.Omega.{arith}
 use borrow.Author.Tests.{lt-ltb, le-ltb, ltb-true, ltb-false}
-use lib.Dec.{leb, ltb, eqb}
+use lib.Dec.{leb, ltb}
 use Rattle.diagram.specs.Diagram.{var_of, low_of, high_of, size, vars}
 use Rattle.diagram.specs.Verdict.{Outcome, accepted, refused, row, first, first_node, ranges_from, ranges_of}
 use Rattle.diagram.specs.Faults.{fault_of, is_faulty}

@@ -2,6 +2,7 @@
 --     Words       words of a slice that a loop has passed
 --     Tests       by cases on a test
 --     Outcomes    an outcome is one
+--     Numbers     what holds of every number of refusal
 --     Count       counting the numbers that pass a test; some number does; the first that does
 --     Reading     the path level by level
 --     Tally       counting the lists of bits that pass a test
@@ -19,6 +20,7 @@
 pub mod Words
 pub mod Tests
 pub mod Outcomes
+pub mod Numbers
 pub mod Count
 pub mod Reading
 pub mod Tally

@@ -13,7 +13,9 @@ use Rattle.naturals.specs.Natural.{word_count}
 use Rattle.diagram.specs.Limits.{max_nodes, max_variables, room_per_node}
 use Rattle.diagram.specs.Diagram.{var_of, low_of, high_of, size, vars}
 use Rattle.diagram.specs.Verdict.{accepted, refused, row, short, lengths_of, is_terminal, terminals_of, first, first_node, ranges_of, reaches, is_above_low, is_broken, graph_of}
-use Rattle.diagram.specs.Faults.{fault_of, is_faulty, order_number}
+use Rattle.diagram.specs.declared.verdict.Refused.{Refused}
+use Rattle.diagram.specs.Refusal.{number_of}
+use Rattle.diagram.specs.Faults.{IsFirstFault, fault_of, is_faulty, order_number}
 use Rattle.diagram.specs.Marking.{Marks}
 use Rattle.diagram.specs.declared.verdict.Output.{Output}
 use Rattle.diagram.specs.declared.verdict.Output.TheVariants.{Nothing, Diagram, Weights, PerVariable}
@@ -170,21 +172,29 @@ module _ (w : List ℕ) (v : ℕ) (ev : v ≡ vars w) where
   ranges_few l =
       simp (ranges_by w, le-ltb (first_node w fault) (size w) (omega (arith, (first_from fault 2 (size w - 2)).0))) (ap (λ (x : ℕ). accepted (size w) x) ev)
 
+  stretch_nodes : length (stretch w) / 3 ≡ size w - 2
+  stretch_nodes = simp (length-take, length-drop) (omega arith)
+
   module _ (more : 2 < size w) (at : ℕ) (ea : at ≡ first (is_faulty (size w) v (stretch w)) 0 (length (stretch w) / 3)) where
     place_is : first_node w fault ≡ at + 2
     place_is =
         stretch_first w (size w) (vars w) more ∙ ap (λ (x : ℕ). 2 + x) (rw (← ev) (sym ea)) ∙ add_comm 2 at
 
-    pub ranges_bad : (number : ℕ) → at + 2 < size w → number ≡ fault_of (size w) v w (at + 2) → refused number (at + 2) ≡ ranges_of w
+    ranges_bad : (number : ℕ) → at + 2 < size w → number ≡ fault_of (size w) v w (at + 2) → refused number (at + 2) ≡ ranges_of w
     unfolding row
     ranges_bad number l e = simp (ranges_by w, place_is, lt-ltb (at + 2) (size w) l) (rw (e, ev))
 
-    pub ranges_good : size w ≤ at + 2 → accepted (size w) v ≡ ranges_of w
+    ranges_good : size w ≤ at + 2 → accepted (size w) v ≡ ranges_of w
     unfolding row
     ranges_good l = simp (ranges_by w, place_is, le-ltb (at + 2) (size w) l) (ap (λ (x : ℕ). accepted (size w) x) ev)
 
-    pub place_fits : at ≤ size w
-    place_fits = omega (arith, place_is, (first_from fault 2 (size w - 2)).1)
+  pub ranges_fault : 2 < size w → (e : Refused) → IsFirstFault (size w) v (stretch w) e → refused (number_of e.reason) (e.place + 2) ≡ ranges_of w
+  ranges_fault more e f =
+      ranges_bad more e.place f.place (number_of e.reason) (omega (arith, f.within, stretch_nodes))
+      (f.number ∙ sym (stretch_fault w (size w) v e.place (omega (arith, f.within, stretch_nodes))) ∙ ap (fault_of (size w) v w) (add_comm 2 e.place))
+
+  pub ranges_clear : 2 < size w → first (is_faulty (size w) v (stretch w)) 0 (length (stretch w) / 3) ≡ length (stretch w) / 3 → accepted (size w) v ≡ ranges_of w
+  ranges_clear more e = ranges_good more (length (stretch w) / 3) (sym e) (omega (arith, stretch_nodes))
 
 -- 11, 17 and 12
 module _ (w : List ℕ) (n broken : ℕ) (en : n ≡ size w) (eb : broken ≡ first_node w (is_broken w)) where

@@ -12,6 +12,7 @@ pub mod Limits
 pub mod Diagram
 pub mod Valuations
 pub mod Reading
+pub mod Refusal
 pub mod Verdict
 pub mod Demand1
 pub mod Faults

@@ -1,10 +1,12 @@
 -- The verdict on any words (docs/RULES.md): the checks in their order, each with its number and place.
-use Rattle.std.specs.Prelude.{ℕ, zero, suc, ◌-◌, ◌*◌, ◌%◌, max, ◌≡◌, Bool, false, cond, not, ◌&&◌, ◌||◌, List, ◌++◌, length, drop, replicate, leb, ltb, eqb}
+use Rattle.std.specs.Prelude.{Result, Ok, Err, ℕ, zero, suc, ◌-◌, ◌*◌, ◌%◌, max, ◌≡◌, Bool, false, cond, not, ◌&&◌, ◌||◌, List, ◌++◌, length, drop, replicate, leb, ltb, eqb}
 use Rattle.naturals.specs.Natural.{word_count}
 use Rattle.diagram.specs.Limits.{max_nodes, max_variables, room_per_node}
 use Rattle.diagram.specs.Diagram.{var_of, low_of, high_of, size, vars, root}
-use Rattle.diagram.specs.declared.verdict.Verdict.{Verdict}
-use Rattle.diagram.specs.declared.verdict.Verdict.TheVariants.{Accepted, Refused}
+use Rattle.diagram.specs.declared.verdict.Extent.{Extent}
+use Rattle.diagram.specs.declared.verdict.Refused.{Refused}
+use Rattle.diagram.specs.declared.verdict.Finding.{Finding}
+use Rattle.diagram.specs.Refusal.{number_of}
 use Rattle.diagram.specs.declared.verdict.Output.{Output}
 use Rattle.diagram.specs.declared.verdict.Output.TheVariants.{Nothing, Diagram, Weights, PerVariable}
 
@@ -14,9 +16,21 @@ pub data Outcome : Type 0 where
   refused : ℕ → ℕ → Outcome
 
 -- What the code's verdict says.
+abbrev pub Verdict : Type 0
+Verdict = Result Extent Refused
+
 abbrev pub said : Verdict → Outcome
-said (Accepted n v) = accepted n v
-said (Refused number place) = refused number place
+said (Ok x) = accepted x.nodes x.vars
+said (Err e) = refused (number_of e.reason) e.place
+
+-- What an answer about a diagram says of the diagram, and what it answers: nothing in particular, `none`, where it was refused.
+abbrev pub verdict_in : {A : Type 0} → Result (Finding A) Refused → Verdict
+verdict_in (Ok a) = Ok a.extent
+verdict_in (Err e) = Err e
+
+abbrev pub value_in : {A : Type 0} → A → Result (Finding A) Refused → A
+value_in none (Ok a) = a.value
+value_in none (Err e) = none
 
 -- A row of the table: the refusal where its test holds, else what the rows below say.
 unfoldable pub row : ℕ → Bool → ℕ → Outcome → Outcome

@@ -10,28 +10,17 @@ pub fn put(room: &mut [u32], at: usize, x: u32)
     }
 }
 
-// The smaller of two numbers.
-pub fn least(a: usize, b: usize) -> usize
-    ensures { result ≡ min a b }
-{
-    if a < b { a } else { b }
-}
-
 // The number of nodes that lent words are measured by: at least two, since an answer may be the constant true.
 pub fn most(nodes: usize) -> usize
     ensures { result ≡ max nodes 2 }
 {
-    if nodes < 2 { 2 } else { nodes }
+    nodes.max(2)
 }
 
 // Makes the first `count` words zero, or all where there are fewer.
 pub fn clear(room: &mut [u32], count: usize)
     ensures { room.new ≡ replicate (min count (length room.old)) 0 ++ drop count room.old }
 {
-    let end = least(count, room.len());
-    let mut i = 0;
-    while i < end {
-        room[i] = 0;
-        i += 1;
-    }
+    let end = count.min(room.len());
+    room[..end].fill(0);
 }

@@ -7,7 +7,7 @@ ghost use Rattle.diagram.specs.Verdict.{accepted, is_above, graph_of};
 ghost use Rattle.diagram.specs.Marking.{Linked};
 
 use diagram::node::{BddPointer, high_link_of, low_link_of};
-use diagram::room::{clear, put};
+use diagram::room::{clear, most, put};
 use diagram_reach::{first_lost, is_above};
 
 // Marks both children of a node.
@@ -26,16 +26,14 @@ fn mark_all_children(words: &[u32], room: &mut [u32], nodes: usize) -> usize
     ensures { Linked words.now room.new result × (result < size words.now → is_above words.now result ≡ false) }
 {
     clear(room, nodes);
-    let mut node = 2;
-    while node < nodes {
+    for node in 2..nodes {
         let at = BddPointer(node as u32);
         if !is_above(words, at) {
             return node;
         }
         mark_children(words, room, at);
-        node += 1;
     }
-    node
+    most(nodes)
 }
 
 // Whether variables grow along every link and each node but the root has a parent: exactly then nothing is amiss.

@@ -7,9 +7,9 @@ ghost use Rattle.diagram.specs.Marking.{Sized};
 use crate::plain::is_plain;
 use diagram::limits::ROOM_PER_NODE;
 use diagram::node::BddPointer;
-use diagram::refusal::UNREACHABLE;
+use diagram::refusal::Refusal;
 use diagram::room::{clear, most};
-use diagram::verdict::{Output, Verdict};
+use diagram::verdict::{Extent, Output, Refused, Verdict};
 use diagram_form::lengths::lengths;
 use diagram_form::ranges::ranges;
 use diagram_form::terminals::terminals;
@@ -21,23 +21,23 @@ fn graph(words: &[u32], room: &mut [u32], nodes: usize, vars: u32) -> Verdict
     ensures { said result ≡ graph_of words.now }
 {
     if is_plain(words, room, nodes) {
-        return Verdict::Accepted { nodes, vars };
+        return Ok(Extent { nodes, vars });
     }
     mark(words, room, nodes);
     let broken = first_broken(words, room, nodes);
     let lost = first_lost(room, nodes);
     if broken < nodes {
-        let number = broken_order(words, BddPointer(broken as u32));
-        return Verdict::Refused {
-            number,
+        let reason = broken_order(words, BddPointer(broken as u32));
+        return Err(Refused {
+            reason,
             place: broken,
-        };
+        });
     }
     // Something is amiss and it is not the order.
-    Verdict::Refused {
-        number: UNREACHABLE,
+    Err(Refused {
+        reason: Refusal::Unreachable,
         place: lost,
-    }
+    })
 }
 
 // Refusals 6 to 12 and 17.
@@ -45,14 +45,8 @@ fn contents(words: &[u32], room: &mut [u32]) -> Verdict
     requires { Sized words.now room.old }
     ensures { said result ≡ contents_of words.now }
 {
-    let ended = terminals(words);
-    let Verdict::Accepted { nodes: _, vars: _ } = ended else {
-        return ended;
-    };
-    let ranged = ranges(words);
-    let Verdict::Accepted { nodes, vars } = ranged else {
-        return ranged;
-    };
+    terminals(words)?;
+    let Extent { nodes, vars } = ranges(words)?;
     graph(words, room, nodes, vars)
 }
 
@@ -71,11 +65,8 @@ fn inspect(words: &[u32], room: &mut [u32]) -> Verdict
 pub fn admit(words: &[u32], room: &mut [u32], output: Output) -> Verdict
     ensures { Checked words.now output room.old room.new result }
 {
-    let measured = lengths(words, room.len(), output);
-    let Verdict::Accepted { nodes, vars: _ } = measured else {
-        return measured;
-    };
-    let all = ROOM_PER_NODE * most(nodes);
+    let measured = lengths(words, room.len(), output)?;
+    let all = ROOM_PER_NODE * most(measured.nodes);
     inspect(words, &mut room[..all])
 }
 

@@ -6,9 +6,9 @@ ghost use Rattle.diagram.specs.Verdict.{said, short, lengths_of};
 
 use diagram::limits::{MAX_NODES, MAX_VARIABLES, ROOM_PER_NODE};
 use diagram::node::word;
-use diagram::refusal::{BROKEN_WORDS, NO_WORDS, SHORT_OUTPUT, SHORT_ROOM, TOO_MANY_NODES};
+use diagram::refusal::Refusal;
 use diagram::room::most;
-use diagram::verdict::{Output, Verdict};
+use diagram::verdict::{Extent, Output, Refused, Verdict};
 
 // Whether the output that is lent is shorter than the operation's answers may be.
 fn is_short(words: &[u32], output: Output) -> bool
@@ -28,38 +28,38 @@ pub fn lengths(words: &[u32], room: usize, output: Output) -> Verdict
     ensures { said result ≡ lengths_of words.now output room }
 {
     if words.len() == 0 {
-        return Verdict::Refused {
-            number: NO_WORDS,
+        return Err(Refused {
+            reason: Refusal::NoWords,
             place: 0,
-        };
+        });
     }
     if words.len() % 3 != 0 {
-        return Verdict::Refused {
-            number: BROKEN_WORDS,
+        return Err(Refused {
+            reason: Refusal::BrokenWords,
             place: 0,
-        };
+        });
     }
     let nodes = words.len() / 3;
     if MAX_NODES < nodes {
-        return Verdict::Refused {
-            number: TOO_MANY_NODES,
+        return Err(Refused {
+            reason: Refusal::TooManyNodes,
             place: 0,
-        };
+        });
     }
     if is_short(words, output) {
-        return Verdict::Refused {
-            number: SHORT_OUTPUT,
+        return Err(Refused {
+            reason: Refusal::ShortOutput,
             place: 0,
-        };
+        });
     }
     if room < ROOM_PER_NODE * most(nodes) {
-        return Verdict::Refused {
-            number: SHORT_ROOM,
+        return Err(Refused {
+            reason: Refusal::ShortRoom,
             place: 0,
-        };
+        });
     }
-    Verdict::Accepted {
+    Ok(Extent {
         nodes,
         vars: word(words, 0),
-    }
+    })
 }

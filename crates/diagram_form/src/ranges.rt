@@ -1,47 +1,44 @@
 // Refusals 8 to 10: variables and links in range.
-ghost use Rattle.std.specs.Prelude.{◌≡◌, ◌/◌, ◌≤◌, ◌^◌, ◌<◌, length};
+ghost use Rattle.std.specs.Prelude.{◌≡◌, ◌/◌, ◌≤◌, ◌^◌, ◌<◌, length, MatchOption};
 ghost use Rattle.diagram.specs.Limits.{max_nodes};
 ghost use Rattle.diagram.specs.Diagram.{size};
 ghost use Rattle.diagram.specs.Verdict.{said, first, ranges_of};
-ghost use Rattle.diagram.specs.Faults.{fault_of, is_faulty};
+ghost use Rattle.diagram.specs.Faults.{fault_of, is_faulty, number_in, IsFirstFault};
 
 use diagram::node::{BddPointer, high_link_of, low_link_of, var_of, word};
-use diagram::refusal::{BAD_HIGH_LINK, BAD_LOW_LINK, BAD_VARIABLE};
-use diagram::verdict::Verdict;
+use diagram::refusal::Refusal;
+use diagram::verdict::{Extent, Refused, Verdict};
 
-// What is out of range at a node: the variable, then low, then high; 0 where nothing is.
-fn fault_of(words: &[u32], node: BddPointer, nodes: usize, vars: u32) -> u32
-    ensures { result ≡ fault_of nodes vars words.now node.0 }
+// What is out of range at a node: the variable, then low, then high.
+fn fault_of(words: &[u32], node: BddPointer, nodes: usize, vars: u32) -> Option<Refusal>
+    ensures { number_in result ≡ fault_of nodes vars words.now node.0 }
 {
     let var = var_of(words, node);
     if vars <= var.0 {
-        return BAD_VARIABLE;
+        return Some(Refusal::BadVariable);
     }
     let low = low_link_of(words, node);
     if nodes <= low.0 as usize {
-        return BAD_LOW_LINK;
+        return Some(Refusal::BadLowLink);
     }
     let high = high_link_of(words, node);
     if nodes <= high.0 as usize {
-        return BAD_HIGH_LINK;
+        return Some(Refusal::BadHighLink);
     }
-    0
+    None
 }
 
-// The first faulty node of a stretch of nodes, counted from the stretch's start; past its nodes where there is none.
-fn first_fault(stretch: &[u32], nodes: usize, vars: u32) -> usize
+// The first fault of a stretch of nodes, which are counted from the stretch's start.
+fn first_fault(stretch: &[u32], nodes: usize, vars: u32) -> Option<Refused>
     requires { length stretch.now / 3 < 2 ^ 32 }
-    ensures { result ≡ first (is_faulty nodes vars stretch.now) 0 (length stretch.now / 3) }
+    ensures { MatchOption result (first (is_faulty nodes vars stretch.now) 0 (length stretch.now / 3) ≡ length stretch.now / 3) (IsFirstFault nodes vars stretch.now) }
 {
-    let count = stretch.len() / 3;
-    let mut p = 0;
-    while p < count {
-        if fault_of(stretch, BddPointer(p as u32), nodes, vars) != 0 {
-            return p;
+    for p in 0..stretch.len() / 3 {
+        if let Some(reason) = fault_of(stretch, BddPointer(p as u32), nodes, vars) {
+            return Some(Refused { reason, place: p });
         }
-        p += 1;
     }
-    p
+    None
 }
 
 pub fn ranges(words: &[u32]) -> Verdict
@@ -51,13 +48,14 @@ pub fn ranges(words: &[u32]) -> Verdict
     let nodes = words.len() / 3;
     let vars = word(words, 0);
     if nodes <= 2 {
-        return Verdict::Accepted { nodes, vars };
+        return Ok(Extent { nodes, vars });
     }
     // The terminals are not looked at: the stretch starts at node 2, and places are shifted back.
-    let place = first_fault(&words[6..], nodes, vars) + 2;
-    if place < nodes {
-        let number = fault_of(words, BddPointer(place as u32), nodes, vars);
-        return Verdict::Refused { number, place };
+    if let Some(fault) = first_fault(&words[6..], nodes, vars) {
+        return Err(Refused {
+            reason: fault.reason,
+            place: fault.place + 2,
+        });
     }
-    Verdict::Accepted { nodes, vars }
+    Ok(Extent { nodes, vars })
 }

@@ -5,8 +5,8 @@ ghost use Rattle.diagram.specs.Verdict.{said, is_terminal, terminals_of};
 
 use diagram::limits::MAX_VARIABLES;
 use diagram::node::{BddPointer, high_link_of, low_link_of, var_of, word};
-use diagram::refusal::{NO_TERMINAL, TOO_MANY_VARIABLES};
-use diagram::verdict::Verdict;
+use diagram::refusal::Refusal;
+use diagram::verdict::{Extent, Refused, Verdict};
 
 // Whether a node has the variable count for its variable, and both links to itself.
 pub fn is_terminal_node(words: &[u32], node: BddPointer) -> bool
@@ -38,26 +38,26 @@ pub fn terminals(words: &[u32]) -> Verdict
     ensures { said result ≡ terminals_of words.now }
 {
     if !is_terminal_node(words, BddPointer(0)) {
-        return Verdict::Refused {
-            number: NO_TERMINAL,
+        return Err(Refused {
+            reason: Refusal::NoTerminal,
             place: 0,
-        };
+        });
     }
     if lacks_one(words) {
-        return Verdict::Refused {
-            number: NO_TERMINAL,
+        return Err(Refused {
+            reason: Refusal::NoTerminal,
             place: 1,
-        };
+        });
     }
     let vars = word(words, 0);
     if MAX_VARIABLES < vars as usize {
-        return Verdict::Refused {
-            number: TOO_MANY_VARIABLES,
+        return Err(Refused {
+            reason: Refusal::TooManyVariables,
             place: 0,
-        };
+        });
     }
-    Verdict::Accepted {
+    Ok(Extent {
         nodes: words.len() / 3,
         vars,
-    }
+    })
 }

@@ -7,12 +7,13 @@ ghost use Rattle.std.specs.Prelude.{◌≡◌, ◌+◌, ◌-◌, ◌*◌, ◌<�
 ghost use Rattle.diagram.specs.Limits.{max_nodes};
 ghost use Rattle.diagram.specs.Diagram.{size, Formed};
 ghost use Rattle.diagram.specs.Verdict.{first, first_node, is_above_low, is_above, is_broken};
+ghost use Rattle.diagram.specs.Refusal.{number_of};
 ghost use Rattle.diagram.specs.Faults.{order_number};
 ghost use Rattle.diagram.specs.Marking.{pushed, pushed_top, Working, Onward, Marks};
 
 use diagram::node::{BddPointer, high_link_of, low_link_of, var_of, word};
-use diagram::refusal::{BROKEN_HIGH_ORDER, BROKEN_LOW_ORDER};
-use diagram::room::{clear, put};
+use diagram::refusal::Refusal;
+use diagram::room::{clear, most, put};
 
 // Marks a node and puts it on the stack, unless it has its mark.
 fn push(room: &mut [u32], nodes: usize, top: usize, node: BddPointer) -> usize
@@ -70,15 +71,15 @@ pub fn is_above(words: &[u32], node: BddPointer) -> bool
 }
 
 // Which of 11 and 17 a node gets that has a child not at a larger variable: its low child comes first.
-pub fn broken_order(words: &[u32], node: BddPointer) -> u32
-    ensures { result ≡ order_number (is_above_low words.now node.0) }
+pub fn broken_order(words: &[u32], node: BddPointer) -> Refusal
+    ensures { number_of result ≡ order_number (is_above_low words.now node.0) }
 {
     let var = var_of(words, node);
     let low = var_of(words, low_link_of(words, node));
     if var.is_before(low) {
-        return BROKEN_HIGH_ORDER;
+        return Refusal::BrokenHighOrder;
     }
-    BROKEN_LOW_ORDER
+    Refusal::BrokenLowOrder
 }
 
 // Whether a node is reached and has a child that is not at a larger variable.
@@ -97,26 +98,22 @@ pub fn first_broken(words: &[u32], room: &[u32], nodes: usize) -> usize
     requires { (nodes ≡ size words.now) × (nodes ≤ max_nodes) × Marks words.now room.now }
     ensures { result ≡ first_node words.now (is_broken words.now) }
 {
-    let mut node = 2;
-    while node < nodes {
+    for node in 2..nodes {
         if is_broken(words, room, node) {
             return node;
         }
-        node += 1;
     }
-    node
+    most(nodes)
 }
 
 // The smallest non-terminal without a mark; past the nodes where there is none.
 pub fn first_lost(room: &[u32], nodes: usize) -> usize
     ensures { result ≡ first (λ p. eqb (get_or room.now p 0) 0) 2 (nodes - 2) }
 {
-    let mut p = 2;
-    while p < nodes {
+    for p in 2..nodes {
         if word(room, p) == 0 {
             return p;
         }
-        p += 1;
     }
-    p
+    most(nodes)
 }

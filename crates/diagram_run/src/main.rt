@@ -30,13 +30,13 @@ fn say(text: &[u8], value: u64) {
 
 fn say_verdict(verdict: Verdict) {
     match verdict {
-        Verdict::Accepted { nodes, vars } => {
-            say(b"accepted nodes ", nodes as u64);
-            say(b" vars ", vars as u64);
+        Ok(extent) => {
+            say(b"accepted nodes ", extent.nodes as u64);
+            say(b" vars ", extent.vars as u64);
         }
-        Verdict::Refused { number, place } => {
-            say(b"refused ", number as u64);
-            say(b" at ", place as u64);
+        Err(refused) => {
+            say(b"refused ", refused.reason.number() as u64);
+            say(b" at ", refused.place as u64);
         }
     }
 }

@@ -3,6 +3,7 @@
 // read, and the channels are written.
 #![tactic(auto)]
 
+ghost use Rattle.std.specs.Prelude.{option_copied};
 ghost use Rattle.differ.specs.Program.{Words, Answered, Ran};
 
 use arguments::{arg, arg_count};
@@ -50,19 +51,15 @@ fn run(
     first: &[u8],
     second: &[u8],
     third: &[u8],
-    old_found: bool,
-    old: &[u8],
-    new_found: bool,
-    new: &[u8],
+    old: Option<&[u8]>,
+    new: Option<&[u8]>,
 ) -> Ends
     requires { Words first.now second.now third.now }
-    ensures { Answered count first.now second.now third.now old_found old.now new_found new.now result.lines result.text }
+    ensures { Answered count first.now second.now third.now (option_copied old.entry) (option_copied new.entry) result.lines result.text }
 {
     let mut lines = [0u8; LINES];
     let mut text = [0u8; TEXT];
-    let ends = answer(
-        count, first, second, third, old_found, old, new_found, new, &mut lines, &mut text,
-    );
+    let ends = answer(count, first, second, third, old, new, &mut lines, &mut text);
     deliver(&lines, &text, ends);
     ends
 }
@@ -90,20 +87,9 @@ fn read_and_run(
 {
     let mut old = blank_input();
     let mut new = blank_input();
-    let a = read_file(&rt, old_name, &mut old);
-    let b = read_file(&rt, new_name, &mut new);
-    let old_length = a.length;
-    let new_length = b.length;
-    run(
-        count,
-        first,
-        second,
-        third,
-        a.found,
-        &old[..old_length],
-        b.found,
-        &new[..new_length],
-    )
+    let old_file = read_file(&rt, old_name, &mut old);
+    let new_file = read_file(&rt, new_name, &mut new);
+    run(count, first, second, third, old_file, new_file)
 }
 
 // No file is opened where the words ask for no comparison.
@@ -113,8 +99,8 @@ fn obey(rt: HostRuntime, count: usize, first: &[u8], second: &[u8], third: &[u8]
 {
     let asked = asked_of(count, first);
     match asked {
-        Asked::Help => run(count, first, second, third, false, b"", false, b""),
-        Asked::Unknown => run(count, first, second, third, false, b"", false, b""),
+        Asked::Help => run(count, first, second, third, None, None),
+        Asked::Unknown => run(count, first, second, third, None, None),
         Asked::Compare(form) => match form {
             Form::Blocks => read_and_run(rt, count, first, second, third, first, second),
             Form::Nodes => read_and_run(rt, count, first, second, third, second, third),

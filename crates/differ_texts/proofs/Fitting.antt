@@ -10,7 +10,7 @@ use Rattle.writing.specs.Writing.{bytes}
 use Rattle.text.specs.Digits.{decimal_digits, hexadecimal_digits, decimal}
 use Rattle.text.proofs.Numerals.{decimal_length, decimal_short}
 use Rattle.messages.proofs.Fitting.{twice_length, refusal_length}
-use Rattle.differ_texts.specs.Texts.{row_text, signal, signals, any_on, list_on, on_text, smallest_text, difference_text, count_line, counts_text, missing_text, named_text, of_both, blamed, name_buffer, signal_bytes, lines_buffer, text_buffer}
+use Rattle.differ_texts.specs.Texts.{row_text, signal, signals, any_on, list_on, on_text, smallest_text, difference_text, counts_text, missing_text, named_text, of_both, blamed, name_buffer, signal_bytes, lines_buffer, text_buffer}
 
 of_both_lem : (k : ℕ) (b : Bool) (x y : List ℕ) → length x ≤ k → length y ≤ k → length (cond b x y) ≤ k
 of_both_lem k true x y h g = h

@@ -1,5 +1,7 @@
 -- What `differ` writes: the lines of an answer on standard output, all else on standard error. Texts are lists of bytes.
-use Rattle.std.specs.Prelude.{ℕ, suc, ◌+◌, ◌*◌, Bool, true, false, cond, ◌||◌, List, [], ◌∷◌, ◌++◌, length, eqb}
+use Rattle.std.specs.Prelude.{Option, Some, None, ℕ, suc, ◌+◌, ◌*◌, Bool, false, cond, ◌||◌, List, [], ◌∷◌, ◌++◌, length, eqb}
+use Rattle.naturals.specs.Natural.{value}
+use Rattle.naturals.specs.declared.Natural.{Natural}
 use Rattle.diagram.specs.Limits.{max_variables}
 use Rattle.writing.specs.Writing.{bytes}
 use Rattle.text.specs.Digits.{decimal_digits, hexadecimal_digits, decimal}
@@ -34,6 +36,11 @@ on_text t = bytes "on" ++ list_on t ++ feed
 -- `smallest difference 011` and `on x1 x2`, or `no difference`
 unfoldable pub smallest_text : List ℕ → List ℕ
 smallest_text t = bytes "smallest difference" ++ row_text t ++ feed ++ on_text t
+
+-- The smallest valuation's number, where there is one.
+abbrev pub shown_number : Option Natural → ℕ
+shown_number (Some a) = value a.words
+shown_number None = 0
 
 unfoldable pub difference_text : Bool → List ℕ → List ℕ
 difference_text differs t = cond differs (smallest_text t) (bytes "no difference\n")

@@ -1,10 +1,10 @@
 // The lines of an answer. A row is a valuation as bits, `0` or `1`, variable 0 first.
-ghost use Rattle.std.specs.Prelude.{◌≡◌, ◌++◌, ◌≤◌, length};
+ghost use Rattle.std.specs.Prelude.{◌≡◌, ◌++◌, ◌≤◌, length, is_some};
 ghost use Rattle.naturals.specs.Natural.{value};
 ghost use Rattle.diagram.specs.Limits.{max_variables};
 ghost use Rattle.writing.specs.Writing.{Wrote};
 ghost use Rattle.text.specs.Digits.{spell};
-ghost use Rattle.differ_texts.specs.Texts.{row_text, signal, signals, any_on, list_on, on_text, smallest_text, difference_text, counts_text};
+ghost use Rattle.differ_texts.specs.Texts.{row_text, signal, signals, any_on, list_on, on_text, smallest_text, difference_text, counts_text, shown_number};
 
 use diagram::limits::MAX_VARIABLES;
 use messages::summary::write_line;
@@ -14,7 +14,7 @@ use text::print::{DECIMAL, HEXADECIMAL, put_bits};
 use writing::{put, write};
 
 // The bit of a signal that is on.
-const ON: u8 = 49;
+const ON: u8 = b'1';
 
 // The longest answer (`lines_buffer` of specs/Texts.antt, where the words stand that these bytes are).
 const WORDS: usize = 82;
@@ -31,7 +31,7 @@ fn write_row(out: &mut [u8], at: usize, row: &[u8]) -> usize
     if row.len() == 0 {
         return at;
     }
-    let next = put(out, at, 32);
+    let next = put(out, at, b' ');
     write(out, next, row)
 }
 
@@ -49,10 +49,8 @@ fn write_signals(out: &mut [u8], at: usize, row: &[u8]) -> usize
     ensures { Wrote (signals 0 row.now) out.old at out.new result }
 {
     let mut place = at;
-    let mut i = 0;
-    while i < row.len() {
-        place = write_signal(out, place, i, row[i]);
-        i += 1;
+    for (i, bit) in row.iter().enumerate() {
+        place = write_signal(out, place, i, *bit);
     }
     place
 }
@@ -60,12 +58,10 @@ fn write_signals(out: &mut [u8], at: usize, row: &[u8]) -> usize
 fn any_on(row: &[u8]) -> bool
     ensures { result ≡ any_on row.now }
 {
-    let mut i = 0;
-    while i < row.len() {
-        if row[i] == ON {
+    for bit in row {
+        if *bit == ON {
             return true;
         }
-        i += 1;
     }
     false
 }
@@ -85,7 +81,7 @@ fn write_on(out: &mut [u8], at: usize, row: &[u8]) -> usize
 {
     let named = write(out, at, b"on");
     let listed = write_list(out, named, row);
-    put(out, listed, 10)
+    put(out, listed, b'\n')
 }
 
 // `smallest difference 011`, and the signals that are on
@@ -94,25 +90,21 @@ fn write_smallest(out: &mut [u8], at: usize, row: &[u8]) -> usize
 {
     let named = write(out, at, b"smallest difference");
     let shown = write_row(out, named, row);
-    let next = put(out, shown, 10);
+    let next = put(out, shown, b'\n');
     write_on(out, next, row)
 }
 
 // `row` is written over with the bits of the number.
-fn write_difference(
-    out: &mut [u8],
-    at: usize,
-    differs: bool,
-    smallest: Natural,
-    row: &mut [u8],
-) -> usize
-    ensures { Wrote (difference_text differs (spell 2 (value smallest.words) (length row.old))) out.old at out.new result }
+fn write_difference(out: &mut [u8], at: usize, smallest: Option<Natural>, row: &mut [u8]) -> usize
+    ensures { Wrote (difference_text (is_some smallest) (spell 2 (shown_number smallest) (length row.old))) out.old at out.new result }
 {
-    if differs {
-        put_bits(row, smallest);
-        return write_smallest(out, at, row);
+    match smallest {
+        Some(number) => {
+            put_bits(row, number);
+            write_smallest(out, at, row)
+        }
+        None => write(out, at, b"no difference\n"),
     }
-    write(out, at, b"no difference\n")
 }
 
 // `vars 3`, and the three counts
@@ -120,27 +112,26 @@ fn write_counts(out: &mut [u8], vars: u32, first: Natural, second: Natural, both
     ensures { Wrote (counts_text vars (value first.words) (value second.words) (value both.words)) out.old 0 out.new result }
 {
     let named = write_number(out, 0, b"vars ", vars as u64);
-    let next = put(out, named, 10);
+    let next = put(out, named, b'\n');
     let old = write_line(out, next, b"old only ", first, b" (hex ");
     let new = write_line(out, old, b"new only ", second, b" (hex ");
     write_line(out, new, b"both ", both, b" (hex ")
 }
 
-// All lines. `smallest` is a number whose lowest bits are the row.
+// All lines. `smallest` is a number whose lowest bits are the row; there is none where they don't differ.
 pub fn write_answer(
     out: &mut [u8],
     vars: u32,
     first: Natural,
     second: Natural,
     both: Natural,
-    differs: bool,
-    smallest: Natural,
+    smallest: Option<Natural>,
 ) -> usize
     requires { vars ≤ max_variables }
-    ensures { Wrote (counts_text vars (value first.words) (value second.words) (value both.words) ++ difference_text differs (spell 2 (value smallest.words) vars)) out.old 0 out.new result }
+    ensures { Wrote (counts_text vars (value first.words) (value second.words) (value both.words) ++ difference_text (is_some smallest) (spell 2 (shown_number smallest) vars)) out.old 0 out.new result }
 {
     let next = write_counts(out, vars, first, second, both);
     let mut row = [0u8; MAX_VARIABLES];
     let bits = vars as usize;
-    write_difference(out, next, differs, smallest, &mut row[..bits])
+    write_difference(out, next, smallest, &mut row[..bits])
 }

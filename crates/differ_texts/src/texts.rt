@@ -1,9 +1,11 @@
 // What is said on standard error.
 ghost use Rattle.std.specs.Prelude.{◌≡◌};
+ghost use Rattle.diagram.specs.Refusal.{number_of};
 ghost use Rattle.writing.specs.Writing.{Wrote};
 ghost use Rattle.differ_texts.specs.Texts.{help_text, unknown_text, missing_text, named_text, of_both, blamed};
 
-use diagram::refusal::{OTHER_VARIABLES, TOO_MANY_PAIRS};
+use diagram::refusal::Refusal;
+use diagram::verdict::Refused;
 use messages::refusal::write_refusal;
 use text::print::DECIMAL;
 use writing::write;
@@ -45,39 +47,33 @@ pub fn write_missing(out: &mut [u8], name: &[u8]) -> usize
 }
 
 // `old.block: refused 22 at 0: a check sum is wrong`
-pub fn write_named(out: &mut [u8], name: &[u8], number: u32, place: usize) -> usize
-    ensures { Wrote (named_text name.now number place) out.old 0 out.new result }
+pub fn write_named(out: &mut [u8], name: &[u8], refused: Refused) -> usize
+    ensures { Wrote (named_text name.now (number_of refused.reason) refused.place) out.old 0 out.new result }
 {
     let named = write(out, 0, name);
     let colon = write(out, named, b": ");
-    write_refusal(out, colon, number, place)
+    write_refusal(out, colon, refused)
 }
 
-fn of_both(number: u32) -> bool
-    ensures { result ≡ of_both number }
+fn of_both(reason: Refusal) -> bool
+    ensures { result ≡ of_both (number_of reason) }
 {
-    if number == OTHER_VARIABLES {
-        return true;
+    match reason {
+        Refusal::OtherVariables => true,
+        Refusal::TooManyPairs => true,
+        _ => false,
     }
-    number == TOO_MANY_PAIRS
 }
 
-// A refusal of two diagrams, behind the name of what it is about.
-pub fn write_blamed(
-    out: &mut [u8],
-    old: &[u8],
-    new: &[u8],
-    number: u32,
-    place: usize,
-    which: u32,
-) -> usize
-    ensures { Wrote (named_text (blamed old.now new.now number which) number place) out.old 0 out.new result }
+// A refusal of two diagrams, behind the name of what it is about: `which` is 0 for the old one, as `blamed` has it and the comparison gives it.
+pub fn write_blamed(out: &mut [u8], old: &[u8], new: &[u8], refused: Refused, which: u32) -> usize
+    ensures { Wrote (named_text (blamed old.now new.now (number_of refused.reason) which) (number_of refused.reason) refused.place) out.old 0 out.new result }
 {
-    if of_both(number) {
-        return write_named(out, b"differ", number, place);
+    if of_both(refused.reason) {
+        return write_named(out, b"differ", refused);
     }
     if which == 0 {
-        return write_named(out, old, number, place);
+        return write_named(out, old, refused);
     }
-    write_named(out, new, number, place)
+    write_named(out, new, refused)
 }

@@ -1,7 +1,8 @@
 -- What is promised of comparing files, from bytes to bytes.
 use Prim.Native.Nat.{ℕ, ◌+◌, ◌*◌, ◌≤◌}
 use mathlib.Core.Path.{◌≡◌, refl, sym, ap, ◌∙◌}
-use mathlib.Core.Bool.{Bool, false, cond}
+use mathlib.Core.Bool.{false}
+use Rattle.std.specs.Prelude.{Option, Some, None, option_map}
 use mathlib.Core.Logic.{◌⊎◌, inl, inr}
 use mathlib.Core.List.{List, []}
 use native.Mathlib.Omega.{arith}
@@ -37,11 +38,11 @@ one_channel : (d : Done) → (line_bytes d ≡ []) ⊎ (text_bytes d ≡ [])
 one_channel (told x) = inl refl
 one_channel (shown x) = inr refl
 
-no_files : (m : Asked) (a b c s t x y : List ℕ) (f g h i : Bool) → looks m ≡ false → done m a b c f s g t ≡ done m a b c h x i y
+no_files : (m : Asked) (a b c : List ℕ) (s t x y : Option (List ℕ)) → looks m ≡ false → done m a b c s t ≡ done m a b c x y
 unfolding done
-no_files Help a b c s t x y f g h i e = refl
-no_files Unknown a b c s t x y f g h i e = refl
-no_files (Compare form) a b c s t x y f g h i e = let z : ◌≡◌ {A = ℕ} 0 1 = cc in absurd (omega arith)
+no_files Help a b c s t x y e = refl
+no_files Unknown a b c s t x y e = refl
+no_files (Compare form) a b c s t x y e = let z : ◌≡◌ {A = ℕ} 0 1 = cc in absurd (omega arith)
 
 -- ---- the lines
 
@@ -69,11 +70,11 @@ old_fits old new missing f = omega arith
 old_fits old new (refused k p) f = omega arith
 old_fits old new (holding a) f = new_fits old new a f
 
-lines_fit_all : (m : Asked) (a b c s t : List ℕ) (f g : Bool) → length (line_bytes (done m a b c f s g t)) ≤ lines_buffer
+lines_fit_all : (m : Asked) (a b c : List ℕ) (s t : Option (List ℕ)) → length (line_bytes (done m a b c s t)) ≤ lines_buffer
 unfolding done files_done
-lines_fit_all Help a b c s t f g = omega arith
-lines_fit_all Unknown a b c s t f g = omega arith
-lines_fit_all (Compare form) a b c s t f g = old_fits (old_name form a b) (new_name form b c) (file_of form f s) (file_of form g t)
+lines_fit_all Help a b c s t = omega arith
+lines_fit_all Unknown a b c s t = omega arith
+lines_fit_all (Compare form) a b c s t = old_fits (old_name form a b) (new_name form b c) (file_of form s) (file_of form t)
 
 -- ---- the text
 
@@ -93,25 +94,26 @@ module _ (old new : List ℕ) (h : length old ≤ name_buffer) (g : length new �
   old_text (refused k p) f = named_fits old h k p
   old_text (holding a) f = new_text a f
 
-text_fits_all : (m : Asked) (a b c s t : List ℕ) (f g : Bool) → length a ≤ name_buffer → length b ≤ name_buffer → length c ≤ name_buffer
-    → length (text_bytes (done m a b c f s g t)) ≤ text_buffer
+text_fits_all : (m : Asked) (a b c : List ℕ) (s t : Option (List ℕ)) → length a ≤ name_buffer → length b ≤ name_buffer → length c ≤ name_buffer
+    → length (text_bytes (done m a b c s t)) ≤ text_buffer
 unfolding done files_done
-text_fits_all Help a b c s t f g x y z = omega arith
-text_fits_all Unknown a b c s t f g x y z = omega arith
-text_fits_all (Compare InBlocks) a b c s t f g x y z = old_text a b x y (file_of InBlocks f s) (file_of InBlocks g t)
-text_fits_all (Compare InNodes) a b c s t f g x y z = old_text b c y z (file_of InNodes f s) (file_of InNodes g t)
+text_fits_all Help a b c s t x y z = omega arith
+text_fits_all Unknown a b c s t x y z = omega arith
+text_fits_all (Compare InBlocks) a b c s t x y z = old_text a b x y (file_of InBlocks s) (file_of InBlocks t)
+text_fits_all (Compare InNodes) a b c s t x y z = old_text b c y z (file_of InNodes s) (file_of InNodes t)
 
 -- ---- the files
 
-file_front : (form : Form) (found : Bool) (s : List ℕ) (k : ℕ) → node_input_bytes ≤ k → file_of form found (take k s) ≡ file_of form found s
+file_front : (form : Form) (s : Option (List ℕ)) (k : ℕ) → node_input_bytes ≤ k → file_of form (option_map (take k) s) ≡ file_of form s
 unfolding file_of
-file_front form found s k h = ap (λ (x : Reading). cond found (file_read x) missing) (front_enough form s blank k h)
+file_front form (Some s) k h = ap file_read (front_enough form s blank k h)
+file_front form None k h = refl
 
-front_is_enough : (m : Asked) (a b c s t : List ℕ) (f g : Bool) (k : ℕ) → node_input_bytes ≤ k → done m a b c f (take k s) g (take k t) ≡ done m a b c f s g t
+front_is_enough : (m : Asked) (a b c : List ℕ) (s t : Option (List ℕ)) (k : ℕ) → node_input_bytes ≤ k → done m a b c (option_map (take k) s) (option_map (take k) t) ≡ done m a b c s t
 unfolding done files_done
-front_is_enough Help a b c s t f g k h = refl
-front_is_enough Unknown a b c s t f g k h = refl
-front_is_enough (Compare form) a b c s t f g k h = rw (file_front form f s k h, file_front form g t k h) refl
+front_is_enough Help a b c s t k h = refl
+front_is_enough Unknown a b c s t k h = refl
+front_is_enough (Compare form) a b c s t k h = rw (file_front form s k h, file_front form t k h) refl
 
 -- ---- the table: the places of a block file's nodes number the pairs
 

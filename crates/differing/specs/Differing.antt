@@ -1,13 +1,13 @@
--- What comparing two files answers. `s` and `t` are the bytes of the old file and of the new one, `a` and `b` the words of their nodes,
--- `old` and `new` their names as they were given.
-use Rattle.std.specs.Prelude.{ℕ, ◌*◌, ◌≤◌, ◌≡◌, Bool, true, false, cond, List, [], ◌∷◌, ◌++◌, take, eqb}
+-- What comparing two files answers. `s` and `t` are the bytes of the old file and of the new one where they could be read, `a` and `b` the
+-- words of their nodes, `old` and `new` their names as they were given.
+use Rattle.std.specs.Prelude.{Option, Some, None, Result, Ok, Err, is_some, ℕ, ◌*◌, ◌≤◌, ◌≡◌, Bool, true, false, cond, List, [], ◌∷◌, ◌++◌, take, eqb}
 use Rattle.naturals.specs.Natural.{value}
 use Rattle.diagram.specs.Limits.{max_words}
 use Rattle.diagram.specs.Diagram.{vars}
 use Rattle.diagram.specs.Verdict.{Outcome, accepted, refused as rejected, said as judged}
 use Rattle.pairs.specs.Pairs.{pair_words}
-use Rattle.comparison.specs.Comparison.{differ, first_only, second_only, in_both, any_differ, least, compare_of, which_of, Tells}
-use Rattle.comparison.specs.declared.compare.Compared.{Compared}
+use Rattle.comparison.specs.Comparison.{differ, first_only, second_only, in_both, any_differ, least, compare_of, which_of, Compared, verdict_told, which_told, Tells}
+use Rattle.comparison.specs.declared.compare.Comparison.{Comparison}
 use Rattle.blocks.specs.Block.{nodes as stored, refused as unread}
 use Rattle.block_file.specs.File.{Reading, reading}
 use Rattle.forms.specs.Form.{read_as}
@@ -18,11 +18,12 @@ use Rattle.text.specs.Digits.{spell}
 use Rattle.report.specs.Report.{room_lent, blank}
 use Rattle.request.specs.Request.{is_nodes}
 use Rattle.messages.specs.Texts.{lent_pairs}
-use Rattle.differ_texts.specs.Texts.{difference_text, counts_text, help_text, unknown_text, missing_text, named_text, blamed}
+use Rattle.differ_texts.specs.Texts.{difference_text, counts_text, help_text, unknown_text, missing_text, named_text, blamed, shown_number}
 use Rattle.differing.specs.declared.words.Asked.{Asked}
 use Rattle.differing.specs.declared.words.Asked.TheVariants.{Help, Unknown, Compare}
-use Rattle.differing.specs.declared.job.Loading.{Loading}
-use Rattle.differing.specs.declared.job.Loading.TheVariants.{Missing, Refused, Loaded}
+use Rattle.diagram.specs.Refusal.{number_of}
+use Rattle.differing.specs.declared.job.Unloaded.{Unloaded}
+use Rattle.differing.specs.declared.job.Unloaded.TheVariants.{Missing, Refused}
 
 -- ---- the words
 
@@ -61,8 +62,9 @@ abbrev pub file_read : Reading → File
 file_read (reading (stored n) left) = holding (take (3 * n) left)
 file_read (reading (unread number place) left) = refused number place
 
-unfoldable pub file_of : Form → Bool → List ℕ → File
-file_of form found s = cond found (file_read (read_as form s blank)) missing
+unfoldable pub file_of : Form → Option (List ℕ) → File
+file_of form None = missing
+file_of form (Some s) = file_read (read_as form s blank)
 
 -- ---- the answer: what is told of two diagrams is `Tells` of crates/comparison
 
@@ -104,15 +106,14 @@ if_old old new missing f = told (missing_text old)
 if_old old new (refused number place) f = told (named_text old number place)
 if_old old new (holding a) f = if_new old new a f
 
-unfoldable pub files_done : Form → List ℕ → List ℕ → Bool → List ℕ → Bool → List ℕ → Done
-files_done form old new old_found s new_found t = if_old old new (file_of form old_found s) (file_of form new_found t)
+unfoldable pub files_done : Form → List ℕ → List ℕ → Option (List ℕ) → Option (List ℕ) → Done
+files_done form old new s t = if_old old new (file_of form s) (file_of form t)
 
 -- By what the words ask for.
-unfoldable pub done : Asked → List ℕ → List ℕ → List ℕ → Bool → List ℕ → Bool → List ℕ → Done
-done Help first second third old_found s new_found t = told help_text
-done Unknown first second third old_found s new_found t = told unknown_text
-done (Compare form) first second third old_found s new_found t =
-    files_done form (old_name form first second) (new_name form second third) old_found s new_found t
+unfoldable pub done : Asked → List ℕ → List ℕ → List ℕ → Option (List ℕ) → Option (List ℕ) → Done
+done Help first second third s t = told help_text
+done Unknown first second third s t = told unknown_text
+done (Compare form) first second third s t = files_done form (old_name form first second) (new_name form second third) s t
 
 -- ---- what is written of it
 
@@ -132,22 +133,27 @@ pub record Differs (d : Done) (lines lines_left text text-left : List ℕ) (line
 -- ---- for the code inside
 
 -- What loading a file says, with the words that it leaves.
-abbrev pub loads : Loading → List ℕ → File
-loads Missing left = missing
-loads (Refused number place) left = refused number place
-loads (Loaded n) left = holding (take (3 * n) left)
+abbrev pub loads : Result ℕ Unloaded → List ℕ → File
+loads (Err Missing) left = missing
+loads (Err (Refused e)) left = refused (number_of e.reason) e.place
+loads (Ok n) left = holding (take (3 * n) left)
 
-pub record Loads (form : Form) (found : Bool) (s left : List ℕ) (r : Loading) : Type 0 where
-  pub is : loads r left ≡ file_of form found s
-  pub few : (n : ℕ) → r ≡ Loaded n → 3 * n ≤ max_words
+-- What is said of a file that gives none.
+abbrev pub unloaded_text : List ℕ → Unloaded → List ℕ
+unloaded_text name Missing = missing_text name
+unloaded_text name (Refused e) = named_text name (number_of e.reason) e.place
+
+pub record Loads (form : Form) (s : Option (List ℕ)) (left : List ℕ) (r : Result ℕ Unloaded) : Type 0 where
+  pub is : loads r left ≡ file_of form s
+  pub few : (n : ℕ) → r ≡ Ok n → 3 * n ≤ max_words
 
 -- The lines of what is told of two arrays.
-abbrev pub compared_text : Compared → ℕ → List ℕ
+abbrev pub compared_text : Comparison → ℕ → List ℕ
 compared_text r v =
-    counts_text v (value r.first.words) (value r.second.words) (value r.both.words) ++ difference_text r.differ (spell 2 (value r.smallest.words) v)
+    counts_text v (value r.first.words) (value r.second.words) (value r.both.words) ++ difference_text (is_some r.smallest) (spell 2 (shown_number r.smallest) v)
 
 -- What comparing two arrays says with the room and the table that are lent.
 pub record Says (a b : List ℕ) (r : Compared) : Type 0 where
-  pub verdict : judged r.verdict ≡ compare_of a b room_lent table_lent
-  pub which : r.which ≡ which_of a b room_lent
+  pub verdict : judged (verdict_told r) ≡ compare_of a b room_lent table_lent
+  pub which : which_told r ≡ which_of a b room_lent
   pub tells : Tells a b (compare_of a b room_lent table_lent) r

@@ -1,4 +1,5 @@
 // From the words and the two files of the program to the bytes of both its channels.
+ghost use Rattle.std.specs.Prelude.{option_copied};
 ghost use Rattle.differing.specs.Differing.{old_name, new_name, asked_of, files_done, done, Differs};
 
 use crate::Ends;
@@ -13,40 +14,32 @@ fn differ_named(
     first: &[u8],
     second: &[u8],
     third: &[u8],
-    old_found: bool,
-    old: &[u8],
-    new_found: bool,
-    new: &[u8],
+    old: Option<&[u8]>,
+    new: Option<&[u8]>,
     lines: &mut [u8],
     text: &mut [u8],
 ) -> Ends
-    ensures { Differs (files_done form (old_name form first.now second.now) (new_name form second.now third.now) old_found old.now new_found new.now) lines.old lines.new text.old text.new result.lines result.text }
+    ensures { Differs (files_done form (old_name form first.now second.now) (new_name form second.now third.now) (option_copied old.entry) (option_copied new.entry)) lines.old lines.new text.old text.new result.lines result.text }
 {
     match form {
-        Form::Blocks => differ(
-            form, first, second, old_found, old, new_found, new, lines, text,
-        ),
-        Form::Nodes => differ(
-            form, second, third, old_found, old, new_found, new, lines, text,
-        ),
+        Form::Blocks => differ(form, first, second, old, new, lines, text),
+        Form::Nodes => differ(form, second, third, old, new, lines, text),
     }
 }
 
-// `count` is how many words there are; of each file whether it was found, and its bytes. The lines are for standard output, the text is
+// `count` is how many words there are; a file that could not be read is `None`. The lines are for standard output, the text is
 // for standard error.
 pub fn answer(
     count: usize,
     first: &[u8],
     second: &[u8],
     third: &[u8],
-    old_found: bool,
-    old: &[u8],
-    new_found: bool,
-    new: &[u8],
+    old: Option<&[u8]>,
+    new: Option<&[u8]>,
     lines: &mut [u8],
     text: &mut [u8],
 ) -> Ends
-    ensures { Differs (done (asked_of count first.now) first.now second.now third.now old_found old.now new_found new.now) lines.old lines.new text.old text.new result.lines result.text }
+    ensures { Differs (done (asked_of count first.now) first.now second.now third.now (option_copied old.entry) (option_copied new.entry)) lines.old lines.new text.old text.new result.lines result.text }
 {
     let asked = asked_of(count, first);
     match asked {
@@ -64,8 +57,6 @@ pub fn answer(
                 text: end,
             }
         }
-        Asked::Compare(form) => differ_named(
-            form, first, second, third, old_found, old, new_found, new, lines, text,
-        ),
+        Asked::Compare(form) => differ_named(form, first, second, third, old, new, lines, text),
     }
 }

@@ -1,16 +1,17 @@
 // From the bytes of two files to the lines that tell how their conditions differ.
-ghost use Rattle.std.specs.Prelude.{◌≡◌, ◌≤◌};
+ghost use Rattle.std.specs.Prelude.{◌≡◌, ◌≤◌, option_copied};
 ghost use Rattle.diagram.specs.Limits.{max_variables};
+ghost use Rattle.diagram.specs.Refusal.{number_of};
+ghost use Rattle.comparison.specs.Comparison.{which_number};
 ghost use Rattle.writing.specs.Writing.{Wrote};
 ghost use Rattle.report.specs.Report.{blank};
 ghost use Rattle.differ_texts.specs.Texts.{missing_text, named_text, blamed};
-ghost use Rattle.differing.specs.Differing.{file_of, words_done, if_new, files_done, Loads, Says, compared_text, Differs};
+ghost use Rattle.differing.specs.Differing.{unloaded_text, file_of, words_done, if_new, files_done, Loads, Says, compared_text, Differs};
 
 use crate::Ends;
-use blocks::stored::Stored;
-use comparison::compare::{Compared, compare};
+use comparison::compare::{Compared, Comparison, ComparisonRefused, compare};
 use diagram::limits::{MAX_NODES, MAX_WORDS, ROOM_PER_NODE};
-use diagram::verdict::Verdict;
+use diagram::verdict::Refused;
 use differ_texts::lines::write_answer;
 use differ_texts::texts::{write_blamed, write_missing, write_named};
 use forms::{Form, read_form};
@@ -22,26 +23,34 @@ const ROOM: usize = ROOM_PER_NODE * MAX_NODES;
 
 const TABLE: usize = PAIR_WORDS * LENT_PAIRS;
 
-// What a file comes to: it was not found, it is refused, or so many nodes were read.
-#[derive(Clone, Copy)]
-pub enum Loading {
+// Why no nodes come of a file: it was not found, or it is refused.
+#[derive(Clone, Copy, Debug, PartialEq, Eq)]
+pub enum Unloaded {
     Missing,
-    Refused { number: u32, place: usize },
-    Loaded(usize),
+    Refused(Refused),
 }
 
-// Reads the nodes of a file that was found.
-fn load(form: Form, found: bool, bytes: &[u8], words: &mut [u32]) -> Loading
-    requires { words.old ≡ blank }
-    ensures { Loads form found bytes.now words.new result }
-{
-    if !found {
-        return Loading::Missing;
+impl From<Refused> for Unloaded {
+    ghost use Rattle.differing.specs.declared.job.Unloaded.TheVariants.{Refused as Unread};
+
+    ghost from_gives = { λ refused unloaded. unloaded ≡ Unread refused };
+
+    fn from(refused: Refused) -> Unloaded {
+        Unloaded::Refused(refused)
     }
-    let stored = read_form(form, bytes, words);
-    match stored {
-        Stored::Nodes(nodes) => Loading::Loaded(nodes),
-        Stored::Refused { number, place } => Loading::Refused { number, place },
+}
+
+// Reads the nodes of a file that was found, and says how many there are.
+fn load(form: Form, file: Option<&[u8]>, words: &mut [u32]) -> Result<usize, Unloaded>
+    requires { words.old ≡ blank }
+    ensures { Loads form (option_copied file.entry) words.new result }
+{
+    match file {
+        None => Err(Unloaded::Missing),
+        Some(bytes) => {
+            let nodes = read_form(form, bytes, words)?;
+            Ok(nodes)
+        }
     }
 }
 
@@ -64,20 +73,30 @@ fn miss(name: &[u8], text: &mut [u8]) -> Ends
     }
 }
 
-fn refuse(name: &[u8], number: u32, place: usize, text: &mut [u8]) -> Ends
-    ensures { (result.lines ≡ 0) × Wrote (named_text name.now number place) text.old 0 text.new result.text }
+fn refuse(name: &[u8], refused: Refused, text: &mut [u8]) -> Ends
+    ensures { (result.lines ≡ 0) × Wrote (named_text name.now (number_of refused.reason) refused.place) text.old 0 text.new result.text }
 {
-    let end = write_named(text, name, number, place);
+    let end = write_named(text, name, refused);
     Ends {
         lines: 0,
         text: end,
     }
 }
 
-fn blame(old: &[u8], new: &[u8], number: u32, place: usize, which: u32, text: &mut [u8]) -> Ends
-    ensures { (result.lines ≡ 0) × Wrote (named_text (blamed old.now new.now number which) number place) text.old 0 text.new result.text }
+// Why a file gives no nodes, behind its name.
+fn say_unloaded(name: &[u8], unloaded: Unloaded, text: &mut [u8]) -> Ends
+    ensures { (result.lines ≡ 0) × Wrote (unloaded_text name.now unloaded) text.old 0 text.new result.text }
 {
-    let end = write_blamed(text, old, new, number, place, which);
+    match unloaded {
+        Unloaded::Missing => miss(name, text),
+        Unloaded::Refused(refused) => refuse(name, refused, text),
+    }
+}
+
+fn blame(old: &[u8], new: &[u8], refusal: ComparisonRefused, text: &mut [u8]) -> Ends
+    ensures { (result.lines ≡ 0) × Wrote (named_text (blamed old.now new.now (number_of refusal.refused.reason) (which_number refusal.which)) (number_of refusal.refused.reason) refusal.refused.place) text.old 0 text.new result.text }
+{
+    let end = write_blamed(text, old, new, refusal.refused, refusal.which.number());
     Ends {
         lines: 0,
         text: end,
@@ -85,15 +104,18 @@ fn blame(old: &[u8], new: &[u8], number: u32, place: usize, which: u32, text: &m
 }
 
 // What is told of two diagrams.
-fn show(told: Compared, vars: u32, lines: &mut [u8]) -> Ends
+fn show(told: Comparison, vars: u32, lines: &mut [u8]) -> Ends
     requires { vars ≤ max_variables }
     ensures { (result.text ≡ 0) × Wrote (compared_text told vars) lines.old 0 lines.new result.lines }
 {
-    let first = told.first;
-    let second = told.second;
-    let both = told.both;
-    let smallest = told.smallest;
-    let end = write_answer(lines, vars, first, second, both, told.differ, smallest);
+    let end = write_answer(
+        lines,
+        vars,
+        told.first,
+        told.second,
+        told.both,
+        told.smallest,
+    );
     Ends {
         lines: end,
         text: 0,
@@ -111,11 +133,9 @@ fn tell(
 ) -> Ends
     ensures { Differs (words_done old.now new.now first.now second.now) lines.old lines.new text.old text.new result.lines result.text }
 {
-    let told = compare_words(first, second);
-    let verdict = told.verdict;
-    match verdict {
-        Verdict::Accepted { nodes: _, vars } => show(told, vars, lines),
-        Verdict::Refused { number, place } => blame(old, new, number, place, told.which, text),
+    match compare_words(first, second) {
+        Ok(found) => show(found.value, found.extent.vars, lines),
+        Err(refusal) => blame(old, new, refusal, text),
     }
 }
 
@@ -125,50 +145,34 @@ fn differ_from(
     old: &[u8],
     new: &[u8],
     first: &[u32],
-    found: bool,
-    bytes: &[u8],
+    file: Option<&[u8]>,
     lines: &mut [u8],
     text: &mut [u8],
 ) -> Ends
-    ensures { Differs (if_new old.now new.now first.now (file_of form found bytes.now)) lines.old lines.new text.old text.new result.lines result.text }
+    ensures { Differs (if_new old.now new.now first.now (file_of form (option_copied file.entry))) lines.old lines.new text.old text.new result.lines result.text }
 {
     let mut words = [0u32; MAX_WORDS];
-    let loading = load(form, found, bytes, &mut words);
-    match loading {
-        Loading::Missing => miss(new, text),
-        Loading::Refused { number, place } => refuse(new, number, place, text),
-        Loading::Loaded(nodes) => tell(old, new, first, &words[..3 * nodes], lines, text),
+    match load(form, file, &mut words) {
+        Err(unloaded) => say_unloaded(new, unloaded, text),
+        Ok(nodes) => tell(old, new, first, &words[..3 * nodes], lines, text),
     }
 }
 
-// Two files of one form, with their names and whether each was found.
+// Two files of one form, each with its name.
 pub(crate) fn differ(
     form: Form,
     old: &[u8],
     new: &[u8],
-    old_found: bool,
-    old_bytes: &[u8],
-    new_found: bool,
-    new_bytes: &[u8],
+    old_file: Option<&[u8]>,
+    new_file: Option<&[u8]>,
     lines: &mut [u8],
     text: &mut [u8],
 ) -> Ends
-    ensures { Differs (files_done form old.now new.now old_found old_bytes.now new_found new_bytes.now) lines.old lines.new text.old text.new result.lines result.text }
+    ensures { Differs (files_done form old.now new.now (option_copied old_file.entry) (option_copied new_file.entry)) lines.old lines.new text.old text.new result.lines result.text }
 {
     let mut words = [0u32; MAX_WORDS];
-    let loading = load(form, old_found, old_bytes, &mut words);
-    match loading {
-        Loading::Missing => miss(old, text),
-        Loading::Refused { number, place } => refuse(old, number, place, text),
-        Loading::Loaded(nodes) => differ_from(
-            form,
-            old,
-            new,
-            &words[..3 * nodes],
-            new_found,
-            new_bytes,
-            lines,
-            text,
-        ),
+    match load(form, old_file, &mut words) {
+        Err(unloaded) => say_unloaded(old, unloaded, text),
+        Ok(nodes) => differ_from(form, old, new, &words[..3 * nodes], new_file, lines, text),
     }
 }

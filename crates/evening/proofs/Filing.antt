@@ -16,12 +16,13 @@ use Rattle.blocks.specs.Block.{block_bytes}
 use Rattle.request.specs.Request.{Aim, Meaning, help, unknown, which, cut, request_of, aim_of}
 use Rattle.request.specs.declared.Target.{Target}
 use Rattle.messages.specs.Texts.{settings_refusal_text}
-use Rattle.setting_blocks.specs.Settings.{target_words, newest, block_of, Outcome, kept, refused, read_by, shown, Writes}
+use Rattle.setting_blocks.specs.Settings.{target_words, newest, block_of, kept, read_by, said, Writes}
 use Rattle.setting_blocks.specs.declared.setting.Setting.{Setting}
-use Rattle.setting_blocks.specs.declared.setting.SettingRead.{SettingRead}
+use Rattle.std.specs.Prelude.{Err}
+use Rattle.diagram.specs.Refusal.{number_of as number_in}
+use Rattle.diagram.specs.declared.verdict.Refused.{Refused}
 use Rattle.setting_blocks.specs.declared.setting.SettingWritten.{SettingWritten}
 use Rattle.setting_blocks.proofs.Testing.{Storable, stores}
-use Rattle.evening.proofs.Calls.{read_back}
 use Rattle.evening.proofs.Asking.{storable, size_storable, count_storable}
 use Rattle.evening.proofs.Settling.{version_known, setting_right}
 use Rattle.evening.specs.Words.{meaning_of, setting_of, version_of}
@@ -33,33 +34,21 @@ use Rattle.evening.specs.Storing.{cut_text, version_text, help_text, unknown_tex
 says : (t file text text' : List ℕ) {end text-end : ℕ} → (end ≡ 0) × Wrote t text 0 text' text-end → Files (saying t) file file text text' end text-end
 says t file text text' w = record { filed_left = rw w.0 (wrote_none file 0); text_said = w.1 }
 
-refused_shown : (o : Outcome) → (shown o).number ≢ 0 → if_shown o ≡ saying (settings_refusal_text (shown o).number (shown o).place)
-unfolding if_shown
-refused_shown (kept version x) h = absurd (h refl)
-refused_shown (refused number place) h = refl
+module _ (f : List ℕ) {file text text' : List ℕ} {text-end : ℕ} where
+  pub shows_refused : (x : Refused) → said (Err x) ≡ read_by newest f → Wrote (settings_refusal_text (number_in x.reason) x.place) text 0 text' text-end
+      → Files (if_shown (read_by newest f)) file file text text' 0 text-end
+  unfolding if_shown
+  shows_refused x e w = rw (sym e) (says _ file text text' (refl, w))
 
-module _ (f : List ℕ) {r : SettingRead} (e : r ≡ shown (read_by newest f)) {file text text' : List ℕ} {text-end : ℕ} where
-  pub shows_refused : r.number ≢ 0 → Wrote (settings_refusal_text r.number r.place) text 0 text' text-end → Files (if_shown (read_by newest f)) file file text text' 0 text-end
-  shows_refused h w =
-      let h' : (shown (read_by newest f)).number ≢ 0 = rw e at h in
-      rw (refused_shown (read_by newest f) h') (says _ file text text' (refl, rw e at w))
-
-  pub shows_kept : {keep as_is : Bool} {aim : Aim} {file' : List ℕ} {end : ℕ} → r.number ≡ 0 → cut keep as_is aim ≡ meaning_of r.setting
-      → Wrote (cut_text keep as_is aim) file 0 file' end → Wrote (version_text r.version) text 0 text' text-end
+  pub shows_kept : {version : ℕ} {x : Setting} → kept version x ≡ read_by newest f → {keep as_is : Bool} {aim : Aim} {file' : List ℕ} {end : ℕ} → cut keep as_is aim ≡ meaning_of x
+      → Wrote (cut_text keep as_is aim) file 0 file' end → Wrote (version_text version) text 0 text' text-end
       → Files (if_shown (read_by newest f)) file file' text text' end text-end
   unfolding if_shown
-  shows_kept z a w v = rw (read_back f e z) (record { filed_left = rw (sym a) w; text_said = v })
+  shows_kept e a w v = rw (sym e) (record { filed_left = rw (sym a) w; text_said = v })
 
 -- ---- a setting stored
 
-module _ (target : Target) (size : target.size < 2 ^ 32) (count : Typed target_words target.count.words) where
-  -- The types bound the numbers.
-  target_storable : storable (aim_of target) ≡ true
-  target_storable =
-      by_test target.counted
-      (λ e. rw e (count_storable (value target.count.words) (holds_less (holds_typed count))))
-      (λ e. rw e (size_storable target.size size))
-
+module _ (target : Target) (target_storable : storable (aim_of target) ≡ true) where
   may_store : Storable (version_of target.as_is) (setting_of target.keep target.as_is (aim_of target))
   may_store = record { known_version = version_known target.as_is; in_range = setting_right target.keep target.as_is (aim_of target) target_storable }
 

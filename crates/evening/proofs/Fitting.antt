@@ -2,6 +2,7 @@
 use Prim.Native.Nat.{ℕ, ◌+◌, ◌≤◌, ◌<◌}
 use mathlib.Core.Path.{◌≡◌, refl, ap}
 use mathlib.Core.Bool.{Bool, true, false}
+use Rattle.std.specs.Prelude.{Option, Some, None, option_map}
 use mathlib.Core.List.{List}
 use native.Mathlib.Omega.{arith}
 use lib.ListN.{length, take, length-append}
@@ -40,43 +41,44 @@ module _ (P : Done → Type 0) (first s : List ℕ) (lent : ℕ) (does : (m : Me
   kept_all (kept version x) = does (meaning_of x)
   kept_all (refused number place) = blames number place
 
-  settled_all : (found : Bool) (f : List ℕ) → P (settled (form_of first) found f s lent)
+  settled_all : (f : Option (List ℕ)) → P (settled (form_of first) f s lent)
   unfolding settled
-  settled_all found f = either P found (kept_all (read_by newest f)) misses
+  settled_all (Some f) = kept_all (read_by newest f)
+  settled_all None = misses
 
-  evening_all : (count : ℕ) (second third fourth fifth : List ℕ) (found : Bool) (f : List ℕ) → P (evening_done count first second third fourth fifth found f s lent)
+  evening_all : (count : ℕ) (second third fourth fifth : List ℕ) (f : Option (List ℕ)) → P (evening_done count first second third fourth fifth f s lent)
   unfolding evening_done
-  evening_all count second third fourth fifth found f =
-      either P (names_settings count first second) (settled_all found f) (does (words_of count first second third fourth fifth))
+  evening_all count second third fourth fifth f =
+      either P (names_settings count first second) (settled_all f) (does (words_of count first second third fourth fifth))
 
-pub file_fits : (count : ℕ) (first second third fourth fifth : List ℕ) (found : Bool) (f s : List ℕ) (lent : ℕ)
-    → length (file_bytes (evening_done count first second third fourth fifth found f s lent)) ≤ file_buffer
-file_fits count first second third fourth fifth found f s lent =
+pub file_fits : (count : ℕ) (first second third fourth fifth : List ℕ) (f : Option (List ℕ)) (s : List ℕ) (lent : ℕ)
+    → length (file_bytes (evening_done count first second third fourth fifth f s lent)) ≤ file_buffer
+file_fits count first second third fourth fifth f s lent =
     evening_all (λ d. length (file_bytes d) ≤ file_buffer) first s lent (λ m. done-file-fits (form_of first) m s lent) (λ number place. omega arith) (omega arith)
-    count second third fourth fifth found f
+    count second third fourth fifth f
 
-pub text_fits : (count : ℕ) (first second third fourth fifth : List ℕ) (found : Bool) (f s : List ℕ) (lent : ℕ)
-    → length (text_bytes (evening_done count first second third fourth fifth found f s lent)) ≤ text_buffer
-text_fits count first second third fourth fifth found f s lent =
+pub text_fits : (count : ℕ) (first second third fourth fifth : List ℕ) (f : Option (List ℕ)) (s : List ℕ) (lent : ℕ)
+    → length (text_bytes (evening_done count first second third fourth fifth f s lent)) ≤ text_buffer
+text_fits count first second third fourth fifth f s lent =
     evening_all (λ d. length (text_bytes d) ≤ text_buffer) first s lent (λ m. done-text-fits (form_of first) m s lent) blamed_fits (omega arith)
-    count second third fourth fifth found f
+    count second third fourth fifth f
 
 -- ---- the inputs of `shrink`
 
-pub settings_enough : (form : Form) (found : Bool) (f s : List ℕ) (lent k : ℕ) → block_bytes < k → settled form found (take k f) s lent ≡ settled form found f s lent
+pub settings_enough : (form : Form) (f : Option (List ℕ)) (s : List ℕ) (lent k : ℕ) → block_bytes < k → settled form (option_map (take k) f) s lent ≡ settled form f s lent
 unfolding settled
-settings_enough form true f s lent k h = ap (if_kept form s lent) (outlives.front_enough newest k f h)
-settings_enough form false f s lent k h = refl
+settings_enough form (Some f) s lent k h = ap (if_kept form s lent) (outlives.front_enough newest k f h)
+settings_enough form None s lent k h = refl
 
 kept_enough : (form : Form) (o : Outcome) (s : List ℕ) (lent k : ℕ) → node_input_bytes ≤ k → if_kept form (take k s) lent o ≡ if_kept form s lent o
 unfolding if_kept
 kept_enough form (kept version x) s lent k h = front_is_enough form (meaning_of x) s k lent h
 kept_enough form (refused number place) s lent k h = refl
 
-pub front_enough : (form : Form) (found : Bool) (f s : List ℕ) (lent k : ℕ) → node_input_bytes ≤ k → settled form found f (take k s) lent ≡ settled form found f s lent
+pub front_enough : (form : Form) (f : Option (List ℕ)) (s : List ℕ) (lent k : ℕ) → node_input_bytes ≤ k → settled form f (take k s) lent ≡ settled form f s lent
 unfolding settled
-front_enough form true f s lent k h = kept_enough form (read_by newest f) s lent k h
-front_enough form false f s lent k h = refl
+front_enough form (Some f) s lent k h = kept_enough form (read_by newest f) s lent k h
+front_enough form None s lent k h = refl
 
 -- ---- `settings`
 
@@ -131,14 +133,14 @@ block_enough count first second third fourth s k h = rw (outlives.front_enough n
 
 -- ---- what stands in the buffers up to the ends is the whole of both answers
 
-pub ends_whole : (count : ℕ) (first second third fourth fifth : List ℕ) (found : Bool) (f s : List ℕ) {file left text text' : List ℕ} {end text-end : ℕ}
-    → length file ≡ file_buffer → text_buffer ≤ length text → Shrinks (evening_done count first second third fourth fifth found f s (length file)) file left text text' end text-end
-    → (end ≡ length (file_bytes (evening_done count first second third fourth fifth found f s file_buffer)))
-    × (text-end ≡ length (text_bytes (evening_done count first second third fourth fifth found f s file_buffer)))
-ends_whole count first second third fourth fifth found f s {file} {left} {text} {text'} {end} {text-end} lent roomy h =
-    let d = evening_done count first second third fourth fifth found f s file_buffer in
+pub ends_whole : (count : ℕ) (first second third fourth fifth : List ℕ) (f : Option (List ℕ)) (s : List ℕ) {file left text text' : List ℕ} {end text-end : ℕ}
+    → length file ≡ file_buffer → text_buffer ≤ length text → Shrinks (evening_done count first second third fourth fifth f s (length file)) file left text text' end text-end
+    → (end ≡ length (file_bytes (evening_done count first second third fourth fifth f s file_buffer)))
+    × (text-end ≡ length (text_bytes (evening_done count first second third fourth fifth f s file_buffer)))
+ends_whole count first second third fourth fifth f s {file} {left} {text} {text'} {end} {text-end} lent roomy h =
+    let d = evening_done count first second third fourth fifth f s file_buffer in
     let g : Shrinks d file left text text' end text-end = rw lent at h in
-    let l : length (text_bytes d) ≤ length text = omega (arith, text_fits count first second third fourth fifth found f s file_buffer) in
+    let l : length (text_bytes d) ≤ length text = omega (arith, text_fits count first second third fourth fifth f s file_buffer) in
     let a = done-ends-whole d l g in
     (a.0, a.1)
 

@@ -6,6 +6,7 @@ use mathlib.Core.List.{List, []}
 use mathlib.Core.Logic.{◌⊎◌}
 use native.Mathlib.Nat.{lt_of_lt_of_le}
 use native.Mathlib.Omega.{arith}
+use Rattle.std.specs.Prelude.{Option, Some, None}
 use lib.ListN.{get_or}
 use lib.Pow.{pow_mono}
 use lib.Dec.{ltb, eqb}
@@ -31,7 +32,7 @@ use Rattle.setting_blocks.specs.declared.setting.Setting.{Setting}
 use Rattle.setting_blocks.proofs.Testing.{Storable, stores}
 use Rattle.setting_blocks.proofs.Promised.{outlives}
 use Rattle.evening.specs.Words.{aim_in, meaning_of, bit, kind_of, number_of, setting_of, version_of}
-use Rattle.evening.specs.Evening.{if_kept, settled, is_kept}
+use Rattle.evening.specs.Evening.{if_kept, settled, is_kept, settles}
 use Rattle.evening.specs.Storing.{stored}
 use Rattle.evening.proofs.Asking.{storable, holdable}
 
@@ -108,11 +109,11 @@ module _ (keep as_is : Bool) (aim : Aim) (h : storable aim ≡ true) where
 -- ---- what a setting does that is read
 
 settled_kept : (form : Form) (f : List ℕ) (version : ℕ) (x : Setting) (s : List ℕ) (lent : ℕ) → read_by newest f ≡ kept version x
-    → settled form true f s lent ≡ done form (meaning_of x) s lent
+    → settled form (Some f) s lent ≡ done form (meaning_of x) s lent
 unfolding settled if_kept
 settled_kept form f version x s lent e = ap (if_kept form s lent) e
 
-pub settled_stored : (form : Form) (m : Meaning) (s : List ℕ) (lent : ℕ) → holdable m ≡ true → looks m ≡ true → settled form true (stored m).file s lent ≡ done form m s lent
+pub settled_stored : (form : Form) (m : Meaning) (s : List ℕ) (lent : ℕ) → holdable m ≡ true → looks m ≡ true → settled form (Some (stored m).file) s lent ≡ done form m s lent
 unfolding stored
 settled_stored form help s lent h l = absurd (true≢false (sym l))
 settled_stored form unknown s lent h l = absurd (true≢false (sym l))
@@ -128,20 +129,20 @@ module _ (form : Form) (w f : List ℕ) (version lent n : ℕ) (x : Setting) (sm
   abbrev as_is : Bool
   as_is = eqb x.as_is 1
 
-  settled_cut : (keep : Bool) → eqb x.direction 1 ≡ keep → settled form true f (file_as form w) file_buffer ≡ done form (cut keep as_is (aim_in x)) (file_as form w) file_buffer
+  settled_cut : (keep : Bool) → eqb x.direction 1 ≡ keep → settled form (Some f) (file_as form w) file_buffer ≡ done form (cut keep as_is (aim_in x)) (file_as form w) file_buffer
   unfolding meaning_of
   settled_cut keep d =
       settled_kept form f version x (file_as form w) file_buffer r ∙ ap (λ (k : Bool). done form (cut k as_is (aim_in x)) (file_as form w) file_buffer) d
 
   pub settled_keeps : x.direction ≡ 1
-      → (file_bytes (settled form true f (file_as form w) file_buffer) ≡ []) ⊎ ReadsAs form (Over w) (file_bytes (settled form true f (file_as form w) file_buffer))
+      → (file_bytes (settled form (Some f) (file_as form w) file_buffer) ≡ []) ⊎ ReadsAs form (Over w) (file_bytes (settled form (Some f) (file_as form w) file_buffer))
   settled_keeps d =
       rw (settled_cut true (eq-eqb x.direction 1 d))
       (file_reads form w lent n small e (Over w) true as_is (aim_in x)
       (λ m v g. (keep_over as_is w room_lent max_words (aim_in x) g, answer_accepted as_is w room_lent max_words true (aim_in x) g)))
 
   pub settled_suppresses : x.direction ≡ 0
-      → (file_bytes (settled form true f (file_as form w) file_buffer) ≡ []) ⊎ ReadsAs form (Under w) (file_bytes (settled form true f (file_as form w) file_buffer))
+      → (file_bytes (settled form (Some f) (file_as form w) file_buffer) ≡ []) ⊎ ReadsAs form (Under w) (file_bytes (settled form (Some f) (file_as form w) file_buffer))
   settled_suppresses d =
       rw (settled_cut false (ne_eqb x.direction 1 (omega arith)))
       (file_reads form w lent n small e (Under w) false as_is (aim_in x)
@@ -160,12 +161,12 @@ module _ (form : Form) (lent : ℕ) where
   no_input_of (kept version x) s t h = absurd (true≢false h)
   no_input_of (refused number place) s t h = refl
 
-pub no_file : (form : Form) (found : Bool) (f s : List ℕ) (lent : ℕ) → (found && is_kept (read_by newest f)) ≡ false → file_bytes (settled form found f s lent) ≡ []
+pub no_file : (form : Form) (f : Option (List ℕ)) (s : List ℕ) (lent : ℕ) → settles f ≡ false → file_bytes (settled form f s lent) ≡ []
 unfolding settled
-no_file form true f s lent h = no_file_of form lent (read_by newest f) s h
-no_file form false f s lent h = refl
+no_file form (Some f) s lent h = no_file_of form lent (read_by newest f) s h
+no_file form None s lent h = refl
 
-pub no_input : (form : Form) (found : Bool) (f s t : List ℕ) (lent : ℕ) → (found && is_kept (read_by newest f)) ≡ false → settled form found f s lent ≡ settled form found f t lent
+pub no_input : (form : Form) (f : Option (List ℕ)) (s t : List ℕ) (lent : ℕ) → settles f ≡ false → settled form f s lent ≡ settled form f t lent
 unfolding settled
-no_input form true f s t lent h = no_input_of form lent (read_by newest f) s t h
-no_input form false f s t lent h = refl
+no_input form (Some f) s t lent h = no_input_of form lent (read_by newest f) s t h
+no_input form None s t lent h = refl

@@ -1,5 +1,5 @@
--- `shrink_stored settings FILE`: `f` is the bytes of that file, `found` whether it could be read, `s` the bytes of standard input.
-use Rattle.std.specs.Prelude.{ℕ, Bool, true, false, cond, ◌&&◌, List, ◌++◌, eqb}
+-- `shrink_stored settings FILE`: `f` is the bytes of that file, where it could be read, `s` the bytes of standard input.
+use Rattle.std.specs.Prelude.{Option, Some, None, ℕ, Bool, true, false, cond, ◌&&◌, List, ◌++◌, eqb}
 use Rattle.writing.specs.Writing.{bytes}
 use Rattle.forms.specs.declared.Form.{Form}
 use Rattle.request.specs.Request.{alike, is_nodes, form_of, words_of}
@@ -27,14 +27,15 @@ unfoldable pub if_kept : Form → List ℕ → ℕ → Outcome → Done
 if_kept form s lent (kept version x) = done form (meaning_of x) s lent
 if_kept form s lent (refused number place) = told (blamed_text number place)
 
-unfoldable pub settled : Form → Bool → List ℕ → List ℕ → ℕ → Done
-settled form found f s lent = cond found (if_kept form s lent (read_by newest f)) (told missing_text)
+unfoldable pub settled : Form → Option (List ℕ) → List ℕ → ℕ → Done
+settled form None s lent = told missing_text
+settled form (Some f) s lent = if_kept form s lent (read_by newest f)
 
 -- All words of `shrink_stored`.
-unfoldable pub evening_done : ℕ → List ℕ → List ℕ → List ℕ → List ℕ → List ℕ → Bool → List ℕ → List ℕ → ℕ → Done
-evening_done count first second third fourth fifth found f s lent =
+unfoldable pub evening_done : ℕ → List ℕ → List ℕ → List ℕ → List ℕ → List ℕ → Option (List ℕ) → List ℕ → ℕ → Done
+evening_done count first second third fourth fifth f s lent =
     cond (names_settings count first second)
-    (settled (form_of first) found f s lent)
+    (settled (form_of first) f s lent)
     (done (form_of first) (words_of count first second third fourth fifth) s lent)
 
 -- Whether the input is looked at: for a cut, by words or by a setting that is read.
@@ -42,6 +43,10 @@ abbrev pub is_kept : Outcome → Bool
 is_kept (kept version x) = true
 is_kept (refused number place) = false
 
-unfoldable pub evening_looks : ℕ → List ℕ → List ℕ → List ℕ → List ℕ → List ℕ → Bool → List ℕ → Bool
-evening_looks count first second third fourth fifth found f =
-    cond (names_settings count first second) (found && is_kept (read_by newest f)) (looks (words_of count first second third fourth fifth))
+abbrev pub settles : Option (List ℕ) → Bool
+settles None = false
+settles (Some f) = is_kept (read_by newest f)
+
+unfoldable pub evening_looks : ℕ → List ℕ → List ℕ → List ℕ → List ℕ → List ℕ → Option (List ℕ) → Bool
+evening_looks count first second third fourth fifth f =
+    cond (names_settings count first second) (settles f) (looks (words_of count first second third fourth fifth))

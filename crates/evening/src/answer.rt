@@ -1,16 +1,18 @@
 // All words of `shrink_stored`: a settings file, or the words themselves.
-ghost use Rattle.std.specs.Prelude.{◌≡◌, ◌&&◌, eqb, length};
+ghost use Rattle.std.specs.Prelude.{◌≡◌, ◌&&◌, eqb, length, option_copied};
+ghost use Rattle.diagram.specs.Refusal.{number_of};
 ghost use Rattle.writing.specs.Writing.{Wrote};
 ghost use Rattle.setting_blocks.specs.Settings.{newest, read_by};
 ghost use Rattle.shrinking.specs.Shrinking.{Shrinks};
-ghost use Rattle.evening.specs.Evening.{is_settings, names_settings, blamed_text, missing_text, if_kept, settled, evening_done, is_kept, evening_looks};
+ghost use Rattle.evening.specs.Evening.{is_settings, names_settings, blamed_text, missing_text, if_kept, settled, evening_done, is_kept, settles, evening_looks};
 
 use crate::words::target_of;
+use diagram::verdict::Refused;
 use forms::Form;
 use messages::refusal::write_settings_refusal;
 use request::form::form_of;
 use request::words::same;
-use setting_blocks::read::read_settings;
+use setting_blocks::read::kept_in;
 use shrinking::Ends;
 use shrinking::answer::{answer, wants_input};
 use shrinking::job::shrink;
@@ -35,11 +37,11 @@ pub fn names_settings(count: usize, first: &[u8], second: &[u8]) -> bool
     is_settings(count, 2, first)
 }
 
-fn blame(text: &mut [u8], number: u32, place: usize) -> Ends
-    ensures { (result.file ≡ 0) × Wrote (blamed_text number place) text.old 0 text.new result.text }
+fn blame(text: &mut [u8], refused: Refused) -> Ends
+    ensures { (result.file ≡ 0) × Wrote (blamed_text (number_of refused.reason) refused.place) text.old 0 text.new result.text }
 {
     let named = write(text, 0, b"settings file: ");
-    let end = write_settings_refusal(text, named, number, place);
+    let end = write_settings_refusal(text, named, refused);
     Ends { file: 0, text: end }
 }
 
@@ -54,44 +56,40 @@ fn miss(text: &mut [u8]) -> Ends
 fn obey(form: Form, settings: &[u8], bytes: &[u8], file: &mut [u8], text: &mut [u8]) -> Ends
     ensures { Shrinks (if_kept form bytes.now (length file.old) (read_by newest settings.now)) file.old file.new text.old text.new result.file result.text }
 {
-    let read = read_settings(settings);
-    if read.number != 0 {
-        return blame(text, read.number, read.place);
+    match kept_in(settings) {
+        Ok(kept) => shrink(form, bytes, target_of(kept.setting), file, text),
+        Err(refused) => blame(text, refused),
     }
-    let setting = read.setting;
-    shrink(form, bytes, target_of(setting), file, text)
 }
 
 fn settle(
     form: Form,
-    found: bool,
-    settings: &[u8],
+    settings: Option<&[u8]>,
     bytes: &[u8],
     file: &mut [u8],
     text: &mut [u8],
 ) -> Ends
-    ensures { Shrinks (settled form found settings.now bytes.now (length file.old)) file.old file.new text.old text.new result.file result.text }
+    ensures { Shrinks (settled form (option_copied settings.entry) bytes.now (length file.old)) file.old file.new text.old text.new result.file result.text }
 {
-    if found {
-        return obey(form, settings, bytes, file, text);
+    match settings {
+        Some(stored) => obey(form, stored, bytes, file, text),
+        None => miss(text),
     }
-    miss(text)
 }
 
 fn is_kept(settings: &[u8]) -> bool
     ensures { result ≡ is_kept (read_by newest settings.now) }
 {
-    let read = read_settings(settings);
-    read.number == 0
+    kept_in(settings).is_ok()
 }
 
-fn can_settle(found: bool, settings: &[u8]) -> bool
-    ensures { result ≡ (found && is_kept (read_by newest settings.now)) }
+fn settles(settings: Option<&[u8]>) -> bool
+    ensures { result ≡ settles (option_copied settings.entry) }
 {
-    if found {
-        return is_kept(settings);
+    match settings {
+        Some(stored) => is_kept(stored),
+        None => false,
     }
-    false
 }
 
 // Whether a cut is asked for, by words or by a setting: else the input is not looked at.
@@ -102,18 +100,17 @@ pub fn wants_evening_input(
     third: &[u8],
     fourth: &[u8],
     fifth: &[u8],
-    found: bool,
-    settings: &[u8],
+    settings: Option<&[u8]>,
 ) -> bool
-    ensures { result ≡ evening_looks count first.now second.now third.now fourth.now fifth.now found settings.now }
+    ensures { result ≡ evening_looks count first.now second.now third.now fourth.now fifth.now (option_copied settings.entry) }
 {
     if names_settings(count, first, second) {
-        return can_settle(found, settings);
+        return settles(settings);
     }
     wants_input(count, first, second, third, fourth, fifth)
 }
 
-// `found` and `settings` are of the settings file, where the words name one; `bytes` is the input. The file is for standard output, the
+// `settings` are the bytes of the settings file, where the words name one and it could be read; `bytes` is the input. The file is for standard output, the
 // text for standard error.
 pub fn answer_evening(
     count: usize,
@@ -122,16 +119,15 @@ pub fn answer_evening(
     third: &[u8],
     fourth: &[u8],
     fifth: &[u8],
-    found: bool,
-    settings: &[u8],
+    settings: Option<&[u8]>,
     bytes: &[u8],
     file: &mut [u8],
     text: &mut [u8],
 ) -> Ends
-    ensures { Shrinks (evening_done count first.now second.now third.now fourth.now fifth.now found settings.now bytes.now (length file.old)) file.old file.new text.old text.new result.file result.text }
+    ensures { Shrinks (evening_done count first.now second.now third.now fourth.now fifth.now (option_copied settings.entry) bytes.now (length file.old)) file.old file.new text.old text.new result.file result.text }
 {
     if names_settings(count, first, second) {
-        return settle(form_of(first), found, settings, bytes, file, text);
+        return settle(form_of(first), settings, bytes, file, text);
     }
     answer(
         count, first, second, third, fourth, fifth, bytes, file, text,

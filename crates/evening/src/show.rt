@@ -1,14 +1,14 @@
 // A settings block in the words that ask for the same.
 ghost use Rattle.writing.specs.Writing.{Wrote};
-ghost use Rattle.request.specs.Request.{aim_of};
+ghost use Rattle.request.specs.Request.{aim_at, aim_of};
 ghost use Rattle.setting_blocks.specs.Settings.{newest, read_by};
 ghost use Rattle.evening.specs.Storing.{direction_word, aim_text, flag_word, cut_text, version_text, if_shown, Files};
 
 use crate::words::target_of;
 use messages::refusal::write_settings_refusal;
 use report::lines::write_number;
-use request::Target;
-use setting_blocks::read::read_settings;
+use request::{Amount, Target};
+use setting_blocks::read::kept_in;
 use shrinking::Ends;
 use text::print::write_natural;
 use writing::{put, write};
@@ -23,14 +23,16 @@ fn write_direction(out: &mut [u8], keep: bool) -> usize
 }
 
 // ` size 40`
-fn write_aim(out: &mut [u8], at: usize, target: Target) -> usize
-    ensures { Wrote (aim_text (aim_of target)) out.old at out.new result }
+fn write_aim(out: &mut [u8], at: usize, amount: Amount) -> usize
+    ensures { Wrote (aim_text (aim_at amount)) out.old at out.new result }
 {
-    if target.counted {
-        let named = write(out, at, b" cases ");
-        return write_natural(out, named, target.count);
+    match amount {
+        Amount::Nodes(size) => write_number(out, at, b" size ", size as u64),
+        Amount::Cases(count) => {
+            let named = write(out, at, b" cases ");
+            write_natural(out, named, count)
+        }
     }
-    write_number(out, at, b" size ", target.size as u64)
 }
 
 fn write_flag(out: &mut [u8], at: usize, as_is: bool) -> usize
@@ -47,7 +49,7 @@ pub(crate) fn write_cut(out: &mut [u8], target: Target) -> usize
     ensures { Wrote (cut_text target.keep target.as_is (aim_of target)) out.old 0 out.new result }
 {
     let directed = write_direction(out, target.keep);
-    let aimed = write_aim(out, directed, target);
+    let aimed = write_aim(out, directed, target.amount);
     let flagged = write_flag(out, aimed, target.as_is);
     put(out, flagged, 10)
 }
@@ -63,14 +65,14 @@ fn write_version(out: &mut [u8], version: u32) -> usize
 pub(crate) fn show(settings: &[u8], file: &mut [u8], text: &mut [u8]) -> Ends
     ensures { Files (if_shown (read_by newest settings.now)) file.old file.new text.old text.new result.file result.text }
 {
-    let read = read_settings(settings);
-    if read.number != 0 {
-        let end = write_settings_refusal(text, 0, read.number, read.place);
-        return Ends { file: 0, text: end };
-    }
-    let setting = read.setting;
-    Ends {
-        file: write_cut(file, target_of(setting)),
-        text: write_version(text, read.version),
+    match kept_in(settings) {
+        Ok(kept) => Ends {
+            file: write_cut(file, target_of(kept.setting)),
+            text: write_version(text, kept.version),
+        },
+        Err(refused) => {
+            let end = write_settings_refusal(text, 0, refused);
+            Ends { file: 0, text: end }
+        }
     }
 }

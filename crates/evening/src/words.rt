@@ -2,35 +2,69 @@
 ghost use Rattle.std.specs.Prelude.{◌≡◌, true, cond, ◌<◌};
 ghost use Rattle.naturals.specs.Natural.{value};
 ghost use Rattle.naturals.specs.Spelling.{words_of};
-ghost use Rattle.request.specs.Request.{cut, aim_of};
+ghost use Rattle.request.specs.Request.{cut, aim_at, aim_of};
 ghost use Rattle.setting_blocks.specs.Settings.{fits, target_words};
-ghost use Rattle.evening.specs.Words.{number_of, meaning_of, setting_of, version_of};
+ghost use Rattle.evening.specs.Words.{aim_in, kind_of, number_of, meaning_of, setting_of, version_of};
 
-use naturals::{Natural, from_word};
-use request::Target;
+use naturals::Natural;
+use request::{Amount, Target};
+use setting_blocks::layout::TARGET_WORDS;
 use setting_blocks::setting::Setting;
+
+// One word is enough for a number of nodes.
+fn amount_of(setting: Setting) -> Amount
+    requires { (setting.kind < 2) × (fits setting.kind (value setting.target) ≡ true) }
+    ensures { aim_at result ≡ aim_in setting }
+{
+    let words = setting.target;
+    if setting.kind == 1 {
+        return Amount::Cases(Natural { words });
+    }
+    Amount::Nodes(words[0])
+}
 
 pub(crate) fn target_of(setting: Setting) -> Target
     requires { (setting.kind < 2) × (fits setting.kind (value setting.target) ≡ true) }
     ensures { cut result.keep result.as_is (aim_of result) ≡ meaning_of setting }
 {
-    let words = setting.target;
     Target {
         keep: setting.direction == 1,
         as_is: setting.as_is == 1,
-        counted: setting.kind == 1,
-        size: words[0],
-        count: Natural { words },
+        amount: amount_of(setting),
     }
 }
 
-fn number_of(target: Target) -> Natural
-    ensures { result.words ≡ words_of target_words (number_of (aim_of target)) }
+// A number of nodes as a setting has it.
+fn words_of_nodes(size: u32) -> [u32; TARGET_WORDS]
+    ensures { (result ≡ words_of target_words size) × (fits 0 size ≡ true) }
 {
-    if target.counted {
-        return target.count;
+    let number = Natural::from(size);
+    number.words
+}
+
+// A number of cases.
+fn words_of_cases(count: Natural) -> [u32; TARGET_WORDS]
+    ensures { (result ≡ words_of target_words (value count.words)) × (fits 1 (value count.words) ≡ true) }
+{
+    count.words
+}
+
+fn target_words(amount: Amount) -> [u32; TARGET_WORDS]
+    ensures { (result ≡ words_of target_words (number_of (aim_at amount))) × (fits (kind_of (aim_at amount)) (number_of (aim_at amount)) ≡ true) }
+{
+    match amount {
+        Amount::Nodes(size) => words_of_nodes(size),
+        Amount::Cases(count) => words_of_cases(count),
     }
-    from_word(target.size)
+}
+
+fn kind_of(amount: Amount) -> u32
+    ensures { result ≡ kind_of (aim_at amount) }
+{
+    match amount {
+        Amount::Nodes(_) => 0,
+        Amount::Cases(_) => 1,
+    }
 }
 
 fn bit(b: bool) -> u32
@@ -39,14 +73,14 @@ fn bit(b: bool) -> u32
     if b { 1 } else { 0 }
 }
 
+// It can be stored: its number is in range.
 pub(crate) fn setting_of(target: Target) -> Setting
-    ensures { result ≡ setting_of target.keep target.as_is (aim_of target) }
+    ensures { (result ≡ setting_of target.keep target.as_is (aim_of target)) × (fits (kind_of (aim_of target)) (number_of (aim_of target)) ≡ true) }
 {
-    let number = number_of(target);
-    let words = number.words;
+    let words = target_words(target.amount);
     Setting {
         direction: bit(target.keep),
-        kind: bit(target.counted),
+        kind: kind_of(target.amount),
         as_is: bit(target.as_is),
         target: words,
     }

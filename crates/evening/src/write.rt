@@ -8,7 +8,7 @@ use crate::show::{show, write_cut};
 use crate::words::{setting_of, version_of};
 use blocks::layout::BLOCK;
 use request::words::same;
-use request::{Asked, Target, ask};
+use request::{Request, Target, ask};
 use setting_blocks::write::write_settings;
 use shrinking::Ends;
 use writing::write;
@@ -78,14 +78,11 @@ fn store_words(
 ) -> Ends
     ensures { Files (stored (request_of count first.now second.now third.now fourth.now)) file.old file.new text.old text.new result.file result.text }
 {
-    let request = ask(count, first, second, third, fourth);
-    let asked = request.asked;
-    let target = request.target;
-    match asked {
-        Asked::Help => say_help(text),
-        Asked::Unknown => say_unknown(text),
-        Asked::Which => say_which(text),
-        Asked::Cut => store_cut(target, file, text),
+    match ask(count, first, second, third, fourth) {
+        Request::Help => say_help(text),
+        Request::Unknown => say_unknown(text),
+        Request::Which => say_which(text),
+        Request::Cut(target) => store_cut(target, file, text),
     }
 }
 

@@ -4,14 +4,14 @@
 // both channels are written.
 #![tactic(auto)]
 
-ghost use Rattle.std.specs.Prelude.{◌≤◌, length};
+ghost use Rattle.std.specs.Prelude.{◌≤◌, length, IfSome, option_copied};
 ghost use Rattle.evening_program.specs.Program.{Answered, Ran};
 
 use arguments::{arg, arg_count};
 use blocks::layout::BLOCK;
 use evening::answer::{answer_evening, names_settings, wants_evening_input};
 use messages::summary::SUMMARY;
-use named::{Input, nothing, read_file};
+use named::read_file;
 use node_file::layout::{NODE_FILE, NODE_INPUT};
 use request::WORD;
 use shrinking::Ends;
@@ -63,24 +63,23 @@ fn run(
     third: &[u8],
     fourth: &[u8],
     fifth: &[u8],
-    found: bool,
-    settings: &[u8],
+    settings: Option<&[u8]>,
     bytes: &[u8],
 ) -> Ends
-    ensures { Answered count first.now second.now third.now fourth.now fifth.now «found» settings.now bytes.now result.file result.text }
+    ensures { Answered count first.now second.now third.now fourth.now fifth.now (option_copied settings.entry) bytes.now result.file result.text }
 {
     let mut file = [0u8; NODE_FILE];
     let mut text = [0u8; SUMMARY];
     let ends = answer_evening(
-        count, first, second, third, fourth, fifth, found, settings, bytes, &mut file, &mut text,
+        count, first, second, third, fourth, fifth, settings, bytes, &mut file, &mut text,
     );
     deliver(&file, &text, ends);
     ends
 }
 
 // The last word is the name.
-fn read_named(rt: HostRuntime, last: usize, bytes: &mut [u8]) -> Input
-    ensures { result.length ≤ length bytes.new }
+fn read_named<'a>(rt: HostRuntime, last: usize, bytes: &'a mut [u8]) -> Option<&'a [u8]>
+    ensures { IfSome result (λ read. length read.now ≤ length bytes.old) }
 {
     let mut name = [0u8; NAME];
     let length = arg(&rt, last, &mut name);
@@ -88,19 +87,19 @@ fn read_named(rt: HostRuntime, last: usize, bytes: &mut [u8]) -> Input
 }
 
 // No file is opened where the words name none.
-fn read_settings_file(
+fn read_settings_file<'a>(
     rt: HostRuntime,
     count: usize,
     first: &[u8],
     second: &[u8],
-    bytes: &mut [u8],
-) -> Input
-    ensures { result.length ≤ length bytes.new }
+    bytes: &'a mut [u8],
+) -> Option<&'a [u8]>
+    ensures { IfSome result (λ read. length read.now ≤ length bytes.old) }
 {
     if names_settings(count, first, second) {
         return read_named(rt, count, bytes);
     }
-    nothing()
+    None
 }
 
 // Nothing is read where no cut is asked for.
@@ -129,13 +128,12 @@ fn read_and_run(
     third: &[u8],
     fourth: &[u8],
     fifth: &[u8],
-    found: bool,
-    settings: &[u8],
+    settings: Option<&[u8]>,
 ) -> Ends
     ensures { Ran result.file result.text }
 {
     let mut bytes = blank_input();
-    let wanted = wants_evening_input(count, first, second, third, fourth, fifth, found, settings);
+    let wanted = wants_evening_input(count, first, second, third, fourth, fifth, settings);
     let length = read_input(wanted, &mut bytes);
     run(
         count,
@@ -144,7 +142,6 @@ fn read_and_run(
         third,
         fourth,
         fifth,
-        found,
         settings,
         &bytes[..length],
     )
@@ -162,18 +159,8 @@ fn settle_and_run(
 {
     let mut settings = [0u8; SETTINGS];
     let count = word_count(rt);
-    let read = read_settings_file(rt, count, first, second, &mut settings);
-    let length = read.length;
-    read_and_run(
-        count,
-        first,
-        second,
-        third,
-        fourth,
-        fifth,
-        read.found,
-        &settings[..length],
-    )
+    let stored = read_settings_file(rt, count, first, second, &mut settings);
+    read_and_run(count, first, second, third, fourth, fifth, stored)
 }
 
 // The whole program, for its crate and for the test programs. It answers how many bytes it had for each channel.

@@ -1,5 +1,5 @@
 -- The whole, and what the public functions answer.
-use Prim.Native.Nat.{ℕ, ◌+◌, ◌-◌, ◌*◌, ◌^◌, ◌≤◌}
+use Prim.Native.Nat.{ℕ, ◌+◌, ◌*◌, ◌^◌, ◌≤◌}
 use mathlib.Core.Path.{◌≡◌, refl, sym, ap, ◌∙◌}
 use mathlib.Core.Bool.{Bool}
 use mathlib.Core.List.{List, ◌++◌}
@@ -7,12 +7,13 @@ use native.Mathlib.Omega.{arith}
 use native.Mathlib.Nat.{zero-mul}
 use lib.ListN.{length, drop, take, replicate, length-replicate}
 use Rattle.naturals.specs.Natural.{Holds, word_count}
-use Rattle.naturals.proofs.Answer.{holds_as}
+use Rattle.naturals.proofs.Answer.{holds_as, holds_zero}
 use Rattle.diagram.specs.Limits.{max_nodes}
 use Rattle.diagram.specs.Diagram.{var_of, size, vars, root, Ordered}
-use Rattle.diagram.specs.Verdict.{Outcome, accepted, refused, if_accepted, room_of, verdict_of, Checked}
-use Rattle.diagram.specs.declared.verdict.Verdict.{Verdict}
-use Rattle.diagram.specs.declared.verdict.Verdict.TheVariants.{Accepted as Yes, Refused as No}
+use Rattle.diagram.specs.Verdict.{Verdict, Outcome, accepted, refused, if_accepted, room_of, verdict_of, Checked}
+use Rattle.std.specs.Prelude.{Ok, Err}
+use Rattle.diagram.specs.declared.verdict.Extent.{Extent}
+use Rattle.diagram.specs.declared.verdict.Refused.{Refused}
 use Rattle.diagram.specs.declared.verdict.Output.TheVariants.{Nothing}
 use Rattle.diagram.proofs.Meaning.{verdict_accepted}
 use Rattle.diagram.proofs.Reading.{root_in, accepted_ordered}
@@ -76,26 +77,26 @@ alone_asks {w} {room} {n} en ev o zeros = record { ordered = o; nodes = en; vari
 -- ---- the answer
 
 module _ {w before after : List ℕ} {v : Verdict} (c : Checked w Nothing before after v) where
-  pub count_refused : {k p : ℕ} → v ≡ No k p → (n : ℕ) {count : List ℕ} → Holds 0 count → Counts w n before after v count
-  count_refused e n h = record { checked = c; counted = holds_as (sym (when_refused c e n 0)) h }
+  pub count_refused : {x : Refused} → v ≡ Err x → (n : ℕ) → Counts w n before after (Err x) (replicate word_count 0)
+  count_refused e n = record { checked = rw e at c; counted = holds_as (sym (when_refused c e n 0)) holds_zero }
 
-  module _ {n u : ℕ} (e : v ≡ Yes n u) where
-    pub count_nodes : (n ≡ size w) × (n ≤ max_nodes)
+  module _ {x : Extent} (e : v ≡ Ok x) where
+    pub count_nodes : (x.nodes ≡ size w) × (x.nodes ≤ max_nodes)
     count_nodes = let a = admitted c e in (a.nodes, omega (arith, a.nodes, a.accepted.formed.few))
 
-    used_fits : entry * n ≤ room_of w
+    used_fits : entry * x.nodes ≤ room_of w
     used_fits = omega (arith, (admitted c e).nodes)
 
-    pub count_fits : entry * n ≤ length after
-    count_fits = lent_fits c e (entry * n) used_fits
+    pub count_fits : entry * x.nodes ≤ length after
+    count_fits = lent_fits c e (entry * x.nodes) used_fits
 
-    pub count_asks : (n ≡ size w) × (u ≡ vars w) × Ordered w × (take (entry * n) after ≡ replicate (entry * n) 0)
-    count_asks = ((admitted c e).nodes, (admitted c e).variables, ordered c e, lent_zero c e (entry * n) used_fits)
+    pub count_asks : (x.nodes ≡ size w) × (x.vars ≡ vars w) × Ordered w × (take (entry * x.nodes) after ≡ replicate (entry * x.nodes) 0)
+    count_asks = ((admitted c e).nodes, (admitted c e).variables, ordered c e, lent_zero c e (entry * x.nodes) used_fits)
 
-    pub count_accepted : (t : ℕ) {count part : List ℕ} → Holds t count → part ≡ replicate (length (take (entry * n) after)) 0
-        → Counts w t before (part ++ drop (entry * n) after) (Yes n u) count
+    pub count_accepted : (t : ℕ) {count part : List ℕ} → Holds t count → part ≡ replicate (length (take (entry * x.nodes) after)) 0
+        → Counts w t before (part ++ drop (entry * x.nodes) after) (Ok x) count
     count_accepted t {count} {part} h z = record {
-      checked = checked_as (still_checked c e) (lent_back c e (entry * n) used_fits part z);
+      checked = checked_as (still_checked c e) (lent_back c e (entry * x.nodes) used_fits part z);
       counted = holds_as (sym (when_accepted c e t 0)) h;
     }
 

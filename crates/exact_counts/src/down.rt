@@ -10,7 +10,7 @@ use counts::links::note_sum;
 use counts::table::note;
 use diagram::node::{BddPointer, BddVariable};
 use levels::{head_of, link, next_of};
-use naturals::{from_word, zero};
+use naturals::{Natural, zero};
 
 // One node, whose children's worths are noted.
 fn join(words: &[u32], room: &mut [u32], nodes: usize, node: BddPointer, valuations: bool)
@@ -45,7 +45,7 @@ fn terminals(words: &[u32], heads: &[u32], room: &mut [u32], nodes: usize, valua
     ensures { Worths valuations words.now room.new (varsOf words.now) 0 }
 {
     note(room, nodes, BddPointer(0), zero());
-    note(room, nodes, BddPointer(1), from_word(1));
+    note(room, nodes, BddPointer(1), Natural::from(1));
 }
 
 // The worths of all nodes, by chains that are made already.
@@ -61,10 +61,8 @@ fn count_down(
     ensures { Worths valuations words.now room.new 0 0 }
 {
     terminals(words, heads, room, nodes, valuations);
-    let mut c = vars;
-    while 0 < c {
-        level(words, heads, room, nodes, c - 1, valuations);
-        c -= 1;
+    for c in (0..vars).rev() {
+        level(words, heads, room, nodes, c, valuations);
     }
 }
 

@@ -9,15 +9,15 @@ ghost use Rattle.naturals.specs.Natural.{Holds};
 ghost use Rattle.diagram.specs.Diagram.{size, vars as varsOf, Ordered};
 ghost use Rattle.diagram.specs.Valuations.{count_of};
 ghost use Rattle.counts.specs.Paths.{path_count_of};
-ghost use Rattle.counts.specs.Counted.{Counts};
+ghost use Rattle.diagram.specs.Verdict.{verdict_in};
+ghost use Rattle.counts.specs.Counted.{Counts, words_in};
 ghost use Rattle.counts.specs.Worth.{entry as entry_of, total_of};
 
-use counts::Counted;
 use diagram::room::clear;
-use diagram::verdict::{Output, Verdict};
+use diagram::verdict::{Finding, Output, Refused};
 use diagram_check::validate::admit;
 use levels::CHAINS;
-use naturals::{Natural, zero};
+use naturals::Natural;
 use total::total;
 
 // Words of working room that are used for each node: a link and a worth.
@@ -35,31 +35,34 @@ fn count_all(words: &[u32], room: &mut [u32], nodes: usize, vars: u32, valuation
     count
 }
 
-fn count_by(words: &[u32], room: &mut [u32], valuations: bool) -> Counted
-    ensures { Counts words.now (total_of valuations words.now) room.old room.new result.verdict result.count.words }
+fn count_by(words: &[u32], room: &mut [u32], valuations: bool) -> Result<Finding<Natural>, Refused>
+    ensures { Counts words.now (total_of valuations words.now) room.old room.new (verdict_in result) (words_in result) }
 {
-    let verdict = admit(words, room, Output::Nothing);
-    let Verdict::Accepted { nodes, vars } = verdict else {
-        return Counted {
-            verdict,
-            count: zero(),
-        };
-    };
-    let used = ENTRY * nodes;
-    let count = count_all(words, &mut room[..used], nodes, vars, valuations);
-    Counted { verdict, count }
+    let extent = admit(words, room, Output::Nothing)?;
+    let used = ENTRY * extent.nodes;
+    let value = count_all(
+        words,
+        &mut room[..used],
+        extent.nodes,
+        extent.vars,
+        valuations,
+    );
+    Ok(Finding { extent, value })
 }
 
 // How many valuations the diagram holds for, skipped variables included.
-pub fn exact_cardinality(words: &[u32], room: &mut [u32]) -> Counted
-    ensures { Counts words.now (count_of words.now) room.old room.new result.verdict result.count.words }
+pub fn exact_cardinality(words: &[u32], room: &mut [u32]) -> Result<Finding<Natural>, Refused>
+    ensures { Counts words.now (count_of words.now) room.old room.new (verdict_in result) (words_in result) }
 {
     count_by(words, room, true)
 }
 
 // How many paths lead from the root to node 1, in the array as it stands.
-pub fn exact_clause_cardinality(words: &[u32], room: &mut [u32]) -> Counted
-    ensures { Counts words.now (path_count_of words.now) room.old room.new result.verdict result.count.words }
+pub fn exact_clause_cardinality(
+    words: &[u32],
+    room: &mut [u32],
+) -> Result<Finding<Natural>, Refused>
+    ensures { Counts words.now (path_count_of words.now) room.old room.new (verdict_in result) (words_in result) }
 {
     count_by(words, room, false)
 }

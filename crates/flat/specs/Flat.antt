@@ -1,10 +1,8 @@
 -- The answers as C and Rust see them: each operation's own promise, and its verdict as document 01's number and values.
 use Rattle.std.specs.Prelude.{ℕ, ◌≡◌, Bool, cond, not, List, eqb, Float}
-use Rattle.diagram.specs.Verdict.{Outcome, accepted, refused, said}
-use Rattle.diagram.specs.declared.verdict.Verdict.{Verdict}
-use Rattle.blocks.specs.Block.{Outcome as Filed, nodes as filed, refused as unfiled, said as said_of}
-use Rattle.blocks.specs.declared.stored.Stored.{Stored}
-use Rattle.comparison.specs.declared.compare.Compared.{Compared}
+use Rattle.diagram.specs.Verdict.{Verdict, Outcome, accepted, refused, said}
+use Rattle.blocks.specs.Block.{Stored, Outcome as Filed, nodes as filed, refused as unfiled, said as said_of}
+use Rattle.comparison.specs.Comparison.{Compared, verdict_told, which_told, differ_told, first_told, second_told, both_told, smallest_told}
 use Rattle.flat.specs.declared.HouayletanCount.{HouayletanCount}
 use Rattle.flat.specs.declared.HouayletanFloat.{HouayletanFloat}
 use Rattle.flat.specs.declared.HouayletanDiagram.{HouayletanDiagram}
@@ -63,13 +61,13 @@ bit b = cond b 1 0
 
 -- What two diagrams are beside each other, field by field.
 pub record Laid (c : Compared) (r : HouayletanComparison) : Type 0 where
-  pub verdict : r.verdict ≡ flat_of (said c.verdict)
-  pub which : r.which ≡ c.which
-  pub differ : r.differ ≡ bit c.differ
-  pub first : r.first ≡ c.first.words
-  pub second : r.second ≡ c.second.words
-  pub both : r.both ≡ c.both.words
-  pub smallest : r.smallest ≡ c.smallest.words
+  pub verdict : r.verdict ≡ flat_of (said (verdict_told c))
+  pub which : r.which ≡ which_told c
+  pub differ : r.differ ≡ bit (differ_told c)
+  pub first : r.first ≡ first_told c
+  pub second : r.second ≡ second_told c
+  pub both : r.both ≡ both_told c
+  pub smallest : r.smallest ≡ smallest_told c
 
 -- What the comparison promises of its answer, which is then laid flat.
 pub record FlatCompared (promise : Compared → Type 0) (r : HouayletanComparison) : Type 0 where

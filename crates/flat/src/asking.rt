@@ -1,34 +1,42 @@
 // The answers of small queries.
-ghost use Rattle.std.specs.Prelude.{◌≡◌};
-ghost use Rattle.diagram.specs.Verdict.{said};
+ghost use Rattle.std.specs.Prelude.{◌≡◌, false};
+ghost use Rattle.diagram.specs.Verdict.{said, value_in, verdict_in};
 ghost use Rattle.flat.specs.Flat.{flat_of, bit};
 
-use crate::{HouayletanAmount, flat};
-use queries::{Amount, Answer};
+use crate::{HouayletanAmount, HouayletanVerdict};
+use diagram::verdict::{Finding, Refused};
 
-pub fn flat_amount(amount: Amount) -> HouayletanAmount
-    ensures { (result.verdict ≡ flat_of (said amount.verdict)) × (result.amount ≡ amount.amount) }
-{
-    let verdict = amount.verdict;
-    HouayletanAmount {
-        verdict: flat(verdict),
-        amount: amount.amount,
+impl From<Result<Finding<usize>, Refused>> for HouayletanAmount {
+    ghost from_gives = { λ told flat. (flat.verdict ≡ flat_of (said (verdict_in told))) × (flat.amount ≡ value_in 0 told) };
+
+    fn from(told: Result<Finding<usize>, Refused>) -> HouayletanAmount {
+        match told {
+            Ok(found) => HouayletanAmount {
+                verdict: HouayletanVerdict::from(Ok(found.extent)),
+                amount: found.value,
+            },
+            Err(refused) => HouayletanAmount {
+                verdict: HouayletanVerdict::from(Err(refused)),
+                amount: 0,
+            },
+        }
     }
 }
 
 // A yes is 1 and a no is 0.
-fn flag(yes: bool) -> usize
-    ensures { result ≡ bit yes }
-{
-    if yes { 1 } else { 0 }
-}
+impl From<Result<Finding<bool>, Refused>> for HouayletanAmount {
+    ghost from_gives = { λ told flat. (flat.verdict ≡ flat_of (said (verdict_in told))) × (flat.amount ≡ bit (value_in false told)) };
 
-pub fn flat_answer(answer: Answer) -> HouayletanAmount
-    ensures { (result.verdict ≡ flat_of (said answer.verdict)) × (result.amount ≡ bit answer.yes) }
-{
-    let verdict = answer.verdict;
-    HouayletanAmount {
-        verdict: flat(verdict),
-        amount: flag(answer.yes),
+    fn from(told: Result<Finding<bool>, Refused>) -> HouayletanAmount {
+        match told {
+            Ok(found) => HouayletanAmount {
+                verdict: HouayletanVerdict::from(Ok(found.extent)),
+                amount: usize::from(found.value),
+            },
+            Err(refused) => HouayletanAmount {
+                verdict: HouayletanVerdict::from(Err(refused)),
+                amount: 0,
+            },
+        }
     }
 }

@@ -8,13 +8,13 @@ pub mod cutting;
 pub mod storing;
 
 ghost use Rattle.std.specs.Prelude.{◌≡◌};
-ghost use Rattle.diagram.specs.Verdict.{said};
+ghost use Rattle.diagram.specs.Verdict.{said, value_in, verdict_in};
+ghost use Rattle.counts.specs.Counted.{words_in};
+ghost use Rattle.cardinality.specs.Cardinality.{nought};
 ghost use Rattle.flat.specs.Flat.{flat_of};
 
-use cardinality::CountedFloat;
-use counts::Counted;
-use diagram::verdict::Verdict;
-use reduction::reduce::Reduced;
+use diagram::verdict::{Finding, Refused, Verdict};
+use naturals::Natural;
 
 // A verdict without an enum: number 0 where it is accepted, and all else zero where it is refused.
 #[repr(C)]
@@ -97,52 +97,60 @@ pub struct HouayletanNatural {
     pub words: [u32; naturals::WORDS],
 }
 
-pub fn flat(verdict: Verdict) -> HouayletanVerdict
-    ensures { result ≡ flat_of (said verdict) }
-{
-    match verdict {
-        Verdict::Accepted { nodes, vars } => HouayletanVerdict {
-            number: 0,
-            place: 0,
-            nodes,
-            vars,
-        },
-        Verdict::Refused { number, place } => HouayletanVerdict {
-            number,
-            place,
-            nodes: 0,
-            vars: 0,
-        },
+impl From<Verdict> for HouayletanVerdict {
+    ghost from_gives = { λ verdict flat. flat ≡ flat_of (said verdict) };
+
+    fn from(verdict: Verdict) -> HouayletanVerdict {
+        match verdict {
+            Ok(extent) => HouayletanVerdict {
+                number: 0,
+                place: 0,
+                nodes: extent.nodes,
+                vars: extent.vars,
+            },
+            Err(refused) => HouayletanVerdict {
+                number: refused.reason.number(),
+                place: refused.place,
+                nodes: 0,
+                vars: 0,
+            },
+        }
     }
 }
 
-pub fn flat_count(counted: Counted) -> HouayletanCount
-    ensures { (result.verdict ≡ flat_of (said counted.verdict)) × (result.count ≡ counted.count.words) }
-{
-    let verdict = counted.verdict;
-    let count = counted.count.words;
-    HouayletanCount {
-        verdict: flat(verdict),
-        count,
+impl From<Result<Finding<Natural>, Refused>> for HouayletanCount {
+    ghost from_gives = { λ counted flat. (flat.verdict ≡ flat_of (said (verdict_in counted))) × (flat.count ≡ words_in counted) };
+
+    fn from(counted: Result<Finding<Natural>, Refused>) -> HouayletanCount {
+        match counted {
+            Ok(found) => {
+                let count = found.value.words;
+                HouayletanCount {
+                    verdict: HouayletanVerdict::from(Ok(found.extent)),
+                    count,
+                }
+            }
+            Err(refused) => HouayletanCount {
+                verdict: HouayletanVerdict::from(Err(refused)),
+                count: [0; naturals::WORDS],
+            },
+        }
     }
 }
 
-pub fn flat_float(counted: CountedFloat) -> HouayletanFloat
-    ensures { (result.verdict ≡ flat_of (said counted.verdict)) × (result.count ≡ counted.count) }
-{
-    let verdict = counted.verdict;
-    HouayletanFloat {
-        verdict: flat(verdict),
-        count: counted.count,
-    }
-}
+impl From<Result<Finding<f64>, Refused>> for HouayletanFloat {
+    ghost from_gives = { λ counted flat. (flat.verdict ≡ flat_of (said (verdict_in counted))) × (flat.count ≡ value_in nought counted) };
 
-pub fn flat_diagram(reduced: Reduced) -> HouayletanDiagram
-    ensures { (result.verdict ≡ flat_of (said reduced.verdict)) × (result.nodes ≡ reduced.nodes) }
-{
-    let verdict = reduced.verdict;
-    HouayletanDiagram {
-        verdict: flat(verdict),
-        nodes: reduced.nodes,
+    fn from(counted: Result<Finding<f64>, Refused>) -> HouayletanFloat {
+        match counted {
+            Ok(found) => HouayletanFloat {
+                verdict: HouayletanVerdict::from(Ok(found.extent)),
+                count: found.value,
+            },
+            Err(refused) => HouayletanFloat {
+                verdict: HouayletanVerdict::from(Err(refused)),
+                count: 0.0,
+            },
+        }
     }
 }

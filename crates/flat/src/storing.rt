@@ -6,19 +6,21 @@ ghost use Rattle.flat.specs.Flat.{flat_stored};
 use crate::HouayletanStored;
 use blocks::stored::Stored;
 
-pub fn flat_stored(stored: Stored) -> HouayletanStored
-    ensures { result ≡ flat_stored (said stored) }
-{
-    match stored {
-        Stored::Nodes(nodes) => HouayletanStored {
-            number: 0,
-            place: 0,
-            nodes,
-        },
-        Stored::Refused { number, place } => HouayletanStored {
-            number,
-            place,
-            nodes: 0,
-        },
+impl From<Stored> for HouayletanStored {
+    ghost from_gives = { λ stored flat. flat ≡ flat_stored (said stored) };
+
+    fn from(stored: Stored) -> HouayletanStored {
+        match stored {
+            Ok(nodes) => HouayletanStored {
+                number: 0,
+                place: 0,
+                nodes,
+            },
+            Err(refused) => HouayletanStored {
+                number: refused.reason.number(),
+                place: refused.place,
+                nodes: 0,
+            },
+        }
     }
 }

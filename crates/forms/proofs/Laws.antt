@@ -1,17 +1,16 @@
 -- What a file that is written or read has passed, whichever its form; and the records of the two forms as one.
-use Prim.Native.Nat.{ℕ, ◌+◌, ◌*◌, ◌≤◌, ◌<◌}
-use mathlib.Core.Path.{◌≡◌, refl, sym, ap, ◌∙◌}
-use mathlib.Core.List.{List, ◌++◌}
+use Prim.Native.Nat.{ℕ, ◌*◌, ◌≤◌, ◌<◌}
+use mathlib.Core.Path.{◌≡◌, refl, ap, ◌∙◌}
+use mathlib.Core.List.{List}
 use native.Mathlib.Omega.{arith}
-use lib.ListN.{length, drop}
+use lib.ListN.{length}
 use Rattle.diagram.specs.Limits.{max_nodes}
 use Rattle.diagram.specs.Diagram.{size}
-use Rattle.blocks.specs.Block.{Outcome, nodes, refused, said}
-use Rattle.blocks.specs.declared.stored.Stored.{Stored}
+use Rattle.blocks.specs.Block.{Stored, Outcome, nodes, refused}
 use Rattle.block_file.specs.File.{reading, read_file, ReadsFile, WritesFile, written as writtenBlocks}
 use Rattle.block_file.proofs.Steps.{read_few}
 use Rattle.block_file.proofs.Storing.{file_length, is_written}
-use Rattle.node_file.specs.NodeFile.{node_file_bytes, read_nodes, ReadsNodes, WritesNodes, written as writtenNodes}
+use Rattle.node_file.specs.NodeFile.{node_file_bytes, ReadsNodes, WritesNodes, written as writtenNodes}
 use Rattle.node_file.proofs.Answering.{is_readable, is_writable, bytes_length}
 use Rattle.node_file.proofs.Promised.{outcome_of}
 use Rattle.forms.specs.Form.{read_as, write_as, file_as, bytes_as, left_as, FormReads, FormWrites}

@@ -1,21 +1,18 @@
 -- What is promised of a file in either form.
-use Prim.Native.Nat.{ℕ, ◌+◌, ◌*◌, ◌≤◌, ◌<◌, ◌^◌}
+use Prim.Native.Nat.{ℕ, ◌*◌, ◌≤◌, ◌<◌, ◌^◌}
 use mathlib.Core.Path.{◌≡◌, refl}
 use mathlib.Core.Bool.{Bool, true, false}
 use mathlib.Core.List.{List, ◌++◌}
 use mathlib.Core.Logic.{◌≢◌}
 use native.Mathlib.Omega.{arith}
 use lib.ListN.{length, get_or, take, drop}
-use lib.Dec.{ltb}
 use borrow.Author.Tests.{ltb-true, ltb-false}
 use Rattle.diagram.specs.Limits.{max_nodes}
 use Rattle.diagram.specs.Diagram.{size}
 use Rattle.blocks.specs.Block.{Outcome, Bytes, nodes, refused, row, block_bytes, max_stored, place_bytes}
 use Rattle.block_file.specs.File.{reading, block_count, write_outcome}
-use Rattle.block_file.specs.Files.{Files}
 use Rattle.block_file.proofs.Promised.{files}
 use Rattle.node_file.specs.NodeFile.{node_file_bytes, node_input_bytes, write_outcome as writeNodes}
-use Rattle.node_file.specs.NodeFiles.{NodeFiles}
 use Rattle.node_file.proofs.Promised.{node_files}
 use Rattle.forms.specs.Form.{read_as, write_as, file_as, short_as}
 use Rattle.forms.specs.Forms.{Forms}

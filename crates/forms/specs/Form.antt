@@ -1,8 +1,7 @@
 -- A file in one of two forms: blocks (crates/block_file) or nodes (crates/node_file). The form is part of what is asked; no byte of
 -- the file decides it. `w` is the words of nodes, three each, `s` the bytes of a file.
 use Rattle.std.specs.Prelude.{ℕ, ◌*◌, ◌≡◌, List, ◌++◌, length, drop}
-use Rattle.blocks.specs.Block.{block_bytes, place_bytes, nodes_bytes, Outcome, nodes, refused, said}
-use Rattle.blocks.specs.declared.stored.Stored.{Stored}
+use Rattle.blocks.specs.Block.{Stored, block_bytes, place_bytes, nodes_bytes, Outcome, nodes, refused, said}
 use Rattle.block_file.specs.File.{block_count, file_of, Reading, reading, read_file, write_outcome}
 use Rattle.node_file.specs.NodeFile.{read_nodes, write_outcome as writeNodes}
 use Rattle.forms.specs.declared.Form.{Form}

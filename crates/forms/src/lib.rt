@@ -46,7 +46,7 @@ pub fn file_bytes(form: Form, nodes: usize) -> usize
     ensures { result ≡ bytes_as form nodes }
 {
     match form {
-        Form::Blocks => BLOCK * ((nodes + (NODES - 1)) / NODES),
+        Form::Blocks => BLOCK * nodes.div_ceil(NODES),
         Form::Nodes => PLACE * nodes,
     }
 }

@@ -5,11 +5,9 @@ use mathlib.Core.Bool.{Bool, false}
 use mathlib.Core.List.{List}
 use lib.ListN.{length}
 use lib.Ieee.{Float}
-use Rattle.diagram.specs.Verdict.{Outcome, accepted, refused, said, verdict_of, if_accepted}
-use Rattle.diagram.specs.declared.verdict.Verdict.{Verdict}
+use Rattle.diagram.specs.Verdict.{Verdict, Outcome, accepted, refused, said, verdict_of, if_accepted}
 use Rattle.diagram.specs.declared.verdict.Output.TheVariants.{Nothing}
-use Rattle.blocks.specs.Block.{said as said_of}
-use Rattle.blocks.specs.declared.stored.Stored.{Stored}
+use Rattle.blocks.specs.Block.{Stored, said as said_of}
 use Rattle.queries.specs.Queries.{Tells}
 use Rattle.flat.specs.Flat.{flat_of, flat_stored, bit, Flat, FlatCount, FlatFloat, FlatAmount, FlatDiagram, FlatTarget, FlatStored}
 use Rattle.flat.specs.declared.HouayletanVerdict.{HouayletanVerdict}

@@ -11,8 +11,7 @@ use mathlib.Core.List.{List, ◌++◌}
 use lib.ListN.{length, take, drop, replicate, length-replicate}
 use lib.Seq.{length-take-le, take_at}
 use Rattle.diagram.specs.Limits.{max_variables}
-use Rattle.diagram.specs.Verdict.{Outcome, accepted, refused, said}
-use Rattle.diagram.specs.declared.verdict.Verdict.{Verdict}
+use Rattle.diagram.specs.Verdict.{Verdict, Outcome, accepted, refused, said}
 use Rattle.summary.specs.Summary.{record_words}
 use Rattle.summary.specs.Kept.{AddsBeside, DropsBeside, Summarizes}
 use Rattle.summary.proofs.Fronts.{variables_of, few_by_add, few_by_drop, few_by_sum, add_whole, drop_whole, sum_whole}

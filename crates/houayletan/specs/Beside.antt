@@ -1,7 +1,6 @@
 -- A call on a pool with the first records of a row in words: for the code inside, no promise to a caller names this file.
 use Rattle.std.specs.Prelude.{ℕ, ◌*◌, ◌≡◌, List, take}
-use Rattle.diagram.specs.Verdict.{said}
-use Rattle.diagram.specs.declared.verdict.Verdict.{Verdict}
+use Rattle.diagram.specs.Verdict.{Verdict, said}
 use Rattle.summary.specs.Summary.{record_words}
 use Rattle.houayletan.specs.declared.pooling.Told.{Told}
 use Rattle.flat.specs.Flat.{flat_of, Flat}

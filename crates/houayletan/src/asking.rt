@@ -5,8 +5,7 @@ ghost use Rattle.negation.specs.Negation.{Negates};
 ghost use Rattle.queries.specs.Queries.{is_clause, is_valuation, Tells, Lists};
 ghost use Rattle.flat.specs.Flat.{bit, Flat, FlatAmount, FlatDiagram};
 
-use flat::asking::{flat_amount, flat_answer};
-use flat::{HouayletanAmount, HouayletanDiagram, HouayletanVerdict, flat};
+use flat::{HouayletanAmount, HouayletanDiagram, HouayletanVerdict};
 use negation::not;
 use queries::per_variable::size_per_variable;
 use queries::{is_clause, is_false, is_true, is_valuation, num_vars, size};
@@ -15,42 +14,42 @@ use queries::{is_clause, is_false, is_true, is_valuation, num_vars, size};
 pub fn houayletan_size_3(words: &[u32], room: &mut [u32]) -> HouayletanAmount
     ensures { FlatAmount (Tells words.now (size_of words.now) 0 room.old room.new) result }
 {
-    flat_amount(size(words, room))
+    HouayletanAmount::from(size(words, room))
 }
 
 // How many variables there are.
 pub fn houayletan_num_vars_3(words: &[u32], room: &mut [u32]) -> HouayletanAmount
     ensures { FlatAmount (Tells words.now (varsOf words.now) 0 room.old room.new) result }
 {
-    flat_amount(num_vars(words, room))
+    HouayletanAmount::from(num_vars(words, room))
 }
 
 // Whether the array is the constant true.
 pub fn houayletan_is_true_3(words: &[u32], room: &mut [u32]) -> HouayletanAmount
     ensures { FlatAmount (Tells words.now (bit (eqb (size_of words.now) 2)) 0 room.old room.new) result }
 {
-    flat_answer(is_true(words, room))
+    HouayletanAmount::from(is_true(words, room))
 }
 
 // Whether the array is the constant false.
 pub fn houayletan_is_false_3(words: &[u32], room: &mut [u32]) -> HouayletanAmount
     ensures { FlatAmount (Tells words.now (bit (eqb (size_of words.now) 1)) 0 room.old room.new) result }
 {
-    flat_answer(is_false(words, room))
+    HouayletanAmount::from(is_false(words, room))
 }
 
 // Whether the array is a single path to node 1.
 pub fn houayletan_is_clause_3(words: &[u32], room: &mut [u32]) -> HouayletanAmount
     ensures { FlatAmount (Tells words.now (bit (is_clause words.now)) 0 room.old room.new) result }
 {
-    flat_answer(is_clause(words, room))
+    HouayletanAmount::from(is_clause(words, room))
 }
 
 // Whether it is a single path that tests every variable.
 pub fn houayletan_is_valuation_3(words: &[u32], room: &mut [u32]) -> HouayletanAmount
     ensures { FlatAmount (Tells words.now (bit (is_valuation words.now)) 0 room.old room.new) result }
 {
-    flat_answer(is_valuation(words, room))
+    HouayletanAmount::from(is_valuation(words, room))
 }
 
 // For each variable how many nodes test it, in the first words of the output.
@@ -61,17 +60,12 @@ pub fn houayletan_size_per_variable_3(
 ) -> HouayletanVerdict
     ensures { Flat (Lists words.now room.old room.new output.old output.new) result }
 {
-    flat(size_per_variable(words, room, output))
+    HouayletanVerdict::from(size_per_variable(words, room, output))
 }
 
 // The diagram that holds exactly where this one doesn't.
 pub fn houayletan_not_3(words: &[u32], room: &mut [u32], output: &mut [u32]) -> HouayletanDiagram
     ensures { FlatDiagram (Negates words.now room.old room.new output.old output.new) result }
 {
-    let made = not(words, room, output);
-    let verdict = made.verdict;
-    HouayletanDiagram {
-        verdict: flat(verdict),
-        nodes: made.nodes,
-    }
+    HouayletanDiagram::from(not(words, room, output))
 }

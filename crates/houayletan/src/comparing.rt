@@ -4,7 +4,6 @@ ghost use Rattle.flat.specs.Flat.{FlatCompared};
 
 use comparison::compare::compare;
 use flat::HouayletanComparison;
-use flat::comparing::flat_compared;
 
 // In how many valuations one holds and not the other, in how many both, and the smallest in which they differ.
 pub fn houayletan_compare_3(
@@ -15,5 +14,5 @@ pub fn houayletan_compare_3(
 ) -> HouayletanComparison
     ensures { FlatCompared (Compare first.now second.now room.old room.new table.old table.new) result }
 {
-    flat_compared(compare(first, second, room, table))
+    HouayletanComparison::from(compare(first, second, room, table))
 }

@@ -5,7 +5,7 @@ ghost use Rattle.targets.specs.Targets.{UnderToSize, OverToSize, UnderToCount, O
 ghost use Rattle.flat.specs.Flat.{flagged, FlatDiagram, FlatTarget};
 
 use count_targets::count::{overapproximate_to_cardinality, underapproximate_to_cardinality};
-use flat::cutting::{flag, flat_cut, flat_target};
+use flat::cutting::flag;
 use flat::{HouayletanApproximation, HouayletanDiagram, HouayletanNatural};
 use list_cuts::{overapproximate, underapproximate};
 use naturals::Natural;
@@ -20,7 +20,7 @@ pub fn houayletan_underapproximate_3(
 ) -> HouayletanDiagram
     ensures { FlatDiagram (Approximates words.now list.now 0 room.old room.new output.old output.new) result }
 {
-    flat_cut(underapproximate(words, list, room, output))
+    HouayletanDiagram::from(underapproximate(words, list, room, output))
 }
 
 // Valuations whose path meets a listed node now hold; all others are as they were.
@@ -32,7 +32,7 @@ pub fn houayletan_overapproximate_3(
 ) -> HouayletanDiagram
     ensures { FlatDiagram (Approximates words.now list.now 1 room.old room.new output.old output.new) result }
 {
-    flat_cut(overapproximate(words, list, room, output))
+    HouayletanDiagram::from(overapproximate(words, list, room, output))
 }
 
 // At most so many nodes; holds only where the diagram does.
@@ -45,7 +45,8 @@ pub fn houayletan_underapproximate_to_size_3(
 ) -> HouayletanApproximation
     ensures { FlatTarget (UnderToSize (flagged as_is) words.now target room.old room.new output.old output.new) result }
 {
-    flat_target(underapproximate_to_size(words, target, flag(as_is), room, output))
+    let cut = underapproximate_to_size(words, target, flag(as_is), room, output);
+    HouayletanApproximation::from(cut)
 }
 
 // At most so many nodes; holds wherever the diagram does.
@@ -58,7 +59,7 @@ pub fn houayletan_overapproximate_to_size_3(
 ) -> HouayletanApproximation
     ensures { FlatTarget (OverToSize (flagged as_is) words.now target room.old room.new output.old output.new) result }
 {
-    flat_target(overapproximate_to_size(words, target, flag(as_is), room, output))
+    HouayletanApproximation::from(overapproximate_to_size(words, target, flag(as_is), room, output))
 }
 
 // At most so many valuations; holds only where the diagram does.
@@ -72,7 +73,7 @@ pub fn houayletan_underapproximate_to_cardinality_3(
     ensures { FlatTarget (UnderToCount (flagged as_is) words.now (value target.words) room.old room.new output.old output.new) result }
 {
     let words_of = target.words;
-    flat_target(underapproximate_to_cardinality(
+    HouayletanApproximation::from(underapproximate_to_cardinality(
         words,
         Natural { words: words_of },
         flag(as_is),
@@ -92,7 +93,7 @@ pub fn houayletan_overapproximate_to_cardinality_3(
     ensures { FlatTarget (OverToCount (flagged as_is) words.now (value target.words) room.old room.new output.old output.new) result }
 {
     let words_of = target.words;
-    flat_target(overapproximate_to_cardinality(
+    HouayletanApproximation::from(overapproximate_to_cardinality(
         words,
         Natural { words: words_of },
         flag(as_is),

@@ -25,10 +25,7 @@ use cardinality::cardinality;
 use diagram::room::clear;
 use diagram_check::validate::validate;
 use exact_counts::{exact_cardinality, exact_clause_cardinality};
-use flat::{
-    HouayletanCount, HouayletanDiagram, HouayletanFloat, HouayletanVerdict, flat, flat_count,
-    flat_diagram, flat_float,
-};
+use flat::{HouayletanCount, HouayletanDiagram, HouayletanFloat, HouayletanVerdict};
 use node_weights::{count_and_weights, node_valuation_weights};
 use reduction::reduce::reduce;
 
@@ -36,28 +33,28 @@ use reduction::reduce::reduce;
 pub fn houayletan_validate_3(words: &[u32], room: &mut [u32]) -> HouayletanVerdict
     ensures { Flat (Checked words.now Output.Nothing room.old room.new) result }
 {
-    flat(validate(words, room))
+    HouayletanVerdict::from(validate(words, room))
 }
 
 // How many valuations the diagram holds for.
 pub fn houayletan_exact_cardinality_3(words: &[u32], room: &mut [u32]) -> HouayletanCount
     ensures { FlatCount (Counts words.now (count_of words.now) room.old room.new) result }
 {
-    flat_count(exact_cardinality(words, room))
+    HouayletanCount::from(exact_cardinality(words, room))
 }
 
 // How many paths lead from the root to node 1.
 pub fn houayletan_exact_clause_cardinality_3(words: &[u32], room: &mut [u32]) -> HouayletanCount
     ensures { FlatCount (Counts words.now (path_count_of words.now) room.old room.new) result }
 {
-    flat_count(exact_clause_cardinality(words, room))
+    HouayletanCount::from(exact_clause_cardinality(words, room))
 }
 
 // How many valuations the diagram holds for, as an f64: exact up to 2^53.
 pub fn houayletan_cardinality_3(words: &[u32], room: &mut [u32]) -> HouayletanFloat
     ensures { FlatFloat (CountsFloat words.now room.old room.new) result }
 {
-    flat_float(cardinality(words, room))
+    HouayletanFloat::from(cardinality(words, room))
 }
 
 // How many valuations the diagram holds for, and in the output the weights of its nodes.
@@ -68,7 +65,7 @@ pub fn houayletan_count_and_weights_3(
 ) -> HouayletanCount
     ensures { FlatCount (CountsAndWeighs words.now room.old room.new output.old output.new) result }
 {
-    flat_count(count_and_weights(words, room, output))
+    HouayletanCount::from(count_and_weights(words, room, output))
 }
 
 // For each node, in the words of a count in the output, how many valuations that the diagram holds for have a path that visits it.
@@ -79,14 +76,14 @@ pub fn houayletan_node_valuation_weights_3(
 ) -> HouayletanVerdict
     ensures { Flat (Weighs words.now room.old room.new output.old output.new) result }
 {
-    flat(node_valuation_weights(words, room, output))
+    HouayletanVerdict::from(node_valuation_weights(words, room, output))
 }
 
 // The reduced diagram of the same function.
 pub fn houayletan_reduce_3(words: &[u32], room: &mut [u32], output: &mut [u32]) -> HouayletanDiagram
     ensures { FlatDiagram (Reduces words.now room.old room.new output.old output.new) result }
 {
-    flat_diagram(reduce(words, room, output))
+    HouayletanDiagram::from(reduce(words, room, output))
 }
 
 // Makes the first `count` words zero, or all where there are fewer: what every answer does to its working room.

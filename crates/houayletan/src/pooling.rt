@@ -11,9 +11,8 @@ ghost use Rattle.flat.specs.Flat.{Flat};
 ghost use Rattle.houayletan.specs.Beside.{Tells, Worded};
 
 use diagram::limits::MAX_VARIABLES;
-use diagram::room::least;
 use diagram::verdict::Verdict;
-use flat::{HouayletanVerdict, flat};
+use flat::HouayletanVerdict;
 use pool_calls::read::read;
 use summary::RECORD;
 use summary_calls::keep::{add, drop, summarize};
@@ -33,14 +32,14 @@ pub struct Told {
 pub fn records(row: usize) -> usize
     ensures { result ≡ min row max_variables }
 {
-    least(row, MAX_VARIABLES)
+    row.min(MAX_VARIABLES)
 }
 
 // The verdict laid flat has the variables where it is accepted, and else none: so many records have changed.
 fn tell(verdict: Verdict) -> Told
     ensures { Tells verdict result }
 {
-    let flat = flat(verdict);
+    let flat = HouayletanVerdict::from(verdict);
     Told {
         verdict: flat,
         records: flat.vars as usize,
@@ -146,5 +145,5 @@ pub fn houayletan_pool_read_3(
 ) -> HouayletanVerdict
     ensures { Flat (Reads table.now slots.now slot room.old room.new output.old output.new) result }
 {
-    flat(read(table, slots, slot, room, output))
+    HouayletanVerdict::from(read(table, slots, slot, room, output))
 }

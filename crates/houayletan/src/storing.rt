@@ -3,7 +3,6 @@ ghost use Rattle.node_file.specs.NodeFile.{ReadsNodes, WritesNodes};
 ghost use Rattle.flat.specs.Flat.{FlatStored};
 
 use flat::HouayletanStored;
-use flat::storing::flat_stored;
 use node_file::read::read_as_bytes;
 use node_file::write::write_as_bytes;
 
@@ -11,12 +10,12 @@ use node_file::write::write_as_bytes;
 pub fn houayletan_read_as_bytes_3(bytes: &[u8], output: &mut [u32]) -> HouayletanStored
     ensures { FlatStored (ReadsNodes bytes.now output.old output.new) result }
 {
-    flat_stored(read_as_bytes(bytes, output))
+    HouayletanStored::from(read_as_bytes(bytes, output))
 }
 
 // The node file of any words, in the first of the bytes.
 pub fn houayletan_write_as_bytes_3(words: &[u32], bytes: &mut [u8]) -> HouayletanStored
     ensures { FlatStored (WritesNodes words.now bytes.old bytes.new) result }
 {
-    flat_stored(write_as_bytes(words, bytes))
+    HouayletanStored::from(write_as_bytes(words, bytes))
 }

@@ -10,7 +10,8 @@ use in_place::sum::{Shifted, add_shifted, words_for};
 use in_place_more::comparing::compare_at;
 use in_place_more::difference::subtract_from_power;
 use in_place_more::product::multiply_at;
-use naturals::{Order, WORD_BITS, WORDS};
+use naturals::{WORD_BITS, WORDS};
+use std::cmp::Ordering;
 
 // The number of standard output.
 const STDOUT: i32 = 1;
@@ -22,26 +23,18 @@ const BITS: u32 = WORD_BITS * WORDS as u32;
 
 const HALF: u32 = BITS / 2;
 
-// Two for each sum.
 const SHIFT_PAIRS: usize = 8;
 
-const SHIFTS: [u32; 2 * SHIFT_PAIRS] = [
-    0,
-    0,
-    31,
-    31,
-    33,
-    32,
-    64,
-    95,
-    HALF - 1,
-    HALF - 1,
-    HALF + 1,
-    HALF,
-    1,
-    HALF + 32,
-    BITS - 1,
-    4294967295,
+// Two for each sum.
+const SHIFTS: [(u32, u32); SHIFT_PAIRS] = [
+    (0, 0),
+    (31, 31),
+    (33, 32),
+    (64, 95),
+    (HALF - 1, HALF - 1),
+    (HALF + 1, HALF),
+    (1, HALF + 32),
+    (BITS - 1, 4294967295),
 ];
 
 const USED_COUNT: usize = 3;
@@ -105,11 +98,9 @@ fn between(i: usize) -> u32 {
 
 fn room(a: usize, b: usize) -> [u32; ROOM] {
     let mut s = [BEHIND; ROOM];
-    let mut i = 0;
-    while i < WORDS {
+    for i in 0..WORDS {
         s[i] = sample(a, i);
         s[SECOND + i] = sample(b, i);
-        i += 1;
     }
     s
 }
@@ -117,17 +108,13 @@ fn room(a: usize, b: usize) -> [u32; ROOM] {
 // The number at a place, without zeros in front.
 fn show(s: &[u32], at: usize) {
     let mut begun = false;
-    let mut i = WORDS;
-    while 0 < i {
-        i -= 1;
+    for i in (0..WORDS).rev() {
         let x = word(s, at, i);
         if begun {
             io::print_hex(STDOUT, x as u64, 8);
-        } else {
-            if x != 0 {
-                io::print_hex(STDOUT, x as u64, 1);
-                begun = true;
-            }
+        } else if x != 0 {
+            io::print_hex(STDOUT, x as u64, 1);
+            begun = true;
         }
     }
     if !begun {
@@ -147,25 +134,19 @@ fn word(s: &[u32], at: usize, i: usize) -> u32 {
 
 // Whether the numbers that are not `but`, and the words behind them, are as they were.
 fn is_kept(s: &[u32], a: usize, b: usize, but: usize) -> bool {
-    let mut i = 0;
-    while i < WORDS {
-        if but != 0 {
-            if word(s, 0, i) != sample(a, i) {
-                return false;
-            }
+    for i in 0..WORDS {
+        if but != 0 && word(s, 0, i) != sample(a, i) {
+            return false;
         }
         if word(s, SECOND, i) != sample(b, i) {
             return false;
         }
-        if but != THIRD {
-            if word(s, THIRD, i) != BEHIND {
-                return false;
-            }
+        if but != THIRD && word(s, THIRD, i) != BEHIND {
+            return false;
         }
         if word(s, THIRD + WORDS, i) != BEHIND {
             return false;
         }
-        i += 1;
     }
     true
 }
@@ -238,21 +219,19 @@ fn sums(a: usize, b: usize, j: u32, k: u32, used: usize)
     show_result(more, &t, a, b, 0);
 }
 
-fn show_order(o: Order) {
+fn show_order(o: Ordering) {
     match o {
-        Order::Less => text(b"less\n"),
-        Order::Equal => text(b"equal\n"),
-        Order::Greater => text(b"greater\n"),
+        Ordering::Less => text(b"less\n"),
+        Ordering::Equal => text(b"equal\n"),
+        Ordering::Greater => text(b"greater\n"),
     }
 }
 
 fn pair(a: usize, b: usize, used: usize)
     requires { used ≤ word_count }
 {
-    let mut i = 0;
-    while i < SHIFT_PAIRS {
-        sums(a, b, SHIFTS[2 * i], SHIFTS[2 * i + 1], used);
-        i += 1;
+    for (j, k) in SHIFTS {
+        sums(a, b, j, k, used);
     }
     label(b"compare ", a, b);
     number(used as u64);
@@ -265,29 +244,24 @@ fn pair(a: usize, b: usize, used: usize)
 }
 
 fn pairs(a: usize, b: usize) {
-    let mut i = 0;
-    while i < USED_COUNT {
-        let used = USED[i];
+    for used in USED {
         if used <= WORDS {
             pair(a, b, used);
         }
-        i += 1;
     }
 }
 
 // Places that are inside, and such that are not.
 fn places() {
-    let mut i = 0;
-    while i < PLACE_COUNT {
+    for at in PLACES {
         let mut s = [0u32; ROOM];
         s[0] = 7;
         text(b"compare at ");
-        number(PLACES[i] as u64);
-        show_order(compare_at(&s, 0, PLACES[i], WORDS));
+        number(at as u64);
+        show_order(compare_at(&s, 0, at, WORDS));
         text(b"compare at ");
-        number(PLACES[i] as u64);
-        show_order(compare_at(&s, PLACES[i], 0, WORDS));
-        i += 1;
+        number(at as u64);
+        show_order(compare_at(&s, at, 0, WORDS));
     }
 }
 
@@ -337,14 +311,10 @@ fn all_words_of() {
 }
 
 fn main() {
-    let mut a = 0;
-    while a < SAMPLES {
-        let mut b = 0;
-        while b < SAMPLES {
+    for a in 0..SAMPLES {
+        for b in 0..SAMPLES {
             pairs(a, b);
-            b += 1;
         }
-        a += 1;
     }
     places();
     powers_less(0);

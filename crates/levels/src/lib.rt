@@ -31,13 +31,11 @@ pub fn link(words: &[u32], heads: &mut [u32], room: &mut [u32], nodes: usize)
     requires { Given words.now nodes × (heads.old ≡ replicate chain_count 0) × (nodes ≤ length room.old) }
     ensures { Linked words.now heads.new room.new nodes }
 {
-    let mut p = 2;
-    while p < nodes {
+    for p in 2..nodes {
         let node = BddPointer(p as u32);
         let variable = var_of(words, node);
         let last = head_of(heads, variable);
         put(room, p, last.0);
         put(heads, variable.0 as usize, node.0);
-        p += 1;
     }
 }

@@ -1,5 +1,5 @@
 -- The answer of cutting by a list.
-use Prim.Native.Nat.{ℕ, ◌+◌, ◌-◌, ◌*◌, ◌≤◌, ◌<◌, max, min}
+use Prim.Native.Nat.{ℕ, ◌+◌, ◌*◌, ◌≤◌, ◌<◌, max, min}
 use mathlib.Core.Path.{◌≡◌, refl, sym, ap, ◌∙◌}
 use mathlib.Core.Bool.{not, ◌||◌}
 use mathlib.Core.List.{List, ◌++◌}
@@ -8,9 +8,10 @@ use lib.ListN.{length, take, drop, replicate, take-append-drop}
 use lib.Dec.{eqb}
 use Rattle.diagram.specs.Limits.{max_nodes}
 use Rattle.diagram.specs.Diagram.{size, vars}
-use Rattle.diagram.specs.Verdict.{said, most, room_of, Checked}
-use Rattle.diagram.specs.declared.verdict.Verdict.{Verdict}
-use Rattle.diagram.specs.declared.verdict.Verdict.TheVariants.{Accepted as Yes, Refused as No}
+use Rattle.diagram.specs.Verdict.{Verdict, said, most, room_of, Checked}
+use Rattle.std.specs.Prelude.{Ok, Err}
+use Rattle.diagram.specs.declared.verdict.Extent.{Extent}
+use Rattle.diagram.specs.declared.verdict.Refused.{Refused}
 use Rattle.diagram.specs.declared.verdict.Output.TheVariants.{Diagram}
 use Rattle.diagram.proofs.Reading.{accepted_ordered}
 use Rattle.diagram.proofs.Entering.{refusal_is, verdict_is, admitted, lent_fits, lent_word, lent_enough, builds_refused, builds_accepted}
@@ -19,7 +20,7 @@ use Rattle.reduction.specs.Room.{Copied}
 use Rattle.reduction.proofs.Answering.{copied_front}
 use Rattle.approximation.specs.Cut.{cut, listed, list_of}
 use Rattle.approximation.proofs.Cut.{cut_same}
-use Rattle.approximation.proofs.Listing.{list_accepted}
+use Rattle.approximation.proofs.Listing.{list_accepted, list_verdict}
 use Rattle.cuts.proofs.Rooms.{zeros_back, drop_more}
 use Rattle.cuts.proofs.Cutting.{within_most}
 use Rattle.cuts.specs.Marks.{marked_in, Markable, Marked, Cutting, CutIn, CutWithin}
@@ -123,33 +124,42 @@ module _ {w : List ℕ} (list : List ℕ) (t : ℕ) {room room' : List ℕ} (out
   abbrev result : List ℕ
   result = cut w (listed list) t
 
-  pub check_refuses : {k p : ℕ} → verdict ≡ No k p → Approximates w list t room room' out out verdict 0
-  check_refuses e = builds_refused (cut_verdict w list) result out checked.left e (rw (refusal_is checked e) refl)
+  pub check_refuses : {x : Refused} → verdict ≡ Err x → Approximates w list t room room' out out (Err x) 0
+  check_refuses e = builds_refused (cut_verdict w list) result out checked.left refl (rw (refusal_is checked e) refl)
 
-  module _ {n v : ℕ} (e : verdict ≡ Yes n v) where
-    module _ (l : Verdict) (says : (w : List ℕ) → n ≡ size w → v ≡ vars w → said l ≡ list_of w list) where
-      -- the check accepts: the verdict is what the list's checks say
-      listing_is : cut_verdict w list (length room) (length out) ≡ said l
-      listing_is = rw (verdict_is checked e) (sym (says w (admitted checked e).nodes (admitted checked e).variables))
+  module _ {x : Extent} (e : verdict ≡ Ok x) (l : Verdict) (says : (w : List ℕ) → x.nodes ≡ size w → x.vars ≡ vars w → said l ≡ list_of w list) where
+    -- the check accepts: the verdict is what the list's checks say
+    listed_is : list_of w list ≡ said l
+    listed_is = sym (says w (admitted checked e).nodes (admitted checked e).variables)
 
-      pub list_refuses : {k p : ℕ} → l ≡ No k p → Approximates w list t room room' out out l 0
-      list_refuses f = builds_refused (cut_verdict w list) result out checked.left f (listing_is ∙ ap said f)
+    listing_is : cut_verdict w list (length room) (length out) ≡ said l
+    listing_is = rw (verdict_is checked e) listed_is
 
-      module _ {n' v' : ℕ} (f : l ≡ Yes n' v') where
-        pub list_given : t < 2 → Listing w list t room' out n v
-        list_given terminal =
-            let given = admitted checked e in
-            let nodes = list_accepted w list n' v' (sym (says w given.nodes given.variables) ∙ ap said f) in
-            record {
-              accepted = given.accepted;
-              is_size = given.nodes;
-              is_vars = given.variables;
-              terminal = terminal;
-              inside = λ j h. (nodes j h).1;
-              long = lent_fits checked e (room_of w) (omega arith);
-              zero = lent_word checked e (room_of w) (omega arith);
-              output = lent_enough w (length out) given.lent;
-            }
+    pub list_refuses : {y : Refused} → l ≡ Err y → Approximates w list t room room' out out (Err y) 0
+    list_refuses f = builds_refused (cut_verdict w list) result out checked.left refl (listing_is ∙ ap said f)
 
-        pub list_answered : {room'' out' : List ℕ} {k : ℕ} → Listed w list t room' room'' out out' k → Approximates w list t room room'' out out' l k
-        list_answered a = builds_accepted (cut_verdict w list) result out (a.room ∙ checked.left) f (listing_is ∙ ap said f) a.count a.written
+    module _ {y : Extent} (f : l ≡ Ok y) where
+      -- both accept, and count the same
+      both_accept : cut_verdict w list (length room) (length out) ≡ said (Ok x)
+      both_accept =
+          let given = admitted checked e in
+          let own = ((list_verdict w list).accepts y.nodes y.vars).0 (listed_is ∙ ap said f) in
+          listing_is ∙ ap said f ∙ (rw (own.1, own.2, given.nodes, given.variables) refl)
+
+      pub list_given : t < 2 → Listing w list t room' out x.nodes x.vars
+      list_given terminal =
+          let given = admitted checked e in
+          let nodes = list_accepted w list y.nodes y.vars (listed_is ∙ ap said f) in
+          record {
+            accepted = given.accepted;
+            is_size = given.nodes;
+            is_vars = given.variables;
+            terminal = terminal;
+            inside = λ j h. (nodes j h).1;
+            long = lent_fits checked e (room_of w) (omega arith);
+            zero = lent_word checked e (room_of w) (omega arith);
+            output = lent_enough w (length out) given.lent;
+          }
+
+      pub list_answered : {room'' out' : List ℕ} {k : ℕ} → Listed w list t room' room'' out out' k → Approximates w list t room room'' out out' (Ok x) k
+      list_answered a = builds_accepted (cut_verdict w list) result out (a.room ∙ checked.left) refl both_accept a.count a.written

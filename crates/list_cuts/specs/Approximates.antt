@@ -1,7 +1,6 @@
 -- What cutting by a list answers (document 01, port 8).
 use Rattle.std.specs.Prelude.{ℕ, List}
-use Rattle.diagram.specs.Verdict.{Outcome, and_then, verdict_for, Builds}
-use Rattle.diagram.specs.declared.verdict.Verdict.{Verdict}
+use Rattle.diagram.specs.Verdict.{Verdict, Outcome, and_then, verdict_for, Builds}
 use Rattle.diagram.specs.declared.verdict.Output.TheVariants.{Diagram}
 use Rattle.approximation.specs.Cut.{cut, listed, list_of}
 

@@ -4,6 +4,7 @@
 mod listing;
 
 ghost use Rattle.std.specs.Prelude.{◌<◌};
+ghost use Rattle.diagram.specs.Verdict.{value_in, verdict_in};
 ghost use Rattle.list_cuts.specs.Approximates.{Approximates};
 ghost use Rattle.list_cuts.specs.Listed.{Listing, Listed};
 
@@ -12,18 +13,11 @@ use cuts::marks::mark_all;
 use diagram::limits::MAX_WORDS;
 use diagram::node::BddPointer;
 use diagram::room::{clear, most};
-use diagram::verdict::{Output, Verdict};
+use diagram::verdict::{Finding, Output, Refused};
 use diagram_check::validate::admit;
 use listing::listing;
 use reduction::answer::copy;
 use room_map::{ANSWER, TABLES_END};
-
-// A verdict, and how many nodes stand in the output: none where the words or the list are refused.
-#[derive(Clone, Copy)]
-pub struct Approximation {
-    pub verdict: Verdict,
-    pub nodes: usize,
-}
 
 // Cuts an accepted diagram by a list that is accepted too, in a room that is zero, and gives the number of nodes.
 fn approximate(
@@ -47,32 +41,21 @@ fn approximate(
     count
 }
 
+// How many nodes stand in the output, where neither the words nor the list are refused.
 fn approximate_by(
     words: &[u32],
     list: &[u32],
     target: BddPointer,
     room: &mut [u32],
     output: &mut [u32],
-) -> Approximation
+) -> Result<Finding<usize>, Refused>
     requires { target.0 < 2 }
-    ensures { Approximates words.now list.now target.0 room.old room.new output.old output.new result.verdict result.nodes }
+    ensures { Approximates words.now list.now target.0 room.old room.new output.old output.new (verdict_in result) (value_in 0 result) }
 {
-    let verdict = admit(words, room, Output::Diagram(output.len()));
-    let Verdict::Accepted { nodes, vars } = verdict else {
-        return Approximation { verdict, nodes: 0 };
-    };
-    let listed = listing(list, nodes, vars);
-    let Verdict::Accepted { nodes: _, vars: _ } = listed else {
-        return Approximation {
-            verdict: listed,
-            nodes: 0,
-        };
-    };
-    let count = approximate(words, list, target, room, output, nodes, vars);
-    Approximation {
-        verdict: listed,
-        nodes: count,
-    }
+    let extent = admit(words, room, Output::Diagram(output.len()))?;
+    listing(list, extent.nodes, extent.vars)?;
+    let value = approximate(words, list, target, room, output, extent.nodes, extent.vars);
+    Ok(Finding { extent, value })
 }
 
 // Valuations whose path meets a listed node no longer hold; all others are as they were.
@@ -81,8 +64,8 @@ pub fn underapproximate(
     list: &[u32],
     room: &mut [u32],
     output: &mut [u32],
-) -> Approximation
-    ensures { Approximates words.now list.now 0 room.old room.new output.old output.new result.verdict result.nodes }
+) -> Result<Finding<usize>, Refused>
+    ensures { Approximates words.now list.now 0 room.old room.new output.old output.new (verdict_in result) (value_in 0 result) }
 {
     approximate_by(words, list, BddPointer(0), room, output)
 }
@@ -93,8 +76,8 @@ pub fn overapproximate(
     list: &[u32],
     room: &mut [u32],
     output: &mut [u32],
-) -> Approximation
-    ensures { Approximates words.now list.now 1 room.old room.new output.old output.new result.verdict result.nodes }
+) -> Result<Finding<usize>, Refused>
+    ensures { Approximates words.now list.now 1 room.old room.new output.old output.new (verdict_in result) (value_in 0 result) }
 {
     approximate_by(words, list, BddPointer(1), room, output)
 }

@@ -1,38 +1,24 @@
 // Refusals 13 and 14: what can be said of a list.
-ghost use Rattle.std.specs.Prelude.{◌≡◌, List, ℕ, length, get_or, leb, ltb};
+ghost use Rattle.std.specs.Prelude.{◌≡◌, List, ℕ, position, leb, ltb};
 ghost use Rattle.diagram.specs.Diagram.{size, vars as varsOf};
-ghost use Rattle.diagram.specs.Verdict.{said, first};
+ghost use Rattle.diagram.specs.Verdict.{said};
 ghost use Rattle.approximation.specs.Cut.{list_of};
 
-use diagram::refusal::{BAD_POINTER, LISTED_TERMINAL};
-use diagram::verdict::Verdict;
+use diagram::refusal::Refusal;
+use diagram::verdict::{Extent, Refused, Verdict};
 
-// The first place in a list of a pointer that names no node; the length of the list where there is none.
-fn first_outside(list: &[u32], nodes: usize) -> usize
-    ensures { result ≡ first (λ i. leb nodes (get_or list.now i 0)) 0 (length list.now) }
+// The first place in a list of a pointer that names no node.
+fn first_outside(list: &[u32], nodes: usize) -> Option<usize>
+    ensures { result ≡ position (λ p. leb nodes p) list.now }
 {
-    let mut i = 0;
-    while i < list.len() {
-        if nodes <= list[i] as usize {
-            return i;
-        }
-        i += 1;
-    }
-    i
+    list.iter().position(|pointer| nodes <= *pointer as usize)
 }
 
 // The first place of a terminal.
-fn first_terminal(list: &[u32]) -> usize
-    ensures { result ≡ first (λ i. ltb (get_or list.now i 0) 2) 0 (length list.now) }
+fn first_terminal(list: &[u32]) -> Option<usize>
+    ensures { result ≡ position (λ p. ltb p 2) list.now }
 {
-    let mut i = 0;
-    while i < list.len() {
-        if list[i] < 2 {
-            return i;
-        }
-        i += 1;
-    }
-    i
+    list.iter().position(|pointer| *pointer < 2)
 }
 
 // The checks of a list for an accepted diagram. A terminal is refused whether or not the root is listed, also where it is
@@ -40,19 +26,17 @@ fn first_terminal(list: &[u32]) -> usize
 pub(crate) fn listing(list: &[u32], nodes: usize, vars: u32) -> Verdict
     ensures { (w : List ℕ) → nodes ≡ size w → vars ≡ varsOf w → said result ≡ list_of w list.now }
 {
-    let outside = first_outside(list, nodes);
-    let terminal = first_terminal(list);
-    if outside < list.len() {
-        return Verdict::Refused {
-            number: BAD_POINTER,
-            place: outside,
-        };
+    if let Some(place) = first_outside(list, nodes) {
+        return Err(Refused {
+            reason: Refusal::BadPointer,
+            place,
+        });
     }
-    if terminal < list.len() {
-        return Verdict::Refused {
-            number: LISTED_TERMINAL,
-            place: terminal,
-        };
+    if let Some(place) = first_terminal(list) {
+        return Err(Refused {
+            reason: Refusal::ListedTerminal,
+            place,
+        });
     }
-    Verdict::Accepted { nodes, vars }
+    Ok(Extent { nodes, vars })
 }

@@ -1,5 +1,5 @@
 -- Laws that belong to no one function.
---     Differing  tests of a number of refusal
+--     Differing  what is said of a number that no refusal has
 --     Fitting    how long what is said can be
 pub mod Differing
 pub mod Fitting

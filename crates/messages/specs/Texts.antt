@@ -1,6 +1,8 @@
 -- What `shrink` says on standard error. Texts are lists of bytes.
-use Rattle.std.specs.Prelude.{ℕ, ◌+◌, ◌-◌, ◌*◌, Bool, true, false, cond, ◌&&◌, ◌||◌, List, [], ◌++◌, length, leb, eqb}
+use Rattle.std.specs.Prelude.{Option, Some, None, ℕ, ◌+◌, ◌-◌, ◌*◌, ◌≡◌, ◌≢◌, Bool, true, false, cond, ◌&&◌, ◌||◌, List, [], ◌++◌, length, leb, eqb}
 use Rattle.diagram.specs.Limits.{max_nodes, max_variables}
+use Rattle.diagram.specs.Refusal.{number_of}
+use Rattle.diagram.specs.declared.refusal.Refusal.{Refusal}
 use Rattle.writing.specs.Writing.{bytes}
 use Rattle.blocks.specs.Block.{max_stored}
 use Rattle.text.specs.Digits.{decimal_digits, hexadecimal_digits, decimal, hexadecimal}
@@ -64,6 +66,11 @@ phrase number =
     (cond (eqb number 52) (bytes "the length of the file is not a multiple of ten bytes")
     (cond (eqb number 53) (more_than max_nodes (bytes " nodes"))
     (bytes "the input is refused"))))))))))))))))))))))
+
+-- The refusal that has a number, or none.
+abbrev pub Numbered : ℕ → Option Refusal → Type 0
+Numbered number (Some reason) = number_of reason ≡ number
+Numbered number None = (reason : Refusal) → number_of reason ≢ number
 
 unfoldable pub refusal_text : ℕ → ℕ → List ℕ
 refusal_text number place = refused_at number place ++ bytes ": " ++ subject number place ++ phrase number ++ feed

@@ -8,7 +8,7 @@ ghost use Rattle.messages.specs.Texts.{twice, target_text, sizes_text, counts_te
 
 use naturals::{Natural, excess};
 use report::lines::write_number;
-use request::Target;
+use request::{Amount, Target};
 use text::print::{DECIMAL, HEXADECIMAL, write_hexadecimal, write_natural};
 use writing::{put, write};
 
@@ -26,14 +26,14 @@ fn write_twice(out: &mut [u8], at: usize, label: &[u8], a: Natural, middle: &[u8
     let counted = write_natural(out, named, a);
     let begun = write(out, counted, middle);
     let repeated = write_hexadecimal(out, begun, a);
-    put(out, repeated, 41)
+    put(out, repeated, b')')
 }
 
 pub fn write_line(out: &mut [u8], at: usize, label: &[u8], a: Natural, middle: &[u8]) -> usize
     ensures { Wrote (twice label.now (value a.words) middle.now ++ feed) out.old at out.new result }
 {
     let next = write_twice(out, at, label, a, middle);
-    put(out, next, 10)
+    put(out, next, b'\n')
 }
 
 fn write_nodes_target(out: &mut [u8], keep: bool, size: u32) -> usize
@@ -56,11 +56,10 @@ fn write_cases_target(out: &mut [u8], keep: bool, count: Natural) -> usize
 pub fn write_target(out: &mut [u8], target: Target) -> usize
     ensures { Wrote (target_text target.keep (aim_of target)) out.old 0 out.new result }
 {
-    let count = target.count;
-    if target.counted {
-        return write_cases_target(out, target.keep, count);
+    match target.amount {
+        Amount::Nodes(size) => write_nodes_target(out, target.keep, size),
+        Amount::Cases(count) => write_cases_target(out, target.keep, count),
     }
-    write_nodes_target(out, target.keep, target.size)
 }
 
 // `nodes 5 to 4`
@@ -69,7 +68,7 @@ pub fn write_sizes(out: &mut [u8], at: usize, before: usize, after: usize) -> us
 {
     let first = write_number(out, at, b"nodes ", before as u64);
     let second = write_number(out, first, b" to ", after as u64);
-    put(out, second, 10)
+    put(out, second, b'\n')
 }
 
 // `cases 5 (hex 5) to 6 (hex 6)`
@@ -78,7 +77,7 @@ pub fn write_counts(out: &mut [u8], at: usize, before: Natural, after: Natural) 
 {
     let first = write_twice(out, at, b"cases ", before, b" (hex ");
     let second = write_twice(out, first, b" to ", after, b" (hex ");
-    put(out, second, 10)
+    put(out, second, b'\n')
 }
 
 // `added 1 (hex 1)` or `lost 1 (hex 1)`
@@ -96,5 +95,5 @@ pub fn write_trials(out: &mut [u8], at: usize, trials: usize) -> usize
     ensures { Wrote (trials_text trials) out.old at out.new result }
 {
     let next = write_number(out, at, b"trials ", trials as u64);
-    put(out, next, 10)
+    put(out, next, b'\n')
 }

@@ -1,29 +1,12 @@
 // Files that are read by their names.
 #![tactic(auto)]
 
-ghost use Rattle.std.specs.Prelude.{◌≡◌, ◌≤◌, length, false};
+ghost use Rattle.std.specs.Prelude.{◌≡◌, ◌≤◌, length, IfSome, None};
 ghost use Rattle.std.specs.Str.{IsUtf8};
 
 use std::fs::{File, Files};
 use std::io::Read;
 use std::str::from_utf8;
-
-// What was read of a file: whether it could be, and how many bytes there are.
-#[derive(Clone, Copy)]
-pub struct Input {
-    pub found: bool,
-    pub length: usize,
-}
-
-pub fn nothing() -> Input
-    ensures found { result.found ≡ false }
-    ensures length { result.length ≡ 0 }
-{
-    Input {
-        found: false,
-        length: 0,
-    }
-}
 
 // As many bytes as there are, and as there is place for. A read that fails looks like the end of the file.
 fn read_full<R: Read>(file: &mut R, bytes: &mut [u8]) -> usize
@@ -44,30 +27,21 @@ fn read_full<R: Read>(file: &mut R, bytes: &mut [u8]) -> usize
 }
 
 // A read that fails looks like the end of the file, so one more is made: at the end it finds nothing, and a failure it meets again.
-fn read_opened<R: Read>(file: &mut R, bytes: &mut [u8]) -> Input
-    ensures { result.length ≤ length bytes.new }
+fn read_opened<'a, R: Read>(file: &mut R, bytes: &'a mut [u8]) -> Option<&'a [u8]>
+    ensures { IfSome result (λ read. length read.now ≤ length bytes.old) }
 {
     let length = read_full(file, bytes);
     let mut spare = [0u8; 1];
-    if file.read(&mut spare).is_err() {
-        return nothing();
-    }
-    Input {
-        found: true,
-        length,
-    }
+    file.read(&mut spare).ok()?;
+    Some(&bytes[..length])
 }
 
-// The bytes of a file, of which there may be more. A name that is no UTF-8 text names no file.
-pub fn read_file<F: Files>(files: &F, name: &[u8], bytes: &mut [u8]) -> Input
-    ensures length { result.length ≤ length bytes.new }
-    ensures text { ¬ IsUtf8 name.now → result.found ≡ false }
+// The bytes of a file, as many as there is place for, and `None` where it could not be read. A name that is no UTF-8 text names no file.
+pub fn read_file<'a, F: Files>(files: &F, name: &[u8], bytes: &'a mut [u8]) -> Option<&'a [u8]>
+    ensures length { IfSome result (λ read. length read.now ≤ length bytes.old) }
+    ensures text { ¬ IsUtf8 name.now → result ≡ None }
 {
-    let Ok(name) = from_utf8(name) else {
-        return nothing();
-    };
-    let Ok(mut file) = File::open(files, name) else {
-        return nothing();
-    };
+    let name = from_utf8(name).ok()?;
+    let mut file = File::open(files, name).ok()?;
     read_opened(&mut file, bytes)
 }

@@ -2,7 +2,8 @@
 // code by tests/naturals_cases.py, with whole numbers of any size.
 #![tactic(auto)]
 
-use naturals::{Fit, Natural, Order, WORD_BITS, WORDS};
+use naturals::{Division, Natural, WORD_BITS, WORDS};
+use std::cmp::Ordering;
 
 // The number of standard output.
 const STDOUT: i32 = 1;
@@ -75,14 +76,10 @@ fn hex(x: u32, width: usize) {
 // x in the words from `from` up to `to`, and zeros.
 fn block(from: usize, to: usize, x: u32) -> Natural {
     let mut words = [0u32; WORDS];
-    let mut i = 0;
-    while i < WORDS {
-        if from <= i {
-            if i < to {
-                words[i] = x;
-            }
+    for i in 0..WORDS {
+        if from <= i && i < to {
+            words[i] = x;
         }
-        i += 1;
     }
     Natural { words }
 }
@@ -98,12 +95,10 @@ fn half_and_one() -> Natural {
 // So many words that all differ, each of them large, and zeros.
 fn falling(count: usize) -> Natural {
     let mut words = [0u32; WORDS];
-    let mut i = 0;
-    while i < WORDS {
+    for i in 0..WORDS {
         if i < count {
             words[i] = 4294967295 - 65537 * i as u32;
         }
-        i += 1;
     }
     Natural { words }
 }
@@ -131,17 +126,13 @@ fn sample(k: usize) -> Natural {
 // Without zeros in front.
 fn show(a: Natural) {
     let mut begun = false;
-    let mut i = WORDS;
-    while 0 < i {
-        i -= 1;
+    for i in (0..WORDS).rev() {
         let x = a.words[i];
         if begun {
             hex(x, 8);
-        } else {
-            if x != 0 {
-                hex(x, 1);
-                begun = true;
-            }
+        } else if x != 0 {
+            hex(x, 1);
+            begun = true;
         }
     }
     if !begun {
@@ -150,14 +141,15 @@ fn show(a: Natural) {
     text(b"\n");
 }
 
-fn show_fit(f: Fit) {
-    if f.fits {
-        text(b"= ");
-    } else {
-        text(b"! ");
+// Zero where there is none.
+fn show_fit(found: Option<Natural>) {
+    match found {
+        Some(a) => {
+            text(b"= ");
+            show(a);
+        }
+        None => text(b"! 0\n"),
     }
-    let a = f.natural;
-    show(a);
 }
 
 fn number(n: u64) {
@@ -171,11 +163,11 @@ fn label(name: &[u8], i: usize, j: u64) {
     number(j);
 }
 
-fn show_order(o: Order) {
+fn show_order(o: Ordering) {
     match o {
-        Order::Less => text(b"less\n"),
-        Order::Equal => text(b"equal\n"),
-        Order::Greater => text(b"greater\n"),
+        Ordering::Less => text(b"less\n"),
+        Ordering::Equal => text(b"equal\n"),
+        Ordering::Greater => text(b"greater\n"),
     }
 }
 
@@ -193,10 +185,8 @@ fn pair(i: usize, j: usize) {
 }
 
 fn pairs(i: usize) {
-    let mut j = 0;
-    while j < SAMPLES {
+    for j in 0..SAMPLES {
         pair(i, j);
-        j += 1;
     }
 }
 
@@ -206,26 +196,28 @@ fn shift(i: usize, k: u32) {
 }
 
 fn shifts(i: usize) {
-    let mut j = 0;
-    while j < SHIFT_COUNT {
-        shift(i, SHIFTS[j]);
-        j += 1;
+    for k in SHIFTS {
+        shift(i, k);
     }
 }
 
 // The remainder, then the quotient.
 fn divide(i: usize, d: u32) {
     label(b"divide ", i, d as u64);
-    let division = naturals::divide_small(sample(i), d);
-    if division.divides {
-        text(b"= ");
-    } else {
-        text(b"! ");
+    match naturals::divide_small(sample(i), d) {
+        Some(
+            Division {
+                quotient,
+                remainder,
+            },
+        ) => {
+            text(b"= ");
+            hex(remainder, 1);
+            text(b" ");
+            show(quotient);
+        }
+        None => text(b"! 0 0\n"),
     }
-    hex(division.remainder, 1);
-    text(b" ");
-    let quotient = division.quotient;
-    show(quotient);
 }
 
 fn times(i: usize, m: u32, c: u32) {
@@ -235,13 +227,10 @@ fn times(i: usize, m: u32, c: u32) {
 }
 
 fn by_words(i: usize) {
-    let mut j = 0;
-    while j < DIVISOR_COUNT {
-        let d = DIVISORS[j];
+    for d in DIVISORS {
         divide(i, d);
         times(i, d, 0);
         times(i, d, 4294967295);
-        j += 1;
     }
 }
 
@@ -260,14 +249,12 @@ fn power(k: u32) {
     show_fit(naturals::power_of_two(k));
     text(b"word ");
     number(k as u64);
-    show(naturals::from_word(k));
+    show(Natural::from(k));
 }
 
 fn powers() {
-    let mut j = 0;
-    while j < SHIFT_COUNT {
-        power(SHIFTS[j]);
-        j += 1;
+    for k in SHIFTS {
+        power(k);
     }
     text(b"zero ");
     show(naturals::zero());
@@ -276,19 +263,15 @@ fn powers() {
 // Words that tell their place.
 fn room() -> [u32; ROOM] {
     let mut s = [0u32; ROOM];
-    let mut i: u32 = 0;
-    while i < ROOM as u32 {
-        s[i as usize] = 2863311530 + i;
-        i += 1;
+    for i in 0..ROOM {
+        s[i] = 2863311530 + i as u32;
     }
     s
 }
 
 fn show_all(s: &[u32]) {
-    let mut i = 0;
-    while i < s.len() {
-        hex(s[i], 8);
-        i += 1;
+    for x in s {
+        hex(*x, 8);
     }
     text(b"\n");
 }
@@ -309,13 +292,10 @@ fn store_to(s: &mut [u32], at: usize) {
 }
 
 fn places() {
-    let mut j = 0;
-    while j < PLACE_COUNT {
-        let at = PLACES[j];
+    for at in PLACES {
         let mut s = room();
         load_from(&s, at);
         store_to(&mut s, at);
-        j += 1;
     }
 }
 
@@ -334,13 +314,11 @@ fn just_enough() {
 }
 
 fn main() {
-    let mut i = 0;
-    while i < SAMPLES {
+    for i in 0..SAMPLES {
         alone(i);
         pairs(i);
         shifts(i);
         by_words(i);
-        i += 1;
     }
     powers();
     places();

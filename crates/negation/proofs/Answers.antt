@@ -6,9 +6,10 @@ use native.Mathlib.Omega.{arith}
 use lib.ListN.{length}
 use borrow.Author.Tests.{eq-eqb, ne_eqb}
 use Rattle.diagram.specs.Diagram.{size}
-use Rattle.diagram.specs.Verdict.{verdict_for, Checked}
-use Rattle.diagram.specs.declared.verdict.Verdict.{Verdict}
-use Rattle.diagram.specs.declared.verdict.Verdict.TheVariants.{Accepted as Yes, Refused as No}
+use Rattle.diagram.specs.Verdict.{Verdict, verdict_for, Checked}
+use Rattle.std.specs.Prelude.{Ok, Err}
+use Rattle.diagram.specs.declared.verdict.Extent.{Extent}
+use Rattle.diagram.specs.declared.verdict.Refused.{Refused}
 use Rattle.diagram.specs.declared.verdict.Output.TheVariants.{Diagram}
 use Rattle.diagram.proofs.Tests.{by-eq}
 use Rattle.diagram.proofs.Entering.{refusal_is, verdict_is, admitted, lent_enough, builds_refused, builds_accepted}
@@ -32,14 +33,14 @@ nodes_most n = by-eq n 1
     (λ me. simp (ne_eqb n 1 ne, ne_eqb n 2 me) (omega arith)))
 
 module _ (out : List ℕ) {w room room' : List ℕ} {v : Verdict} (c : Checked w (Diagram (length out)) room room' v) where
-  pub negate_refused : {k p : ℕ} → v ≡ No k p → Negates w room room' out out v 0
-  negate_refused e = builds_refused (verdict_for Diagram w) (negated w) out c.left e (refusal_is c e)
+  pub negate_refused : {refusal : Refused} → v ≡ Err refusal → Negates w room room' out out (Err refusal) 0
+  negate_refused e = builds_refused (verdict_for Diagram w) (negated w) out c.left refl (refusal_is c e)
 
-  module _ {n u : ℕ} (e : v ≡ Yes n u) where
-    pub negate_asks : (n ≡ size w) × Ready w u × (length (negated w) ≤ length out)
+  module _ {extent : Extent} (e : v ≡ Ok extent) where
+    pub negate_asks : (extent.nodes ≡ size w) × Ready w extent.vars × (length (negated w) ≤ length out)
     negate_asks =
         let a = admitted c e in
         (a.nodes, record { formed = a.accepted.formed; count = a.variables }, omega (arith, negated_length w a.accepted.formed, nodes_most (size w), lent_enough w (length out) a.lent))
 
-    pub negate_accepted : (made : ℕ) (out' : List ℕ) → (made ≡ size (negated w)) × (out' ≡ over (negated w) out) → Negates w room room' out out' (Yes n u) made
+    pub negate_accepted : (made : ℕ) (out' : List ℕ) → (made ≡ size (negated w)) × (out' ≡ over (negated w) out) → Negates w room room' out out' (Ok extent) made
     negate_accepted made out' r = builds_accepted (verdict_for Diagram w) (negated w) out c.left refl (verdict_is c e) r.0 r.1

@@ -1,8 +1,7 @@
 -- Negation (document 01, port 5): constants exchange; else links 0 and 1 exchange and every node keeps its place.
 use Rattle.std.specs.Prelude.{ℕ, ◌-◌, ◌≡◌, Bool, not, cond, List, [], ◌∷◌, ◌++◌, length, take, drop, ltb, eqb}
 use Rattle.diagram.specs.Diagram.{size, vars, holds, Formed, Accepted}
-use Rattle.diagram.specs.Verdict.{verdict_for, Builds}
-use Rattle.diagram.specs.declared.verdict.Verdict.{Verdict}
+use Rattle.diagram.specs.Verdict.{Verdict, verdict_for, Builds}
 use Rattle.diagram.specs.declared.verdict.Output.TheVariants.{Diagram}
 
 -- A link to 0 goes to 1 and a link to 1 goes to 0.

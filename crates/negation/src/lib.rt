@@ -3,18 +3,12 @@
 
 ghost use Rattle.std.specs.Prelude.{◌≡◌, ◌<◌, ◌≤◌, length, get_or};
 ghost use Rattle.diagram.specs.Diagram.{size};
+ghost use Rattle.diagram.specs.Verdict.{value_in, verdict_in};
 ghost use Rattle.negation.specs.Negation.{exchanged as exchangedOf, nodes_of, negated, over, Negates, Ready};
 
 use diagram::node::{BddPointer, BddVariable, word};
-use diagram::verdict::{Output, Verdict};
+use diagram::verdict::{Finding, Output, Refused};
 use diagram_check::validate::admit;
-
-// A verdict, and how many nodes stand in the output: none where the words are refused.
-#[derive(Clone, Copy)]
-pub struct Negated {
-    pub verdict: Verdict,
-    pub nodes: usize,
-}
 
 // A link to 0 goes to 1 and a link to 1 goes to 0.
 fn exchanged(link: BddPointer) -> BddPointer
@@ -66,24 +60,17 @@ pub fn negate(words: &[u32], output: &mut [u32], nodes: usize, vars: u32) -> usi
 {
     let made = nodes_of(nodes);
     let end = 3 * made;
-    let mut i = 0;
-    while i < end {
+    for i in 0..end {
         output[i] = word_of(words, BddVariable(vars), i);
-        i += 1;
     }
     made
 }
 
-pub fn not(words: &[u32], room: &mut [u32], output: &mut [u32]) -> Negated
-    ensures { Negates words.now room.old room.new output.old output.new result.verdict result.nodes }
+// How many nodes stand in the output.
+pub fn not(words: &[u32], room: &mut [u32], output: &mut [u32]) -> Result<Finding<usize>, Refused>
+    ensures { Negates words.now room.old room.new output.old output.new (verdict_in result) (value_in 0 result) }
 {
-    let verdict = admit(words, room, Output::Diagram(output.len()));
-    let Verdict::Accepted { nodes, vars } = verdict else {
-        return Negated { verdict, nodes: 0 };
-    };
-    let made = negate(words, output, nodes, vars);
-    Negated {
-        verdict,
-        nodes: made,
-    }
+    let extent = admit(words, room, Output::Diagram(output.len()))?;
+    let value = negate(words, output, extent.nodes, extent.vars);
+    Ok(Finding { extent, value })
 }

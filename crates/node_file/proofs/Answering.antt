@@ -1,18 +1,17 @@
 -- What reading and writing answer and leave.
 use Prim.Native.Nat.{ℕ, ◌+◌, ◌*◌, ◌/◌, ◌%◌, ◌≤◌, ◌<◌}
-use mathlib.Core.Path.{◌≡◌, refl, sym, ap, ◌∙◌}
+use mathlib.Core.Path.{◌≡◌, sym, ap, ◌∙◌}
 use mathlib.Core.List.{List, ◌++◌}
 use native.Mathlib.Omega.{arith}
 use lib.ListN.{length, take, drop}
-use lib.Dec.{eqb, ltb}
 use borrow.Author.Tests.{ltb-false, eqb-true, eqb-false, not-false}
 use Rattle.diagram.specs.Limits.{max_nodes}
 use Rattle.diagram.specs.Diagram.{var_of, size}
 use Rattle.writing.specs.Writing.{Wrote}
 use Rattle.writing.proofs.Laws.{wrote_fits}
-use Rattle.blocks.specs.Block.{place_bytes, pair_span, Outcome, nodes, refused, said, nodes_bytes, nodes_at}
-use Rattle.blocks.specs.declared.stored.Stored.{Stored}
-use Rattle.blocks.specs.declared.stored.Stored.TheVariants.{Nodes, Refused}
+use Rattle.blocks.specs.Block.{Stored, place_bytes, pair_span, nodes, said, nodes_bytes, nodes_at}
+use Rattle.diagram.specs.declared.verdict.Refused.{Refused}
+use Rattle.std.specs.Prelude.{Ok, Err}
 use Rattle.blocks.proofs.Front.{nodes_length}
 use Rattle.blocks.proofs.Answering.{nodes_at_length}
 use Rattle.block_file.specs.File.{reading, first_wide}
@@ -43,13 +42,13 @@ is_readable long lent n e =
     record { some = omega arith; few = omega arith; whole = omega arith; fits = omega arith }
 
 module _ (s out : List ℕ) {r : Stored} (e : said r ≡ read_outcome (length s) (length out)) where
-  pub reads_refused : {k p : ℕ} → r ≡ Refused k p → ReadsNodes s out out r
+  pub reads_refused : {x : Refused} → r ≡ Err x → ReadsNodes s out out (Err x)
   unfolding read_nodes read_output
-  reads_refused {k} {p} f =
-      let g : read_outcome (length s) (length out) ≡ refused k p = sym e ∙ ap said f in
-      record { is = rw (e, g) }
+  reads_refused {x} f =
+      let g : read_outcome (length s) (length out) ≡ said (Err x) = sym e ∙ ap said f in
+      record { is = rw g }
 
-  module _ {n : ℕ} (f : r ≡ Nodes n) where
+  module _ {n : ℕ} (f : r ≡ Ok n) where
     outcome_is : read_outcome (length s) (length out) ≡ nodes n
     outcome_is = sym e ∙ ap said f
 
@@ -59,7 +58,7 @@ module _ (s out : List ℕ) {r : Stored} (e : said r ≡ read_outcome (length s)
     pub reads_within : 0 + place_bytes * n ≤ length s
     reads_within = omega (arith, readable.whole)
 
-    pub reads_taken : {left : List ℕ} {p : ℕ} → Wrote (nodes_at s 0 n) out 0 left p → ReadsNodes s out left (Nodes n)
+    pub reads_taken : {left : List ℕ} {p : ℕ} → Wrote (nodes_at s 0 n) out 0 left p → ReadsNodes s out left (Ok n)
     unfolding read_nodes read_output
     reads_taken {left} w =
         let l : length (nodes_at s 0 n) ≡ 3 * n = nodes_at_length s 0 n in
@@ -97,13 +96,13 @@ pub bytes_length : (w : List ℕ) (n : ℕ) → length w ≡ 3 * n → length (n
 bytes_length w n e = omega (arith, nodes_length w)
 
 module _ (w file : List ℕ) {r : Stored} (e : said r ≡ write_outcome w (length file)) where
-  pub writes_refused : {k p : ℕ} → r ≡ Refused k p → WritesNodes w file file r
+  pub writes_refused : {x : Refused} → r ≡ Err x → WritesNodes w file file (Err x)
   unfolding written
-  writes_refused {k} {p} f =
-      let g : write_outcome w (length file) ≡ refused k p = sym e ∙ ap said f in
-      record { answer = e; leaves = rw g }
+  writes_refused {x} f =
+      let g : write_outcome w (length file) ≡ said (Err x) = sym e ∙ ap said f in
+      record { answer = sym g; leaves = rw g }
 
-  pub writes_taken : {n : ℕ} → r ≡ Nodes n → {left : List ℕ} {p : ℕ} → Wrote (nodes_bytes w) file 0 left p → WritesNodes w file left (Nodes n)
+  pub writes_taken : {n : ℕ} → r ≡ Ok n → {left : List ℕ} {p : ℕ} → Wrote (nodes_bytes w) file 0 left p → WritesNodes w file left (Ok n)
   unfolding written
   writes_taken {n} f {left} b =
       let o : write_outcome w (length file) ≡ nodes n = sym e ∙ ap said f in

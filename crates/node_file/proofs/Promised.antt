@@ -1,12 +1,11 @@
 -- What is written reads back, and every file read is the one that would be written.
 use Prim.Native.Nat.{ℕ, ◌+◌, ◌*◌, ◌/◌, ◌%◌, ◌≤◌, ◌<◌, ◌^◌}
-use mathlib.Core.Path.{◌≡◌, refl, sym, ap, ◌∙◌}
+use mathlib.Core.Path.{◌≡◌, sym, ap, ◌∙◌}
 use mathlib.Core.Logic.{◌≢◌}
 use mathlib.Core.List.{List, [], ◌++◌, append-nil}
 use native.Mathlib.Omega.{arith}
 use lib.ListN.{length, get_or, take, drop, length-take, drop_of_length-le}
 use lib.Seq.{take_at, drop_at, take_all}
-use lib.Dec.{eqb, ltb}
 use borrow.Author.Tests.{lt-ltb, le-ltb, eq-eqb, ne_eqb}
 use Rattle.diagram.specs.Limits.{max_nodes}
 use Rattle.diagram.specs.Diagram.{size}
@@ -15,7 +14,7 @@ use Rattle.blocks.specs.Block.{Bytes, place_bytes, Outcome, nodes, refused, row,
 use Rattle.blocks.proofs.Answering.{nodes_at_length}
 use Rattle.blocks.proofs.Meaning.{split_nodes, nodes_narrow}
 use Rattle.blocks.proofs.Written.{nodes_back}
-use Rattle.block_file.specs.File.{Reading, reading, first_wide}
+use Rattle.block_file.specs.File.{reading, first_wide}
 use Rattle.block_file.proofs.Storing.{narrow_all, narrow_end}
 use Rattle.node_file.specs.NodeFile.{node_input_bytes, read_outcome, read_output, read_nodes, write_outcome, written}
 use Rattle.node_file.specs.NodeFiles.{NodeFiles}

@@ -3,8 +3,7 @@
 use Rattle.std.specs.Prelude.{ℕ, ◌+◌, ◌*◌, ◌/◌, ◌%◌, ◌≡◌, not, List, ◌++◌, length, drop, ltb, eqb}
 use Rattle.diagram.specs.Limits.{max_nodes}
 use Rattle.diagram.specs.Diagram.{size}
-use Rattle.blocks.specs.Block.{place_bytes, Outcome, nodes, refused, said, row, nodes_bytes, nodes_at}
-use Rattle.blocks.specs.declared.stored.Stored.{Stored}
+use Rattle.blocks.specs.Block.{Stored, place_bytes, Outcome, nodes, refused, said, row, nodes_bytes, nodes_at}
 use Rattle.block_file.specs.File.{Reading, reading, first_wide}
 
 -- The bytes of the most nodes, and so many of an input as tell what all of it would: those of one node more.

@@ -11,14 +11,15 @@ use lib.Dec.{eqb}
 use borrow.Author.Tests.{ltb-false}
 use Rattle.naturals.specs.Natural.{value, word_count, Holds}
 use Rattle.naturals.specs.Spelling.{words_of}
-use Rattle.naturals.proofs.Answer.{holds_as}
+use Rattle.naturals.proofs.Answer.{holds_as, holds_zero}
 use Rattle.naturals.proofs.Spelling.{words_length, words_of_lem, words_value}
 use Rattle.diagram.specs.Limits.{max_nodes}
 use Rattle.diagram.specs.Diagram.{size, vars, holds}
 use Rattle.diagram.specs.Valuations.{count_of, meets, weight_of}
-use Rattle.diagram.specs.Verdict.{accepted, room_of, short, verdict_for, Checked}
-use Rattle.diagram.specs.declared.verdict.Verdict.{Verdict}
-use Rattle.diagram.specs.declared.verdict.Verdict.TheVariants.{Accepted as Yes, Refused as No}
+use Rattle.diagram.specs.Verdict.{Verdict, accepted, room_of, short, verdict_for, Checked}
+use Rattle.std.specs.Prelude.{Ok, Err}
+use Rattle.diagram.specs.declared.verdict.Extent.{Extent}
+use Rattle.diagram.specs.declared.verdict.Refused.{Refused}
 use Rattle.diagram.specs.declared.verdict.Output.TheVariants.{Weights}
 use Rattle.diagram.proofs.Tests.{by-eq}
 use Rattle.diagram.proofs.Tally.{tally_most}
@@ -73,47 +74,47 @@ module _ {w : List ℕ} (out : List ℕ) {room after : List ℕ} {r : Verdict} (
   abbrev all : List ℕ
   all = weight_words w (size w)
 
-  pub both_refused : {k p : ℕ} → r ≡ No k p → {count : List ℕ} → Holds 0 count → CountsAndWeighs w room after out out r count
-  both_refused e h = record {
-    weighs = answers_refused (verdict_for Weights w) Weights all out c.left e (refusal_is c e);
-    counted = holds_as (sym (when_refused c e (count_of w) 0)) h;
+  pub both_refused : {refusal : Refused} → r ≡ Err refusal → CountsAndWeighs w room after out out (Err refusal) (replicate word_count 0)
+  both_refused e = record {
+    weighs = answers_refused (verdict_for Weights w) Weights all out c.left refl (refusal_is c e);
+    counted = holds_as (sym (when_refused c e (count_of w) 0)) holds_zero;
   }
 
-  module _ {n u : ℕ} (e : r ≡ Yes n u) where
-    pub both_few : n ≤ max_nodes
+  module _ {extent : Extent} (e : r ≡ Ok extent) where
+    pub both_few : extent.nodes ≤ max_nodes
     both_few = omega (arith, (admitted c e).nodes, (admitted c e).accepted.formed.few)
 
-    used_fits : weights_to n ≤ room_of w
+    used_fits : weights_to extent.nodes ≤ room_of w
     used_fits = omega (arith, (admitted c e).nodes)
 
-    both_fits : weights_to n ≤ length after
-    both_fits = lent_fits c e (weights_to n) used_fits
+    both_fits : weights_to extent.nodes ≤ length after
+    both_fits = lent_fits c e (weights_to extent.nodes) used_fits
 
-    both_long : word_count * n ≤ length out
+    both_long : word_count * extent.nodes ≤ length out
     unfolding short
     both_long = omega (arith, (admitted c e).nodes, ltb-false (length out) (word_count * size w) (admitted c e).lent)
 
-    pub both_asks : Weighable w after n u
+    pub both_asks : Weighable w after extent.nodes extent.vars
     both_asks = record { ordered = ordered c e; nodes = (admitted c e).nodes; variables = (admitted c e).variables; long = both_fits }
 
-    module _ {stand count : List ℕ} (s : Standing w after n stand × Holds (count_of w) count) where
-      pub both_hand : (n ≤ max_nodes) × (weights_to n ≤ length stand) × (word_count * n ≤ length out)
+    module _ {stand count : List ℕ} (s : Standing w after extent.nodes stand × Holds (count_of w) count) where
+      pub both_hand : (extent.nodes ≤ max_nodes) × (weights_to extent.nodes ≤ length stand) × (word_count * extent.nodes ≤ length out)
       both_hand = (both_few, omega (arith, s.0.kept, both_fits), both_long)
 
-      weights_out : {out' : List ℕ} → Handed (weights_from n) stand out n out' → out' ≡ all ++ drop (length all) out
+      weights_out : {out' : List ℕ} → Handed (weights_from extent.nodes) stand out extent.nodes out' → out' ≡ all ++ drop (length all) out
       weights_out {out'} h =
-          let front = words_stand w out' n (λ p l. plain out' p (holds_as (s.0.weight p l).worth (h.number p l))) in
-          rw (words_long w (size w), ← (admitted c e).nodes) (sym (take-append-drop (word_count * n) out') ∙ rw (front, h.rest) refl)
+          let front = words_stand w out' extent.nodes (λ p l. plain out' p (holds_as (s.0.weight p l).worth (h.number p l))) in
+          rw (words_long w (size w), ← (admitted c e).nodes) (sym (take-append-drop (word_count * extent.nodes) out') ∙ rw (front, h.rest) refl)
 
-      room_back : {room' : List ℕ} → room' ≡ replicate (min (weights_to n) (length stand)) 0 ++ drop (weights_to n) stand → room' ≡ after
+      room_back : {room' : List ℕ} → room' ≡ replicate (min (weights_to extent.nodes) (length stand)) 0 ++ drop (weights_to extent.nodes) stand → room' ≡ after
       room_back z =
-          let long : min (weights_to n) (length stand) ≡ length (take (weights_to n) after) =
-          omega (arith, s.0.kept, both_fits, length-take-le (weights_to n) after both_fits) in
+          let long : min (weights_to extent.nodes) (length stand) ≡ length (take (weights_to extent.nodes) after) =
+          omega (arith, s.0.kept, both_fits, length-take-le (weights_to extent.nodes) after both_fits) in
           z
-          ∙ rw (long, s.0.rest) (lent_back c e (weights_to n) used_fits (replicate (length (take (weights_to n) after)) 0) refl)
+          ∙ rw (long, s.0.rest) (lent_back c e (weights_to extent.nodes) used_fits (replicate (length (take (weights_to extent.nodes) after)) 0) refl)
 
-      pub both_accepted : {out' room' : List ℕ} → Handed (weights_from n) stand out n out'
-          → room' ≡ replicate (min (weights_to n) (length stand)) 0 ++ drop (weights_to n) stand → CountsAndWeighs w room room' out out' (Yes n u) count
+      pub both_accepted : {out' room' : List ℕ} → Handed (weights_from extent.nodes) stand out extent.nodes out'
+          → room' ≡ replicate (min (weights_to extent.nodes) (length stand)) 0 ++ drop (weights_to extent.nodes) stand → CountsAndWeighs w room room' out out' (Ok extent) count
       both_accepted h z = record {
         weighs = answers_accepted (verdict_for Weights w) Weights all out (room_back z ∙ c.left) refl (verdict_is c e) (weights_out h);
         counted = holds_as (sym (when_accepted c e (count_of w) 0)) s.1;

@@ -1,11 +1,15 @@
 -- The walk begins with no pair in the table.
-use Prim.Native.Nat.{ℕ, ◌<◌, min}
-use mathlib.Core.Path.{◌≡◌, refl, ◌∙◌}
+use Prim.Native.Nat.{ℕ, ◌≤◌, ◌<◌, min}
+use mathlib.Core.Path.{◌≡◌, refl, sym, ap, ◌∙◌}
 use mathlib.Core.List.{List, [], ◌++◌}
 use native.Mathlib.Omega.{arith}
 use lib.ListN.{length, get_or, drop, replicate, length-replicate, get_or-replicate, get_or-append}
+use Rattle.std.specs.Prelude.{Some, None}
+use Rattle.std.proofs.lemmas.Option.{none-some}
+use Rattle.pairs.specs.declared.walk.Met.{Met as MetAt}
 use Rattle.pairs.specs.Pairs.{roots, all_of}
-use Rattle.pairs.specs.Table.{head_in, Space, Tabled, Alike, Walking, Met, Walked}
+use Rattle.pairs.specs.Table.{head_in, Space, Tabled, Alike, Walking, Met, Walked, MetAll}
+use Rattle.pairs.proofs.Entries.{some_once}
 use Rattle.pairs.proofs.Chains.{chains_none}
 use Rattle.pairs.proofs.Levels.{roots_in}
 
@@ -38,5 +42,20 @@ module _ {a b : List ℕ} (alike : Alike a b) {c : ℕ} {t : List ℕ} (space : 
     count = refl;
   }
 
-  pub walk_ends : {t'' : List ℕ} {place k : ℕ} → Walked a b c t' 0 (roots a b) t'' place k → Met a b c (all_of a b) t'' (roots a b) place k
-  walk_ends w = w.meets [] none_tabled refl
+  module _ {t'' : List ℕ} {m : MetAt} (w : Walked a b c t' 0 (roots a b) t'' m.place m.count) where
+    all_met : Met a b c (all_of a b) t'' (roots a b) m.place m.count
+    all_met = w.meets [] none_tabled refl
+
+    pub walk_full : c < m.count → MetAll a b c (all_of a b) t'' (roots a b) None
+    walk_full over = record {
+      full = λ none. omega (arith, all_met.is_count);
+      is_count = λ n is. absurd (none-some _ is);
+      arrived = λ n is. absurd (none-some _ is);
+    }
+
+    pub walk_ends : m.count ≤ c → MetAll a b c (all_of a b) t'' (roots a b) (Some m)
+    walk_ends few = record {
+      full = λ none. absurd (none-some _ (sym none));
+      is_count = λ n is. ap (λ (k : MetAt). k.count) (sym (some_once is)) ∙ omega (arith, all_met.is_count);
+      arrived = λ n is. rw (← some_once is) (all_met.arrived few);
+    }

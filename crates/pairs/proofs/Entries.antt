@@ -8,6 +8,8 @@ use native.Mathlib.Omega.{arith}
 use native.Mathlib.Nat.{mul-le-mul_left, mul-lt-mul_of_pos_right}
 use lib.ListN.{length, get_or, set, length-set, length-append, get_or-append}
 use lib.Seq.{get_or-set_same, get_or-set_other}
+use Rattle.std.specs.Prelude.{Option, Some, None}
+use Rattle.std.proofs.lemmas.Option.{none-some}
 use Rattle.diagram.specs.Diagram.{size}
 use Rattle.diagram.proofs.Tests.{by-eq}
 use Rattle.pairs.specs.Pairs.{max_pairs, Pair, pair, next, ended}
@@ -28,6 +30,10 @@ bucket_small c key some = scaled (key * 2654435761 % 4294967296) c (omega arith)
 
 -- ---- a search
 
+-- what is there once
+pub some_once : {A : Type 0} {x y : A} → ◌≡◌ {A = Option A} (Some x) (Some y) → x ≡ y
+some_once e = cc
+
 -- where it stands
 abbrev pub SeekIn : ℕ → List ℕ → ℕ → ℕ → ℕ → Type 0
 SeekIn c t n k x = Seeking (key_in c t) (λ i. bucket_of c (key_in c t i)) (bucket_of c k) n k x
@@ -43,10 +49,13 @@ module _ {c : ℕ} {t : List ℕ} {n : ℕ} (a : Linked c t n) (k : ℕ) where
     pub seek_inside : x ≤ max_pairs
     seek_inside = let in-n = s.inside in let fits = a.fits in let few = a.space.few in omega arith
 
-    pub seek_hit : x ≢ 0 → {y : ℕ} → y ≡ key_in c t (x - 1) → y ≡ k → Sought c t n k (x - 1)
+    pub seek_hit : x ≢ 0 → {y : ℕ} → y ≡ key_in c t (x - 1) → y ≡ k → Sought c t n k (Some (x - 1))
     seek_hit some e f =
         let in-n = s.inside in
-        record { most = omega arith; here = λ l. sym e ∙ f; absent = λ o. absurd (omega arith) }
+        record {
+          here = λ i is. let same : x - 1 ≡ i = some_once is in rw (← same) (omega arith, sym e ∙ f);
+          absent = λ none. absurd (none-some _ (sym none));
+        }
 
     pub seek_next : x ≢ 0 → {y : ℕ} → y ≡ key_in c t (x - 1) → y ≢ k → {z : ℕ} → z ≡ before_in c t (x - 1) → SeekIn c t n k z
     seek_next some e ne ez = rw ez (seek_goes (key_in c t) (bucket_of c) a.chains s some (λ o. ne (e ∙ o)))
@@ -54,8 +63,8 @@ module _ {c : ℕ} {t : List ℕ} {n : ℕ} (a : Linked c t n) (k : ℕ) where
     pub seek_less : x ≢ 0 → {z : ℕ} → z ≡ before_in c t (x - 1) → z < x
     seek_less some ez = rw ez (seek_falls (key_in c t) (bucket_of c) a.chains s some)
 
-    pub seek_ends : x ≡ 0 → Sought c t n k n
-    seek_ends none = record { most = omega arith; here = λ l. absurd (omega arith); absent = λ o i l. s.passed i (omega arith) l }
+    pub seek_ends : x ≡ 0 → Sought c t n k None
+    seek_ends none = record { here = λ i is. absurd (none-some _ is); absent = λ o i l. s.passed i (omega arith) l }
 
 -- ---- one pair more
 

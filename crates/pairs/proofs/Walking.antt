@@ -1,11 +1,12 @@
 -- The walk that enters pairs in the table: what each call may rest on, and each of its returns.
-use Prim.Native.Nat.{ℕ, suc, ◌+◌, ◌-◌, ◌≤◌, ◌<◌}
+use Prim.Native.Nat.{ℕ, suc, ◌-◌, ◌≤◌, ◌<◌}
 use mathlib.Core.Path.{◌≡◌, refl, sym, ap, ◌∙◌}
 use mathlib.Core.Bool.{Bool, true, false}
 use mathlib.Core.List.{List, [], ◌∷◌, ◌++◌}
 use native.Mathlib.Omega.{arith}
 use native.Mathlib.Decide.{dec_lt}
 use lib.ListN.{length}
+use Rattle.std.specs.Prelude.{Option, Some, None}
 use Rattle.diagram.specs.Limits.{max_nodes}
 use Rattle.diagram.specs.Diagram.{vars}
 use Rattle.diagram.specs.Reading.{pass}
@@ -56,26 +57,26 @@ module _ {a b : List ℕ} {c : ℕ} {t : List ℕ} {k : ℕ} {x : Pair} (w : Wal
         let few = w.alike.second.formed.few in
         key_tells (at s i) x (omega arith) walk_small.1 (sym (tabled.standing.held i (omega arith)) ∙ e)
 
-    known : {r : ℕ} → Sought c t k (key_of x) r → r < k → Met a b c (meet_from a b x s) t x r k
-    known {r} found l =
-        let is = here_is r l (found.here l) in
+    known : {r : Option ℕ} → Sought c t k (key_of x) r → {i : ℕ} → r ≡ Some i → Met a b c (meet_from a b x s) t x i k
+    known found {i} there =
+        let l = (found.here i there).0 in
+        let is = here_is i l (found.here i there).1 in
         let fits = tabled.standing.fits in
-        let e = meet_met a b (vars a) x s (in_met x s (rw (← is) (at_in s r (omega arith)))) in
+        let e = meet_met a b (vars a) x s (in_met x s (rw (← is) (at_in s i (omega arith)))) in
         rw e (record {
           is_count = omega arith;
           arrived = λ few. record { tabled = tabled; inside = omega arith; here = is };
         })
 
-    unknown : {r : ℕ} → Sought c t k (key_of x) r → k ≤ r → met x s ≡ false
-    unknown {r} found far = by_test (met x s)
+    unknown : {r : Option ℕ} → Sought c t k (key_of x) r → r ≡ None → met x s ≡ false
+    unknown found none = by_test (met x s)
         (λ e.
         let i = in_at x s (met_in x s e) in
-        let most = found.most in
-        absurd (found.absent (omega arith) i.0 (omega (arith, i.1)) (tabled.standing.held i.0 i.1 ∙ ap key_of i.2)))
+        absurd (found.absent none i.0 (omega (arith, i.1)) (tabled.standing.held i.0 i.1 ∙ ap key_of i.2)))
         (λ e. e)
 
-  pub walk_known : {r key : ℕ} → key ≡ key_of x → Sought c t k key r → r < k → Walked a b c t k x t r k
-  walk_known e found l = record { meets = λ s tabled count. known tabled count (rw e at found) l }
+  pub walk_known : {r : Option ℕ} {key : ℕ} → key ≡ key_of x → Sought c t k key r → {i : ℕ} → r ≡ Some i → Walked a b c t k x t i k
+  walk_known e found there = record { meets = λ s tabled count. known tabled count (rw e at found) there }
 
   -- ---- one pair more, behind the pairs s' that stand in a table
 
@@ -105,7 +106,7 @@ module _ {a b : List ℕ} {c : ℕ} {t : List ℕ} {k : ℕ} {x : Pair} (w : Wal
             record { is_count = omega arith; arrived = λ few. absurd (omega arith) }
       ])
 
-  module _ {r key : ℕ} (is_key : key ≡ key_of x) (found : Sought c t k key r) (absent : k ≤ r) where
+  module _ {r : Option ℕ} {key : ℕ} (is_key : key ≡ key_of x) (found : Sought c t k key r) (absent : r ≡ None) where
     new : {s : List Pair} → Tabled a b c s t → length s ≡ k → met x s ≡ false
     new tabled count = unknown tabled count (rw is_key at found) absent
 

@@ -4,9 +4,10 @@
 --     from c on           four words for each place: the pair, the place before it in its bucket, as above, and its two children's places
 --     from counts_from on  a count for each place
 --     from flags_from on   a word for each place
-use Rattle.std.specs.Prelude.{ℕ, suc, ◌+◌, ◌-◌, ◌*◌, ◌/◌, ◌%◌, ◌≤◌, ◌<◌, min, ◌≡◌, ◌≢◌, true, false, List, length, get_or, set}
+use Rattle.std.specs.Prelude.{Option, Some, None, ℕ, suc, ◌+◌, ◌-◌, ◌*◌, ◌/◌, ◌%◌, ◌≤◌, ◌<◌, min, ◌≡◌, ◌≢◌, true, false, List, length, get_or, set}
 use Rattle.diagram.specs.Limits.{max_nodes}
 use Rattle.diagram.specs.Diagram.{size, vars, Ordered}
+use Rattle.pairs.specs.declared.walk.Met.{Met as MetAt}
 use Rattle.pairs.specs.Pairs.{max_pairs, Pair, pair, next, ended, meet_from}
 
 -- ---- the layout
@@ -93,11 +94,10 @@ pub record Linked (c : ℕ) (t : List ℕ) (n : ℕ) : Type 0 where
   pub fits : n ≤ c
   pub chains : Chains (λ i. bucket_of c (key_in c t i)) c n (head_in t) (before_in c t)
 
--- What a search among n places answers: a place with the key, or n where there is none.
-pub record Sought (c : ℕ) (t : List ℕ) (n key r : ℕ) : Type 0 where
-  pub most : r ≤ n
-  pub here : r < n → key_in c t r ≡ key
-  pub absent : r ≡ n → (i : ℕ) → i < n → key_in c t i ≢ key
+-- What a search among n places answers: a place with the key, or none where there is none.
+pub record Sought (c : ℕ) (t : List ℕ) (n key : ℕ) (r : Option ℕ) : Type 0 where
+  pub here : (i : ℕ) → r ≡ Some i → (i < n) × (key_in c t i ≡ key)
+  pub absent : r ≡ None → (i : ℕ) → i < n → key_in c t i ≢ key
 
 -- A key is written at place n, and becomes the last in its bucket.
 unfoldable pub entered : ℕ → List ℕ → ℕ → ℕ → ℕ → ℕ → List ℕ
@@ -167,3 +167,9 @@ pub record Met (a b : List ℕ) (c : ℕ) (s : List Pair) (t' : List ℕ) (x : P
 -- What the walk from x on gives, whatever pairs stand in the table before.
 pub record Walked (a b : List ℕ) (c : ℕ) (t : List ℕ) (k : ℕ) (x : Pair) (t' : List ℕ) (place k' : ℕ) : Type 0 where
   pub meets : (s : List Pair) → Tabled a b c s t → length s ≡ k → Met a b c (meet_from a b x s) t' x place k'
+
+-- The same of the walk over all pairs: their number, and all stand in the table; or, exactly where there are more of them than places, none.
+pub record MetAll (a b : List ℕ) (c : ℕ) (s : List Pair) (t' : List ℕ) (x : Pair) (r : Option MetAt) : Type 0 where
+  pub full : r ≡ None → c < length s
+  pub is_count : (m : MetAt) → r ≡ Some m → m.count ≡ length s
+  pub arrived : (m : MetAt) → r ≡ Some m → Arrived a b c s t' x m.place

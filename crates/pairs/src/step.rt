@@ -18,10 +18,7 @@ pub fn level(first: &[u32], second: &[u32], p: BddPointer, q: BddPointer) -> Bdd
 pub fn is_ended(p: BddPointer, q: BddPointer) -> bool
     ensures { result ≡ ended (pair p.0 q.0) }
 {
-    if p.is_terminal() {
-        return q.is_terminal();
-    }
-    false
+    p.is_terminal() && q.is_terminal()
 }
 
 // Where a path stands after a variable: at a child of a node that tests it, else at the node still.

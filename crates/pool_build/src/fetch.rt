@@ -6,9 +6,9 @@ ghost use Rattle.pool_build.specs.Work.{Making, Made, Given, Fetching, Fetched};
 
 use crate::gather::walked;
 use diagram::node::BddPointer;
-use diagram::refusal::SHORT_OUTPUT;
+use diagram::refusal::Refusal;
 use diagram::room::clear;
-use diagram::verdict::Verdict;
+use diagram::verdict::{Extent, Refused, Verdict};
 use reduction::answer::copy;
 use store::shelf::{END, start};
 use store::walk::build;
@@ -32,13 +32,13 @@ fn give(room: &[u32], output: &mut [u32], places: usize, count: usize, vars: u32
     ensures { Given room.now output.old output.new places count vars result }
 {
     if output.len() < 3 * count {
-        return Verdict::Refused {
-            number: SHORT_OUTPUT,
+        return Err(Refused {
+            reason: Refusal::ShortOutput,
             place: 0,
-        };
+        });
     }
     copy(room, places, output, 3 * count);
-    Verdict::Accepted { nodes: count, vars }
+    Ok(Extent { nodes: count, vars })
 }
 
 // The room is zero afterwards.

@@ -76,14 +76,12 @@ pub(crate) fn gather(
     requires { Standing table.now capacity (built work.old count) work.old × Naming table.now from to names.old }
     ensures { Gathered table.now capacity count from to names.old work.old names.new work.new result × Behind work.old work.new }
 {
-    let mut k = from;
     let mut made = count;
-    while k < to {
+    for k in from..to {
         made = gather_slot(table, names, work, capacity, made, k);
         if capacity < made {
             return made;
         }
-        k += 1;
     }
     made
 }

@@ -11,10 +11,11 @@ use lib.Dec.{ltb, leb, eqb}
 use borrow.Author.Tests.{lt-ltb, le-ltb, leb-true, leb-false, eqb-true, eqb-false}
 use Rattle.diagram.specs.Limits.{max_nodes, room_per_node}
 use Rattle.diagram.specs.Diagram.{size, vars}
-use Rattle.diagram.specs.Verdict.{Outcome, accepted, refused, said, row, and_then, room_of, output_after, Checked}
+use Rattle.diagram.specs.Verdict.{Verdict, Outcome, accepted, refused, said, row, and_then, room_of, output_after, Checked}
 use Rattle.diagram.specs.declared.verdict.Output.TheVariants.{Nothing}
-use Rattle.diagram.specs.declared.verdict.Verdict.{Verdict}
-use Rattle.diagram.specs.declared.verdict.Verdict.TheVariants.{Accepted, Refused}
+use Rattle.diagram.specs.declared.verdict.Extent.{Extent}
+use Rattle.diagram.specs.declared.verdict.Refused.{Refused}
+use Rattle.std.specs.Prelude.{Ok, Err}
 use Rattle.diagram.proofs.Tests.{by_test}
 use Rattle.diagram.proofs.Outcomes.{same_counts, never_both}
 use Rattle.diagram.proofs.Words.{front_cleared}
@@ -25,7 +26,7 @@ use Rattle.pool.proofs.Testing.{pool_told}
 use Rattle.pool.proofs.Fewest.{dropped_fit}
 use Rattle.pool.proofs.Tables.{read_is}
 use Rattle.pool.proofs.Rows.{slot_ready, roomVerdict, room_over, room_fits, add_no_pool, add_own, add_slot, live_no_pool, live_no_slot, live_empty, live_there, row_on, row_off}
-use Rattle.pool_build.specs.Work.{Replaced, Puts, answer_of, fetch_of, Fetching, Fetched}
+use Rattle.pool_build.specs.Work.{Replaced, answer_of, fetch_of, Fetching, Fetched}
 use Rattle.pool_calls.specs.Calls.{Addable, Placing, AddsTo}
 
 -- ---- a live slot
@@ -74,38 +75,39 @@ drop_nothing t s k e told =
     let is = live_no_pool t s k (needs (vars t) (with_dropped t s k)) e in
     record { verdict = told ∙ sym is; table = rw is refl; slots = rw is refl }
 
-pub drop_refused : (t s : List ℕ) (k : ℕ) {r : Verdict} → said r ≡ live_of t s k (size t) → {j p : ℕ} → r ≡ Refused j p → Drops t s k t s r
+pub drop_refused : (t s : List ℕ) (k : ℕ) {r : Verdict} → said r ≡ live_of t s k (size t) → {x : Refused} → r ≡ Err x → Drops t s k t s (Err x)
 unfolding drop_of
-drop_refused t s k {r} told {j} {p} e =
-    let is : drop_of t s k ≡ refused j p = live_refused t s k (needs (vars t) (with_dropped t s k)) (sym told ∙ ap said e) in
-    record { verdict = ap said e ∙ sym is; table = rw is refl; slots = rw is refl }
+drop_refused t s k {r} told {x} e =
+    let is : drop_of t s k ≡ said (Err x) = live_refused t s k (needs (vars t) (with_dropped t s k)) (sym told ∙ ap said e) in
+    record { verdict = sym is; table = rw is refl; slots = rw is refl }
 
-module _ (t s : List ℕ) (k : ℕ) {r : Verdict} (told : said r ≡ live_of t s k (size t)) {n v : ℕ} (e : r ≡ Accepted n v) where
-  there : There t s k n v
+module _ (t s : List ℕ) (k : ℕ) {r : Verdict} (told : said r ≡ live_of t s k (size t)) {a : Extent} (e : r ≡ Ok a) where
+  there : There t s k a.nodes a.vars
   there = told_live t s k (sym told ∙ ap said e)
 
   pub live_pool : WellFormed t s
   live_pool = pool_told t s there.is_pool_lem
 
-  pub live_few : n ≤ max_nodes
+  pub live_few : a.nodes ≤ max_nodes
   live_few = let is = there.is_size in let few = live_pool.few in omega arith
 
   pub live_some : get_or s k 0 ≢ 0
   live_some = there.some
 
-  pub drop_done : {t' s' : List ℕ} {count : ℕ} → Replaced t s (with_dropped t s k) t' s' count → Drops t s k t' s' (Accepted count v)
+  pub drop_done : {t' s' : List ℕ} {count : ℕ} → Replaced t s (with_dropped t s k) t' s' count → {r' : Verdict} → said r' ≡ accepted count a.vars
+      → Drops t s k t' s' r'
   unfolding drop_of
-  drop_done {t'} {s'} {count} a =
+  drop_done {t'} {s'} {count} b says =
       let fits = dropped_fit t s live_pool k in
-      let is_count = a.is_count in
+      let is_count = b.is_count in
       let few : count ≤ size t = omega arith in
       let is-needs : count ≡ needs (vars t) (with_dropped t s k) = omega arith in
       let is : drop_of t s k ≡ accepted (needs (vars t) (with_dropped t s k)) (vars t) =
       live_there t s k (needs (vars t) (with_dropped t s k)) there.is_pool_lem there.inside there.some in
       record {
-        verdict = ap (λ (c : ℕ). accepted c v) is-needs ∙ ap (accepted (needs (vars t) (with_dropped t s k))) there.is_vars ∙ sym is;
-        table = rw is (a.table few);
-        slots = rw is (a.slots few);
+        verdict = says ∙ ap (λ (c : ℕ). accepted c a.vars) is-needs ∙ ap (accepted (needs (vars t) (with_dropped t s k))) there.is_vars ∙ sym is;
+        table = rw is (b.table few);
+        slots = rw is (b.slots few);
       }
 
   -- ---- reading
@@ -120,10 +122,10 @@ module _ (t s : List ℕ) (k : ℕ) {r : Verdict} (told : said r ≡ live_of t s
         ap (λ (o : Outcome). and_then o (row 5 (ltb (length room) (room_of t)) 0 (accepted (size t) (vars t))))
         (live_there t s k (size t) there.is_pool_lem there.inside there.some)
 
-    all_is : {all : ℕ} → all ≡ room_per_node * n → all ≡ room_of t
+    all_is : {all : ℕ} → all ≡ room_per_node * a.nodes → all ≡ room_of t
     all_is is = let size_is = there.is_size in let two = live_pool.two in omega arith
 
-    pub read_no_room : {all : ℕ} → all ≡ room_per_node * n → length room < all → {r' : Verdict} → said r' ≡ refused 5 0 → Reads t s k room room out out r'
+    pub read_no_room : {all : ℕ} → all ≡ room_per_node * a.nodes → length room < all → {r' : Verdict} → said r' ≡ refused 5 0 → Reads t s k room room out out r'
     unfolding read_of roomed
     read_no_room {all} is short five =
         let is_all : all ≡ room_of t = all_is is in
@@ -133,11 +135,11 @@ module _ (t s : List ℕ) (k : ℕ) {r : Verdict} (told : said r ≡ live_of t s
         ap (λ (o : Outcome). and_then o (row 4 (ltb (length out) (length (read_from t s k))) 0 (accepted (size (read_from t s k)) (vars t)))) no in
         record { verdict = five ∙ sym none; left = rw no refl; output = rw none refl }
 
-    module _ {all x : ℕ} (is : all ≡ room_per_node * n) (fits : all ≤ length room) (is_IsWord : x ≡ get_or s k 0) where
+    module _ {all x : ℕ} (is : all ≡ room_per_node * a.nodes) (fits : all ≤ length room) (is_IsWord : x ≡ get_or s k 0) where
       root_live : Live s k (x - 1)
       root_live = let some = live_some in record { inside = there.inside; names = omega arith }
 
-      pub read_fetches : Fetching t (x - 1) n v (take all room)
+      pub read_fetches : Fetching t (x - 1) a.nodes a.vars (take all room)
       read_fetches = record {
         slots = s;
         slot = k;
@@ -148,35 +150,35 @@ module _ (t s : List ℕ) (k : ℕ) {r : Verdict} (told : said r ≡ live_of t s
         long = length-take-le all room fits ∙ all_is is;
       }
 
-      pub read_done : {r' : List ℕ} {out' : List ℕ} {verdict : Verdict} → Fetched t (x - 1) v (take all room) r' out out' verdict
+      pub read_done : {r' : List ℕ} {out' : List ℕ} {verdict : Verdict} → Fetched t (x - 1) a.vars (take all room) r' out out' verdict
           → Reads t s k room (r' ++ drop all room) out out' verdict
       unfolding read_of roomed
-      read_done {r'} {out'} a =
+      read_done {r'} {out'} b =
           let is_all : all ≡ room_of t = all_is is in
           let yes-room : roomed_of t s k (length room) ≡ accepted (size t) (vars t) =
           roomed_is ∙ row_off 5 0 (ltb (length room) (room_of t)) (accepted (size t) (vars t)) (le-ltb (length room) (room_of t) (omega arith)) in
           let answer : read_from t s k ≡ answer_of t (x - 1) = read_is t s k (x - 1) root_live in
-          let told_is : read_of t s k (length room) (length out) ≡ fetch_of (answer_of t (x - 1)) v (length out) =
+          let told_is : read_of t s k (length room) (length out) ≡ fetch_of (answer_of t (x - 1)) a.vars (length out) =
           ap (λ (o : Outcome). and_then o (row 4 (ltb (length out) (length (read_from t s k))) 0 (accepted (size (read_from t s k)) (vars t)))) yes-room
           ∙ ap (λ (l : List ℕ). fetch_of l (vars t) (length out)) answer
           ∙ ap (λ (u : ℕ). fetch_of (answer_of t (x - 1)) u (length out)) (sym there.is_vars) in
           record {
-            verdict = a.outcome ∙ sym told_is;
-            left = front_cleared room all r' fits a.room ∙ (rw (yes-room, is_all) refl);
-            output = a.output ∙ ap (λ (o : Outcome). output_after o (answer_of t (x - 1)) out) (sym told_is)
+            verdict = b.outcome ∙ sym told_is;
+            left = front_cleared room all r' fits b.room ∙ (rw (yes-room, is_all) refl);
+            output = b.output ∙ ap (λ (o : Outcome). output_after o (answer_of t (x - 1)) out) (sym told_is)
                 ∙ ap (λ (l : List ℕ). output_after (read_of t s k (length room) (length out)) l out) (sym answer);
           }
 
-pub read_refused : (t s : List ℕ) (k : ℕ) (room out : List ℕ) {r : Verdict} → said r ≡ live_of t s k (size t) → {j p : ℕ} → r ≡ Refused j p
-    → Reads t s k room room out out r
+pub read_refused : (t s : List ℕ) (k : ℕ) (room out : List ℕ) {r : Verdict} → said r ≡ live_of t s k (size t) → {x : Refused} → r ≡ Err x
+    → Reads t s k room room out out (Err x)
 unfolding read_of roomed_of
-read_refused t s k room out {r} told {j} {p} e =
-    let is : live_of t s k (size t) ≡ refused j p = sym told ∙ ap said e in
-    let no : roomed_of t s k (length room) ≡ refused j p =
+read_refused t s k room out {r} told {x} e =
+    let is : live_of t s k (size t) ≡ said (Err x) = sym told ∙ ap said e in
+    let no : roomed_of t s k (length room) ≡ said (Err x) =
     ap (λ (o : Outcome). and_then o (row 5 (ltb (length room) (room_of t)) 0 (accepted (size t) (vars t)))) is in
-    let none : read_of t s k (length room) (length out) ≡ refused j p =
+    let none : read_of t s k (length room) (length out) ≡ said (Err x) =
     ap (λ (o : Outcome). and_then o (row 4 (ltb (length out) (length (read_from t s k))) 0 (accepted (size (read_from t s k)) (vars t)))) no in
-    record { verdict = ap said e ∙ sym none; left = rw no refl; output = rw none refl }
+    record { verdict = sym none; left = rw no refl; output = rw none refl }
 
 -- ---- adding
 
@@ -186,9 +188,6 @@ module _ (t s w : List ℕ) (k : ℕ) where
   adds_refused told is = record { verdict = told ∙ sym is; table = rw is refl; slots = rw is refl }
 
   module _ (a : Placing t s w k) where
-    pub place_puts : Puts t s w k
-    place_puts = record { pool = a.addable.pool; slot = a.slot; diagram = a.addable.diagram; variables = a.variables }
-
     ready : {o : Outcome} → roomVerdict t s w k ≡ o → place_of t s w k ≡ o
     ready e = slot_ready t s w k a.slot a.free a.variables ∙ e
 
@@ -200,13 +199,13 @@ module _ (t s w : List ℕ) (k : ℕ) where
           let kept = b.kept over in
           record { verdict = told ∙ sym is; table = rw is kept.0; slots = rw is kept.1 }
 
-      pub place_done : count ≤ size t → {v : ℕ} → v ≡ vars w → AddsTo t s w k t' s' (Accepted count v)
-      place_done few {v} is_vars =
+      pub place_done : count ≤ size t → {v : ℕ} → v ≡ vars w → {r : Verdict} → said r ≡ accepted count v → AddsTo t s w k t' s' r
+      place_done few {v} is_vars says =
           let is_count = b.is_count in
           let is-needs : count ≡ needs (vars t) (with_added t s w k) = omega arith in
           let is = ready (room_fits t s w k (omega arith)) in
           record {
-            verdict = ap (λ (c : ℕ). accepted c v) is-needs ∙ ap (accepted (needs (vars t) (with_added t s w k))) (is_vars ∙ a.variables) ∙ sym is;
+            verdict = says ∙ ap (λ (c : ℕ). accepted c v) is-needs ∙ ap (accepted (needs (vars t) (with_added t s w k))) (is_vars ∙ a.variables) ∙ sym is;
             table = rw is (b.table few);
             slots = rw is (b.slots few);
           }
@@ -218,12 +217,12 @@ module _ (t s w : List ℕ) (k : ℕ) where
         record { verdict = told ∙ sym is; table = rw is refl; slots = rw is refl; left = rw e refl }
 
     module _ (e : is_pool t s ≡ true) {room' : List ℕ} {r : Verdict} (c : Checked w Nothing room room' r) where
-      pub add_refused : {j p : ℕ} → r ≡ Refused j p → Adds t s w k t s room room' r
+      pub add_refused : {x : Refused} → r ≡ Err x → Adds t s w k t s room room' (Err x)
       add_refused fails =
           let is = add_own t s w k (length room) e (refusal_is c fails) in
-          record { verdict = ap said fails ∙ sym is; table = rw is refl; slots = rw is refl; left = rw e c.left }
+          record { verdict = sym is; table = rw is refl; slots = rw is refl; left = rw e c.left }
 
-      module _ {n v : ℕ} (yes-it : r ≡ Accepted n v) where
+      module _ {x : Extent} (yes-it : r ≡ Ok x) where
         pub add_addable : Addable t s w
         add_addable = record { pool = pool_told t s e; diagram = ordered c yes-it }
 

@@ -1,8 +1,7 @@
 -- What adding does once there is a pool and a diagram. No promise to a caller names this file.
 use Rattle.std.specs.Prelude.{ℕ, ◌<◌, ◌≡◌, List, get_or}
 use Rattle.diagram.specs.Diagram.{size, vars, Ordered}
-use Rattle.diagram.specs.Verdict.{said, if_accepted}
-use Rattle.diagram.specs.declared.verdict.Verdict.{Verdict}
+use Rattle.diagram.specs.Verdict.{Verdict, said, if_accepted}
 use Rattle.pool.specs.Pool.{slot_count, WellFormed, table_of, slots_of}
 use Rattle.pool.specs.Answers.{with_added, place_of}
 

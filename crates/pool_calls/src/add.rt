@@ -4,10 +4,9 @@ ghost use Rattle.pool.specs.Pool.{is_pool};
 ghost use Rattle.pool.specs.Answers.{Adds};
 ghost use Rattle.pool_calls.specs.Calls.{Addable, AddsTo, Placing};
 
-use crate::slot::refused;
 use diagram::node::word;
-use diagram::refusal::{NO_POOL, NO_SUCH_SLOT, OTHER_POOL, POOL_FULL, WRONG_SLOT};
-use diagram::verdict::Verdict;
+use diagram::refusal::Refusal;
+use diagram::verdict::{Extent, Refused, Verdict};
 use diagram_check::validate::validate;
 use pool::SLOTS;
 use pool_build::place::place;
@@ -21,12 +20,15 @@ fn add_placed(table: &mut [u32], slots: &mut [u32], words: &[u32], slot: usize) 
     let places = table.len() / 3;
     let count = place(table, slots, words, slot);
     if places < count {
-        return refused(POOL_FULL);
+        return Err(Refused {
+            reason: Refusal::PoolFull,
+            place: 0,
+        });
     }
-    Verdict::Accepted {
+    Ok(Extent {
         nodes: count,
         vars: word(words, 0),
-    }
+    })
 }
 
 // There is a pool and the diagram is accepted: 33 to 36, or the condition is added.
@@ -35,13 +37,22 @@ fn add_accepted(table: &mut [u32], slots: &mut [u32], words: &[u32], slot: usize
     ensures { AddsTo table.old slots.old words.now slot table.new slots.new result }
 {
     if SLOTS <= slot {
-        return refused(NO_SUCH_SLOT);
+        return Err(Refused {
+            reason: Refusal::NoSuchSlot,
+            place: 0,
+        });
     }
     if word(slots, slot) != 0 {
-        return refused(WRONG_SLOT);
+        return Err(Refused {
+            reason: Refusal::WrongSlot,
+            place: 0,
+        });
     }
     if word(words, 0) != word(table, 0) {
-        return refused(OTHER_POOL);
+        return Err(Refused {
+            reason: Refusal::OtherPool,
+            place: 0,
+        });
     }
     add_placed(table, slots, words, slot)
 }
@@ -57,10 +68,7 @@ pub fn add_known(
     requires { is_pool table.old slots.old ≡ true }
     ensures { Adds table.old slots.old words.now slot table.new slots.new room.old room.new result }
 {
-    let verdict = validate(words, room);
-    let Verdict::Accepted { nodes: _, vars: _ } = verdict else {
-        return verdict;
-    };
+    validate(words, room)?;
     add_accepted(table, slots, words, slot)
 }
 
@@ -74,7 +82,10 @@ pub fn add(
     ensures { Adds table.old slots.old words.now slot table.new slots.new room.old room.new result }
 {
     if !is_pool(table, slots) {
-        return refused(NO_POOL);
+        return Err(Refused {
+            reason: Refusal::NoPool,
+            place: 0,
+        });
     }
     add_known(table, slots, words, slot, room)
 }

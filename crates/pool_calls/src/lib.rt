@@ -4,4 +4,4 @@
 pub mod add;
 pub mod drop;
 pub mod read;
-pub mod slot;
+mod slot;

@@ -1,11 +1,11 @@
 // Reading a condition: refusals 46, 33, 34, 5 and 4.
 ghost use Rattle.pool.specs.Answers.{Reads};
 
-use crate::slot::{live, refused};
+use crate::slot::live;
 use diagram::limits::ROOM_PER_NODE;
 use diagram::node::{BddPointer, word};
-use diagram::refusal::SHORT_ROOM;
-use diagram::verdict::Verdict;
+use diagram::refusal::Refusal;
+use diagram::verdict::{Extent, Refused, Verdict};
 use pool_build::fetch::fetch;
 
 pub fn read(
@@ -17,13 +17,13 @@ pub fn read(
 ) -> Verdict
     ensures { Reads table.now slots.now slot room.old room.new output.old output.new result }
 {
-    let verdict = live(table, slots, slot);
-    let Verdict::Accepted { nodes, vars } = verdict else {
-        return verdict;
-    };
+    let Extent { nodes, vars } = live(table, slots, slot)?;
     let all = ROOM_PER_NODE * nodes;
     if room.len() < all {
-        return refused(SHORT_ROOM);
+        return Err(Refused {
+            reason: Refusal::ShortRoom,
+            place: 0,
+        });
     }
     let root = BddPointer(word(slots, slot) - 1);
     fetch(table, &mut room[..all], output, nodes, root, vars)

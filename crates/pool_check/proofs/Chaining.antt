@@ -219,9 +219,6 @@ module _ {t m : List ℕ} {p : ℕ} (l : Linked t m p) (i : Inner t p) where
 
 module _ {t m : List ℕ} {p : ℕ} (l : Linked t m p) where
   module _ (i : Inner t p) {r : Bool} (e : r ≡ is_again t p) where
-    pub enter_there : r ≡ true → {m' : List ℕ} → Met t p (is_again t p) m' true
-    enter_there hit = record { says = sym hit ∙ e; linked = λ f. absurd (not_both true refl f) }
-
     pub enter_new : r ≡ false → {key last : ℕ} → key ≡ key_of (size t) (node_in t p) → last ≡ get_or m key 0
         → {m' : List ℕ} → m' ≡ set (set m (max_nodes + p) last) key p → Met t p (is_again t p) m' false
     enter_new miss is_key is_last set_to = record { says = sym miss ∙ e; linked = λ _. linked_add l i is_key is_last set_to }
@@ -231,9 +228,6 @@ module _ {t m : List ℕ} {p : ℕ} (l : Linked t m p) where
 
   pub meet_free : {b : Bool} → b ≡ is_free t p → b ≡ true → Met t p (not (is_free t p) && is_again t p) m false
   meet_free e hit = record { says = rw (← e, hit); linked = λ _. linked_pass l (sym e ∙ hit) }
-
-pub meet_node : {t : List ℕ} {p : ℕ} {b r : Bool} {m' : List ℕ} → b ≡ is_free t p → b ≡ false → Met t p (is_again t p) m' r → Met t p (not (is_free t p) && is_again t p) m' r
-meet_node e miss m = record { says = rw (← e, miss) m.says; linked = m.linked }
 
 pub inner_by : (t : List ℕ) (p : ℕ) {b : Bool} → 2 ≤ p → p < size t → b ≡ is_free t p → b ≡ false → Inner t p
 inner_by t p two inside e miss = record { after = two; inside = inside; used = used_told t p (sym e ∙ miss) }

@@ -55,9 +55,6 @@ pub named_on : (s m : List ℕ) (k : ℕ) {name at : ℕ} {m' : List ℕ} → Ma
 unfolding any
 named_on s m k a en ea e = rw (e, ea, en, add-one k) (name_marked (is_named s k) m (get_or s k 0) a)
 
-pub named_end : (s : List ℕ) (k : ℕ) {m : List ℕ} → Marks (is_named s k) m → k ≡ slot_count → Marks (is_named s slot_count) m
-named_end s k a e = rw e at a
-
 -- ---- links
 
 suc_same : (x p : ℕ) → eqb (suc x) (suc p) ≡ eqb x p

@@ -1,32 +1,19 @@
 -- The returns of the tests, by what led there.
-use Prim.Native.Nat.{ℕ, suc, ◌+◌, ◌-◌, ◌*◌, ◌%◌, ◌≤◌, ◌<◌}
+use Prim.Native.Nat.{ℕ, ◌-◌, ◌*◌, ◌%◌, ◌≤◌, ◌<◌}
 use mathlib.Core.Path.{◌≡◌, sym, ◌∙◌, ap}
 use mathlib.Core.Logic.{◌≢◌}
-use mathlib.Core.Bool.{Bool, true, false, not, ◌&&◌, and-true, and-false}
+use mathlib.Core.Bool.{Bool, true, false, not, and-true, and-false}
 use mathlib.Core.List.{List}
 use native.Mathlib.Omega.{arith}
-use native.Mathlib.Numerals.{add-one}
 use borrow.Author.Tests.{lt-ltb, le-ltb, le-leb, lt-leb, eq-eqb, ne_eqb, not-true, not-false}
-use lib.ListN.{length, get_or, set}
+use lib.ListN.{length, get_or}
 use lib.Dec.{leb, ltb, eqb}
 use Rattle.diagram.specs.Limits.{max_nodes, max_variables}
 use Rattle.diagram.specs.Diagram.{var_of, low_of, high_of, size, vars}
 use Rattle.diagram.specs.Verdict.{any, is_terminal, is_above}
 use Rattle.diagram.proofs.Count.{any_intro, Scanned}
-use Rattle.store.specs.Store.{node, same}
-use Rattle.store.specs.Room.{key_of}
 use Rattle.pool.specs.Pool.{slot_count, terminal_words, is_free, is_measured, is_ended, is_name, is_right, is_wanted, is_again, each_node, is_pool}
 use Rattle.pool.proofs.Testing.{any_none, measured_told}
-use Rattle.pool_check.specs.Marks.{is_bare}
-use Rattle.pool_check.specs.Chains.{node_in}
-
--- ---- two tests, the second made first
-
-pub second_fails : (a b : Bool) → b ≡ false → false ≡ (a && b)
-second_fails a b e = rw (e, and-false)
-
-pub second_holds : (a b : Bool) → b ≡ true → a ≡ (a && b)
-second_holds a b e = rw (e, and-true)
 
 -- ---- a free place
 
@@ -74,9 +61,6 @@ module _ (t s : List ℕ) where
 
   pub names_hit : (k : ℕ) {x : ℕ} {r : Bool} → k < slot_count → x ≡ get_or s k 0 → r ≡ is_name t x → not r ≡ true → false ≡ not (any slot_count isUnnamed)
   names_hit k l e n hit = sym (ap not (any_intro slot_count isUnnamed k l (unnamed_is k e n ∙ hit)))
-
-  pub names_miss : (k : ℕ) {x : ℕ} {r : Bool} → x ≡ get_or s k 0 → r ≡ is_name t x → not r ≡ false → isUnnamed k ≡ false
-  names_miss k e n miss = unnamed_is k e n ∙ miss
 
   pub names_end : (k : ℕ) → Scanned isUnnamed 0 k → slot_count ≤ k → true ≡ not (any slot_count isUnnamed)
   names_end k s all = sym (ap not (any_none slot_count isUnnamed (λ q l. s.none q (omega arith) (omega arith))))
@@ -182,34 +166,3 @@ module _ (t s : List ℕ) {measured : Bool} (e₁ : measured ≡ is_measured (le
           pub pool_6 : not wanted ≡ false → {distinct : Bool} → distinct ≡ each_node t (λ p. not (is_again t p)) → distinct ≡ is_pool t s
           unfolding is_pool
           pool_6 a e₆ = simp (← e₁, not-false measured a₁, ← e₂, not-false ended a₂, ← e₃, not-false names a₃, ← e₄, not-false right a₄, ← e₅, not-false wanted a, ← e₆)
-
--- ---- what is read and written at a place
-
-pub bare_is : (m : List ℕ) (p : ℕ) {at x : ℕ} → at ≡ p → x ≡ get_or m (at + 1) 0 → x ≡ get_or m (suc p) 0
-bare_is m p e r = rw (e, add-one p) at r
-
-pub bare_not : (m : List ℕ) (p : ℕ) {at x : ℕ} → at ≡ p → x ≡ get_or m (at + 1) 0 → x ≢ 0 → is_bare m p ≡ false
-bare_not m p e r ne = ne_eqb (get_or m (suc p) 0) 0 (λ z. ne (bare_is m p e r ∙ z))
-
-pub bare_yes : (m : List ℕ) (p : ℕ) {at x : ℕ} → at ≡ p → x ≡ get_or m (at + 1) 0 → x ≡ 0 → is_bare m p ≡ true
-bare_yes m p e r z = eq-eqb (get_or m (suc p) 0) 0 (sym (bare_is m p e r) ∙ z)
-
-pub mark_is : (m m' : List ℕ) (p : ℕ) {at : ℕ} → at ≡ p → m' ≡ set m (at + 1) 1 → m' ≡ set m (suc p) 1
-mark_is m m' p e w = rw (e, add-one p) at w
-
-pub children_are : (t m m₁ m₂ : List ℕ) (p : ℕ) {low high : ℕ} → low ≡ low_of t p → m₁ ≡ set m (suc low) 1 → high ≡ high_of t p → m₂ ≡ set m₁ (suc high) 1
-    → m₂ ≡ set (set m (suc (low_of t p)) 1) (suc (high_of t p)) 1
-children_are t m m₁ m₂ p l a h b = rw (b, a, h, l)
-
-pub link_is : (m m₁ m₂ : List ℕ) (p key last : ℕ) {at : ℕ} → at ≡ p → m₁ ≡ set m (max_nodes + at) last → m₂ ≡ set m₁ key p → m₂ ≡ set (set m (max_nodes + p) last) key p
-link_is m m₁ m₂ p key last e a b = rw (b, a, e)
-
-module _ (t : List ℕ) (p : ℕ) {var low high : ℕ} (v : var ≡ var_of t p) (l : low ≡ low_of t p) (h : high ≡ high_of t p) where
-  node_read : node var low high ≡ node_in t p
-  node_read = rw (v, l, h)
-
-  pub key_is : (r : ℕ) → r ≡ key_of (size t) (node var low high) → r ≡ key_of (size t) (node_in t p)
-  key_is r e = e ∙ ap (key_of (size t)) node_read
-
-  pub alike_is : (q : ℕ) {at : ℕ} {r : Bool} → at ≡ q → r ≡ same (node (get_or t (3 * at) 0) (get_or t (3 * at + 1) 0) (get_or t (3 * at + 2) 0)) (node var low high) → r ≡ same (node_in t q) (node_in t p)
-  alike_is q e is = is ∙ rw (e, node_read)

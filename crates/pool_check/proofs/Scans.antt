@@ -1,5 +1,5 @@
 -- A loop over all nodes that ends at the first which fails a test.
-use Prim.Native.Nat.{ℕ, ◌+◌, ◌≤◌, ◌<◌}
+use Prim.Native.Nat.{ℕ, ◌≤◌, ◌<◌}
 use mathlib.Core.Path.{◌≡◌, sym, ◌∙◌, ap}
 use mathlib.Core.Bool.{Bool, true, false, not, ◌&&◌}
 use mathlib.Core.List.{List}
@@ -8,7 +8,7 @@ use borrow.Author.Tests.{le-leb, leb-true}
 use lib.Dec.{leb}
 use Rattle.diagram.specs.Diagram.{size}
 use Rattle.diagram.proofs.Tests.{by_test, not_both}
-use Rattle.diagram.proofs.Count.{any_intro, Scanned, scan_start, scan_on}
+use Rattle.diagram.proofs.Count.{any_intro, Scanned}
 use Rattle.pool.specs.Pool.{is_free, each_node}
 use Rattle.pool.proofs.Testing.{any_none, fails, each_told, each_tells}
 
@@ -22,12 +22,6 @@ fault_is t test p r two e = rw (le-leb 2 p two) (sym e)
 pub each_hit : (t : List ℕ) (test : ℕ → Bool) (p : ℕ) {r : Bool} → 2 ≤ p → p < size t → r ≡ is_fault t test p → r ≡ true → false ≡ each_node t test
 unfolding each_node
 each_hit t test p {r} two l e hit = sym (ap not (any_intro (size t) (fails t test) p l (fault_is t test p r two e ∙ hit)))
-
-pub each_start : (t : List ℕ) (test : ℕ → Bool) → Scanned (fails t test) 2 2
-each_start t test = scan_start (fails t test) 2
-
-pub each_on : (t : List ℕ) (test : ℕ → Bool) (p : ℕ) {r : Bool} → Scanned (fails t test) 2 p → r ≡ is_fault t test p → r ≡ false → Scanned (fails t test) 2 (p + 1)
-each_on t test p {r} s e miss = scan_on (fails t test) 2 p s (fault_is t test p r s.from e ∙ miss)
 
 pub each_end : (t : List ℕ) (test : ℕ → Bool) (p : ℕ) → Scanned (fails t test) 2 p → size t ≤ p → true ≡ each_node t test
 unfolding each_node

@@ -93,12 +93,10 @@ fn distinct_in(table: &[u32], chains: &mut [u32]) -> bool
     ensures { result ≡ each_node table.now (λ p. not (is_again table.now p)) }
 {
     let places = table.len() / 3;
-    let mut p = 2;
-    while p < places {
+    for p in 2..places {
         if meet(table, chains, BddPointer(p as u32)) {
             return false;
         }
-        p += 1;
     }
     true
 }

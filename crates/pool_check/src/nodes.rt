@@ -44,12 +44,10 @@ fn is_name(table: &[u32], name: u32) -> bool
 pub(crate) fn are_names(table: &[u32], slots: &[u32]) -> bool
     ensures { result ≡ not (any slot_count (λ k. not (is_name table.now (get_or slots.now k 0)))) }
 {
-    let mut k = 0;
-    while k < SLOTS {
+    for k in 0..SLOTS {
         if !is_name(table, word(slots, k)) {
             return false;
         }
-        k += 1;
     }
     true
 }
@@ -92,12 +90,10 @@ pub(crate) fn are_right(table: &[u32]) -> bool
     ensures { result ≡ each_node table.now (is_right table.now) }
 {
     let places = table.len() / 3;
-    let mut p = 2;
-    while p < places {
+    for p in 2..places {
         if is_wrong(table, BddPointer(p as u32)) {
             return false;
         }
-        p += 1;
     }
     true
 }

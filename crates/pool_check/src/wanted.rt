@@ -20,11 +20,9 @@ fn mark_named(slots: &[u32], marks: &mut [u32])
     requires { Marks nowhere marks.old }
     ensures { Marks (is_named slots.now slot_count) marks.new }
 {
-    let mut k = 0;
-    while k < SLOTS {
+    for k in 0..SLOTS {
         let name = word(slots, k);
         put(marks, name as usize, 1);
-        k += 1;
     }
 }
 
@@ -48,10 +46,8 @@ fn mark_linked(table: &[u32], marks: &mut [u32])
     ensures { Links table.now marks.old marks.new }
 {
     let places = table.len() / 3;
-    let mut p = 2;
-    while p < places {
+    for p in 2..places {
         mark_children(table, marks, BddPointer(p as u32));
-        p += 1;
     }
 }
 
@@ -71,12 +67,10 @@ fn are_marked(table: &[u32], marks: &[u32]) -> bool
     ensures { result ≡ each_node table.now (λ p. not (is_bare marks.now p)) }
 {
     let places = table.len() / 3;
-    let mut p = 2;
-    while p < places {
+    for p in 2..places {
         if is_lost(table, marks, BddPointer(p as u32)) {
             return false;
         }
-        p += 1;
     }
     true
 }

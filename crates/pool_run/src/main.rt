@@ -64,13 +64,13 @@ fn say(text: &[u8], value: u64) {
 fn say_verdict(name: &[u8], verdict: Verdict) {
     io::write_all(STDOUT, name);
     match verdict {
-        Verdict::Accepted { nodes, vars } => {
-            say(b" accepted nodes ", nodes as u64);
-            say(b" vars ", vars as u64);
+        Ok(extent) => {
+            say(b" accepted nodes ", extent.nodes as u64);
+            say(b" vars ", extent.vars as u64);
         }
-        Verdict::Refused { number, place } => {
-            say(b" refused ", number as u64);
-            say(b" at ", place as u64);
+        Err(refused) => {
+            say(b" refused ", refused.reason.number() as u64);
+            say(b" at ", refused.place as u64);
         }
     }
 }
@@ -91,10 +91,8 @@ fn with_word(sum: u64, word: u32) -> u64
 
 fn sum_of(words: &[u32]) -> u64 {
     let mut sum: u64 = 0;
-    let mut i = 0;
-    while i < words.len() {
-        sum = with_word(sum, words[i]);
-        i += 1;
+    for word in words {
+        sum = with_word(sum, *word);
     }
     sum
 }
@@ -104,10 +102,8 @@ fn say_word(word: u32) {
 }
 
 fn list(words: &[u32]) {
-    let mut i = 0;
-    while i < words.len() {
-        say_word(words[i]);
-        i += 1;
+    for word in words {
+        say_word(*word);
     }
 }
 
@@ -128,13 +124,7 @@ fn say_pool(table: &[u32], slots: &[u32]) {
 
 // How many nodes were answered, none where it is refused.
 fn answered(verdict: Verdict) -> usize {
-    match verdict {
-        Verdict::Accepted { nodes, vars: _ } => nodes,
-        Verdict::Refused {
-            number: _,
-            place: _,
-        } => 0,
-    }
+    verdict.map_or(0, |extent| extent.nodes)
 }
 
 fn say_output(output: &[u32], nodes: usize) {
@@ -221,14 +211,11 @@ fn read_line(numbers: &[u32], table: &[u32], slots: &[u32], room: &mut [u32], ou
 // Writes the numbers but the first, which is the place for them.
 fn write(numbers: &[u32], to: &mut [u32]) {
     let from = word(numbers, 0) as usize;
-    let mut i = 1;
-    while i < numbers.len() {
+    for i in 1..numbers.len() {
         put(to, from + (i - 1), word(numbers, i));
-        i += 1;
     }
 }
 
-// The letters in their order: a, d, r, s, t, and any other for z.
 fn run_line(
     letter: u8,
     numbers: &[u32],
@@ -237,28 +224,18 @@ fn run_line(
     room: &mut [u32],
     output: &mut [u32],
 ) {
-    if letter == 97 {
-        add_line(numbers, table, slots, room);
-        return;
+    match letter {
+        b'a' => add_line(numbers, table, slots, room),
+        b'd' => drop_line(numbers, table, slots),
+        b'r' => read_line(numbers, table, slots, room, output),
+        b's' => write(numbers, slots),
+        b't' => write(numbers, table),
+        // z
+        _ => {
+            fill(table, word(numbers, 0));
+            fill(slots, word(numbers, 0));
+        }
     }
-    if letter == 100 {
-        drop_line(numbers, table, slots);
-        return;
-    }
-    if letter == 114 {
-        read_line(numbers, table, slots, room, output);
-        return;
-    }
-    if letter == 115 {
-        write(numbers, slots);
-        return;
-    }
-    if letter == 116 {
-        write(numbers, table);
-        return;
-    }
-    fill(table, word(numbers, 0));
-    fill(slots, word(numbers, 0));
 }
 
 // One line of the text; the place after it.

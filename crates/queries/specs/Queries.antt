@@ -1,8 +1,7 @@
 -- Small queries (document 01, port 4): what they answer on an accepted array.
 use Rattle.std.specs.Prelude.{ℕ, zero, suc, ◌≡◌, Bool, true, cond, ◌&&◌, List, [], ◌∷◌, ◌++◌, length, leb, ltb, eqb}
 use Rattle.diagram.specs.Diagram.{var_of, low_of, high_of, size, vars, root}
-use Rattle.diagram.specs.Verdict.{verdict_of, verdict_for, if_accepted, Checked, Answers}
-use Rattle.diagram.specs.declared.verdict.Verdict.{Verdict}
+use Rattle.diagram.specs.Verdict.{Verdict, verdict_of, verdict_for, if_accepted, Checked, Answers}
 use Rattle.diagram.specs.declared.verdict.Output.TheVariants.{Nothing, PerVariable}
 
 -- Where one link of a node goes to node 0, the other; where neither does, node 0, so that a walk ends there with a no.

@@ -13,13 +13,11 @@ fn list(words: &[u32], output: &mut [u32], nodes: usize, vars: BddVariable)
     ensures { output.new ≡ table (varsOf words.now) (nodes_at words.now) ++ drop (varsOf words.now) output.old }
 {
     clear(output, vars.0 as usize);
-    let mut node = BddPointer(2);
-    while node.to_index() < nodes {
-        let var = var_of(words, node);
+    for p in 2..nodes {
+        let var = var_of(words, BddPointer(p as u32));
         let at = var.0 as usize;
         let so_far = word(output, at);
         put(output, at, so_far + 1);
-        node = BddPointer(node.0 + 1);
     }
 }
 
@@ -27,10 +25,7 @@ fn list(words: &[u32], output: &mut [u32], nodes: usize, vars: BddVariable)
 pub fn size_per_variable(words: &[u32], room: &mut [u32], output: &mut [u32]) -> Verdict
     ensures { Lists words.now room.old room.new output.old output.new result }
 {
-    let verdict = admit(words, room, Output::PerVariable(output.len()));
-    let Verdict::Accepted { nodes, vars } = verdict else {
-        return verdict;
-    };
-    list(words, output, nodes, BddVariable(vars));
-    verdict
+    let extent = admit(words, room, Output::PerVariable(output.len()))?;
+    list(words, output, extent.nodes, BddVariable(extent.vars));
+    Ok(extent)
 }

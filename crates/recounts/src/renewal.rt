@@ -62,9 +62,7 @@ pub(crate) fn renew_all(
     requires { Passing words.now heads.now changed.old room.old nodes vars }
     ensures { Renewed words.now room.old changed.new room.new 0 0 }
 {
-    let mut c = vars;
-    while 0 < c {
-        level(words, heads, changed, room, nodes, c - 1);
-        c -= 1;
+    for c in (0..vars).rev() {
+        level(words, heads, changed, room, nodes, c);
     }
 }

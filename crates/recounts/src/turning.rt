@@ -22,9 +22,7 @@ pub fn turn(words: &[u32], room: &mut [u32], nodes: usize, vars: u32)
     requires { Turnable words.now room.old nodes vars }
     ensures { Turned words.now room.old room.new nodes }
 {
-    let mut p = 2;
-    while p < nodes {
+    for p in 2..nodes {
         turn_node(words, room, nodes, vars, BddPointer(p as u32));
-        p += 1;
     }
 }

@@ -5,10 +5,11 @@ use mathlib.Core.List.{List}
 use native.Mathlib.Omega.{arith}
 use lib.ListN.{length, get_or}
 use Rattle.diagram.specs.Diagram.{size, vars, Ordered}
-use Rattle.diagram.specs.Verdict.{most, verdict_for, Checked}
+use Rattle.diagram.specs.Verdict.{Verdict, most, verdict_for, Checked}
 use Rattle.diagram.specs.declared.verdict.Output.TheVariants.{Diagram}
-use Rattle.diagram.specs.declared.verdict.Verdict.{Verdict}
-use Rattle.diagram.specs.declared.verdict.Verdict.TheVariants.{Accepted, Refused}
+use Rattle.diagram.specs.declared.verdict.Extent.{Extent}
+use Rattle.diagram.specs.declared.verdict.Refused.{Refused}
+use Rattle.std.specs.Prelude.{Ok, Err}
 use Rattle.diagram.proofs.Entering.{refusal_is, verdict_is, admitted, ordered, lent_fits, lent_word, lent_enough, builds_refused, builds_accepted}
 use Rattle.store.specs.Room.{heads_from, store_to}
 use Rattle.reduction.specs.Reduce.{reduce}
@@ -34,15 +35,15 @@ zero_lends {w} o is_size is_vars long zero output = record {
 }
 
 module _ {w room room' : List ℕ} (out : List ℕ) {r : Verdict} (c : Checked w (Diagram (length out)) room room' r) where
-  pub reduce_refused : {k p : ℕ} → r ≡ Refused k p → Reduces w room room' out out r 0
-  reduce_refused e = builds_refused (verdict_for Diagram w) (reduce w) out c.left e (refusal_is c e)
+  pub reduce_refused : {x : Refused} → r ≡ Err x → Reduces w room room' out out (Err x) 0
+  reduce_refused e = builds_refused (verdict_for Diagram w) (reduce w) out c.left refl (refusal_is c e)
 
-  module _ {n v : ℕ} (e : r ≡ Accepted n v) where
-    pub reduce_asks : Lent w room' out n v
+  module _ {a : Extent} (e : r ≡ Ok a) where
+    pub reduce_asks : Lent w room' out a.nodes a.vars
     reduce_asks =
         let given = admitted c e in
         zero_lends (ordered c e) given.nodes given.variables (lent_fits c e (store_to (most w) (most w)) (omega arith))
         (lent_word c e (store_to (most w) (most w)) (omega arith)) (lent_enough w (length out) given.lent)
 
-    pub reduce_accepted : {room'' out' : List ℕ} {k : ℕ} → Answered w room' out room'' out' k → Reduces w room room'' out out' (Accepted n v) k
-    reduce_accepted a = builds_accepted (verdict_for Diagram w) (reduce w) out (a.room ∙ c.left) refl (verdict_is c e) a.count a.output
+    pub reduce_accepted : {room'' out' : List ℕ} {k : ℕ} → Answered w room' out room'' out' k → Reduces w room room'' out out' (Ok a) k
+    reduce_accepted b = builds_accepted (verdict_for Diagram w) (reduce w) out (b.room ∙ c.left) refl (verdict_is c e) b.count b.output

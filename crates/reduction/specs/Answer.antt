@@ -1,7 +1,6 @@
 -- What reduction promises for any words, output and working room.
 use Rattle.std.specs.Prelude.{ℕ, List}
-use Rattle.diagram.specs.Verdict.{verdict_for, Builds}
-use Rattle.diagram.specs.declared.verdict.Verdict.{Verdict}
+use Rattle.diagram.specs.Verdict.{Verdict, verdict_for, Builds}
 use Rattle.diagram.specs.declared.verdict.Output.TheVariants.{Diagram}
 use Rattle.reduction.specs.Reduce.{reduce}
 

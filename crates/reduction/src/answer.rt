@@ -17,11 +17,7 @@ pub fn copy(room: &[u32], from: usize, output: &mut [u32], count: usize)
     requires { (from + count ≤ length room.now) × (count ≤ length output.old) }
     ensures { Copied room.now from output.old output.new count }
 {
-    let mut i = 0;
-    while i < count {
-        output[i] = room[from + i];
-        i += 1;
-    }
+    output[..count].copy_from_slice(&room[from..from + count]);
 }
 
 // Builds the reduced diagram of an ordered array with at most `limit` nodes, and gives its number of nodes: one more than the

@@ -32,13 +32,13 @@ fn say(text: &[u8], value: u64) {
 
 fn say_verdict(verdict: Verdict) {
     match verdict {
-        Verdict::Accepted { nodes, vars } => {
-            say(b"accepted nodes ", nodes as u64);
-            say(b" vars ", vars as u64);
+        Ok(extent) => {
+            say(b"accepted nodes ", extent.nodes as u64);
+            say(b" vars ", extent.vars as u64);
         }
-        Verdict::Refused { number, place } => {
-            say(b"refused ", number as u64);
-            say(b" at ", place as u64);
+        Err(refused) => {
+            say(b"refused ", refused.reason.number() as u64);
+            say(b" at ", refused.place as u64);
         }
     }
 }
@@ -51,11 +51,8 @@ fn say_room(room: &[u32], word: u32) {
 
 fn say_words(words: &[u32], count: usize) {
     io::write_all(STDOUT, b", words");
-    let end = least(count, words.len());
-    let mut i = 0;
-    while i < end {
-        say(b" ", words[i] as u64);
-        i += 1;
+    for word in words.iter().take(count) {
+        say(b" ", *word as u64);
     }
 }
 
@@ -73,11 +70,11 @@ fn run_case(words: &[u32], output: &mut [u32], room: &mut [u32], filled: u32, ma
     fill(output, filled);
     fill(room, marked);
     let answer = reduce(words, room, output);
-    let verdict = answer.verdict;
-    say_verdict(verdict);
-    say(b", answer nodes ", answer.nodes as u64);
+    say_verdict(answer.map(|found| found.extent));
+    let nodes = answer.map_or(0, |found| found.value);
+    say(b", answer nodes ", nodes as u64);
     say_room(room, marked);
-    say_output(output, filled, answer.nodes);
+    say_output(output, filled, nodes);
 }
 
 // One line of the text; the place after it.

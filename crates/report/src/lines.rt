@@ -3,13 +3,15 @@ ghost use Rattle.std.specs.Prelude.{◌≡◌, ◌++◌, ◌≤◌, ◌<◌};
 ghost use Rattle.naturals.specs.Natural.{value};
 ghost use Rattle.diagram.specs.Limits.{max_nodes};
 ghost use Rattle.diagram.specs.Diagram.{size};
+ghost use Rattle.diagram.specs.Refusal.{number_of};
 ghost use Rattle.writing.specs.Writing.{Wrote};
 ghost use Rattle.text.specs.Digits.{decimal, hexadecimal};
 ghost use Rattle.report.specs.Report.{weight_in, refused_at, refusal, line, lines, head};
 
 use diagram::limits::MAX_NODES;
 use diagram::node::word;
-use naturals::{Natural, load};
+use diagram::verdict::Refused;
+use naturals::{Natural, load, zero};
 use text::print::{HEXADECIMAL, write_decimal, write_hexadecimal};
 use writing::{put, write};
 
@@ -41,7 +43,7 @@ pub(crate) fn write_count(out: &mut [u8], at: usize, label: &[u8], a: Natural) -
     write_hexadecimal(out, next, a)
 }
 
-// `refused 12 at 4`, without the line feed
+// `refused 12 at 4`, without the line feed. Any number: what no refusal has is written too (`write_numbered` of crates/messages).
 pub fn write_refused(out: &mut [u8], at: usize, number: u32, place: usize) -> usize
     ensures { Wrote (refused_at number place) out.old at out.new result }
 {
@@ -49,11 +51,11 @@ pub fn write_refused(out: &mut [u8], at: usize, number: u32, place: usize) -> us
     write_number(out, first, b" at ", place as u64)
 }
 
-pub(crate) fn write_refusal(out: &mut [u8], number: u32, place: usize) -> usize
-    ensures { Wrote (refusal number place) out.old 0 out.new result }
+pub(crate) fn write_refusal(out: &mut [u8], refused: Refused) -> usize
+    ensures { Wrote (refusal (number_of refused.reason) refused.place) out.old 0 out.new result }
 {
-    let next = write_refused(out, 0, number, place);
-    put(out, next, 10)
+    let next = write_refused(out, 0, refused.reason.number(), refused.place);
+    put(out, next, b'\n')
 }
 
 // The weight of a node in a table of weights.
@@ -61,8 +63,7 @@ fn weight_of(weights: &[u32], node: usize) -> Natural
     requires { node < 65536 }
     ensures { value result.words ≡ weight_in weights.now node }
 {
-    let found = load(weights, naturals::WORDS * node);
-    found.natural
+    load(weights, naturals::WORDS * node).unwrap_or(zero())
 }
 
 // `vars 3`, `nodes 5` and `count 5`
@@ -72,7 +73,7 @@ fn write_head(out: &mut [u8], words: &[u32], count: Natural) -> usize
     let vars = write_number(out, 0, b"vars ", word(words, 0) as u64);
     let nodes = write_number(out, vars, b"\nnodes ", (words.len() / 3) as u64);
     let counted = write_count(out, nodes, b"\ncount ", count);
-    put(out, counted, 10)
+    put(out, counted, b'\n')
 }
 
 // `node 2 var 2 weight 3`
@@ -83,7 +84,7 @@ fn write_node(out: &mut [u8], at: usize, words: &[u32], weights: &[u32], node: u
     let named = write_number(out, at, b"node ", node as u64);
     let tested = write_number(out, named, b" var ", word(words, 3 * node) as u64);
     let weighed = write_count(out, tested, b" weight ", weight_of(weights, node));
-    put(out, weighed, 10)
+    put(out, weighed, b'\n')
 }
 
 fn write_nodes(out: &mut [u8], at: usize, words: &[u32], weights: &[u32]) -> usize
@@ -92,10 +93,8 @@ fn write_nodes(out: &mut [u8], at: usize, words: &[u32], weights: &[u32]) -> usi
 {
     let nodes = words.len() / 3;
     let mut place = at;
-    let mut node = 0;
-    while node < nodes {
+    for node in 0..nodes {
         place = write_node(out, place, words, weights, node);
-        node += 1;
     }
     place
 }

@@ -4,9 +4,7 @@ ghost use Rattle.writing.specs.Writing.{Wrote};
 ghost use Rattle.report.specs.Report.{report_of, diagram_report, room_lent, weights_lent};
 
 use crate::lines::{write_lines, write_refusal};
-use blocks::stored::Stored;
 use diagram::limits::{MAX_NODES, MAX_WORDS, ROOM_PER_NODE};
-use diagram::verdict::Verdict;
 use forms::{Form, read_form};
 use node_weights::count_and_weights;
 
@@ -20,12 +18,9 @@ fn report_in(out: &mut [u8], words: &[u32], room: &mut [u32], weights: &mut [u32
     requires { (length room.old ≡ room_lent) × (length weights.old ≡ weights_lent) }
     ensures { Wrote (diagram_report words.now) out.old 0 out.new result }
 {
-    let both = count_and_weights(words, room, weights);
-    let verdict = both.verdict;
-    let count = both.count;
-    match verdict {
-        Verdict::Accepted { nodes: _, vars: _ } => write_lines(out, words, count, weights),
-        Verdict::Refused { number, place } => write_refusal(out, number, place),
+    match count_and_weights(words, room, weights) {
+        Ok(found) => write_lines(out, words, found.value, weights),
+        Err(refused) => write_refusal(out, refused),
     }
 }
 
@@ -43,9 +38,8 @@ pub fn report(out: &mut [u8], form: Form, bytes: &[u8]) -> usize
     ensures { Wrote (report_of form bytes.now) out.old 0 out.new result }
 {
     let mut words = [0u32; MAX_WORDS];
-    let stored = read_form(form, bytes, &mut words);
-    match stored {
-        Stored::Nodes(nodes) => report_diagram(out, &words[..3 * nodes]),
-        Stored::Refused { number, place } => write_refusal(out, number, place),
+    match read_form(form, bytes, &mut words) {
+        Ok(nodes) => report_diagram(out, &words[..3 * nodes]),
+        Err(refused) => write_refusal(out, refused),
     }
 }

@@ -1,51 +1,30 @@
 -- A request from its words.
 use Prim.Native.Nat.{ℕ, ◌-◌, ◌^◌}
-use mathlib.Core.Path.{◌≡◌, refl, sym, ap, ◌∙◌}
-use mathlib.Core.Bool.{Bool, true, false, cond}
+use mathlib.Core.Path.{◌≡◌, refl, sym}
+use mathlib.Core.Bool.{Bool, true, false, true≢false}
 use mathlib.Core.List.{List}
 use mathlib.Core.Logic.{◌≢◌}
 use borrow.Author.Tests.{eq-eqb, ne_eqb}
-use Rattle.naturals.specs.Natural.{value, limit, Answers, Holds}
-use Rattle.naturals.specs.declared.Fit.{Fit}
+use Rattle.naturals.specs.Natural.{limit, Answers}
+use Rattle.naturals.specs.declared.Natural.{Natural}
+use Rattle.std.specs.Prelude.{Option, Some, None}
 use Rattle.writing.specs.Writing.{bytes}
 use Rattle.text.specs.Digits.{Reading, number, none, parsed, is_number, number_of, Parses}
-use Rattle.request.specs.Request.{alike, Aim, nodes, cases, Meaning, help, unknown, which, cut, if_number, aimed, directed, request_of, is_nodes, form_of, words_of, aim_of, meant}
-use Rattle.forms.specs.declared.Form.{Form}
+use Rattle.request.specs.Request.{alike, nodes, cases, Meaning, help, unknown, which, cut, if_number, if_some, counts, aimed, directed, request_of, is_nodes, form_of, words_of}
 use Rattle.forms.specs.declared.Form.TheVariants.{Blocks, Nodes}
-use Rattle.request.specs.declared.Asked.TheVariants.{Help, Unknown, Which, Cut}
-use Rattle.request.specs.declared.Request.{Request}
-
--- ---- what is asked
-
-pub is_help : (r : Request) → r.asked ≡ Help → meant r ≡ help
-is_help r e = rw e
-
-pub is_unknown : (r : Request) → r.asked ≡ Unknown → meant r ≡ unknown
-is_unknown r e = rw e
-
-pub is_which : (r : Request) → r.asked ≡ Which → meant r ≡ which
-is_which r e = rw e
-
-pub is_cut : (r : Request) → r.asked ≡ Cut → meant r ≡ cut r.target.keep r.target.as_is (aim_of r.target)
-is_cut r e = rw e
 
 -- ---- a number that was read, or none
 
-if_is : (keep as_is : Bool) (aim : ℕ → Aim) (r : Reading) → cond (is_number r) (cut keep as_is (aim (cond (is_number r) (number_of r) 0))) unknown ≡ if_number keep as_is aim r
-if_is keep as_is aim (number n) = refl
-if_is keep as_is aim none = refl
+pub if_parsed : (keep as_is : Bool) (r : Reading) {o : Option ℕ} → Parses r o → if_some keep as_is nodes o ≡ if_number keep as_is nodes r
+if_parsed keep as_is (number n) p = rw p refl
+if_parsed keep as_is none p = rw p refl
 
-parsed_is : (keep as_is : Bool) (r : Reading) {valid : Bool} {n : ℕ} → Parses r valid n → cond valid (cut keep as_is (nodes n)) unknown ≡ if_number keep as_is nodes r
-parsed_is keep as_is (number n) p = rw (p.said, p.worth)
-parsed_is keep as_is none p = rw p.said
-
-pub if_parsed : (keep as_is : Bool) (text : List ℕ) {valid : Bool} {n : ℕ} → Parses (parsed 10 (2 ^ 32) text) valid n
-    → cond valid (cut keep as_is (nodes n)) unknown ≡ if_number keep as_is nodes (parsed 10 (2 ^ 32) text)
-if_parsed keep as_is text p = parsed_is keep as_is (parsed 10 (2 ^ 32) text) p
-
-pub if_answered : (keep as_is : Bool) (base : ℕ) (text : List ℕ) (fit : Fit) → Answers (is_number (parsed base limit text)) (number_of (parsed base limit text)) fit
-    → cond fit.fits (cut keep as_is (cases (value fit.natural.words))) unknown ≡ if_number keep as_is cases (parsed base limit text)
-if_answered keep as_is base text fit a = rw (a.said, a.holds.worth) (if_is keep as_is cases (parsed base limit text))
+pub if_answered : (keep as_is : Bool) (r : Reading) (o : Option Natural) → Answers (is_number r) (number_of r) o
+    → if_some keep as_is counts o ≡ if_number keep as_is cases r
+if_answered keep as_is (number n) (Some x) a = rw (a.holds x refl).worth
+if_answered keep as_is (number n) None a = absurd (true≢false (sym a.said))
+if_answered keep as_is none (Some x) a = absurd (true≢false a.said)
+if_answered keep as_is none None a = refl
 
 -- ---- the second word
 

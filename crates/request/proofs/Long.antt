@@ -2,13 +2,13 @@
 use Prim.Native.Nat.{ℕ, ◌-◌, ◌≤◌, ◌<◌, ◌^◌}
 use mathlib.Core.Path.{◌≡◌, refl, sym}
 use mathlib.Core.Bool.{Bool, true, false}
-use mathlib.Core.List.{List, [], ◌∷◌}
+use mathlib.Core.List.{List, []}
 use mathlib.Core.Logic.{◌≢◌}
 use native.Mathlib.Omega.{arith}
 use lib.ListN.{length}
 use Rattle.naturals.specs.Natural.{limit}
 use Rattle.writing.specs.Writing.{bytes}
-use Rattle.text.specs.Digits.{decimal_digits, hexadecimal_digits, decimal, hexadecimal, Reading, number, none, padded, parsed, Exactly}
+use Rattle.text.specs.Digits.{decimal, hexadecimal, Reading, number, none, padded, parsed, Exactly}
 use Rattle.text.proofs.Numerals.{decimal_length, hexadecimal_length, decimal_exactly, natural_exactly, hexadecimal_exactly}
 use Rattle.request.specs.Request.{alike, unknown, aimed, directed, request_of, form_of, words_of, weighable, word_buffer, Buffered}
 use Rattle.request.proofs.Alike.{unlike_lengths}

@@ -1,14 +1,16 @@
 -- The words of a request: which are taken, and what they mean. Words are lists of bytes.
-use Rattle.std.specs.Prelude.{ℕ, ◌-◌, ◌<◌, ◌^◌, ◌≡◌, Bool, true, false, cond, not, ◌&&◌, ◌||◌, List, [], ◌∷◌, length, eqb}
+use Rattle.std.specs.Prelude.{ℕ, ◌-◌, ◌<◌, ◌^◌, ◌≡◌, Bool, true, false, cond, not, ◌&&◌, ◌||◌, List, [], ◌∷◌, length, Option, Some, None, eqb}
 use Rattle.naturals.specs.Natural.{value, limit}
+use Rattle.naturals.specs.declared.Natural.{Natural}
 use Rattle.writing.specs.Writing.{bytes}
 use Rattle.text.specs.Digits.{decimal_digits, Reading, number, none, parsed}
 use Rattle.forms.specs.declared.Form.{Form}
 use Rattle.forms.specs.declared.Form.TheVariants.{Blocks, Nodes}
-use Rattle.request.specs.declared.Asked.{Asked}
-use Rattle.request.specs.declared.Asked.TheVariants.{Help, Unknown, Which, Cut}
+use Rattle.request.specs.declared.Amount.{Amount}
+use Rattle.request.specs.declared.Amount.TheVariants.{Nodes as NodesLeft, Cases as CasesLeft}
 use Rattle.request.specs.declared.Target.{Target}
 use Rattle.request.specs.declared.Request.{Request}
+use Rattle.request.specs.declared.Request.TheVariants.{Help, Unknown, Which, Cut}
 
 -- Equal byte by byte (`Alike-same` and `same_Alike` of proofs/Alike.antt).
 unfoldable pub alike : List ℕ → List ℕ → Bool
@@ -93,14 +95,23 @@ pub record Buffered : Type 0 where
 
 -- ---- the same as the code has it
 
-abbrev pub aim_of : Target → Aim
-aim_of t = cond t.counted (cases (value t.count.words)) (nodes t.size)
+abbrev pub aim_at : Amount → Aim
+aim_at (NodesLeft n) = nodes n
+aim_at (CasesLeft a) = cases (value a.words)
 
-abbrev pub comes : Asked → Target → Meaning
-comes Help t = help
-comes Unknown t = unknown
-comes Which t = which
-comes Cut t = cut t.keep t.as_is (aim_of t)
+abbrev pub aim_of : Target → Aim
+aim_of t = aim_at t.amount
+
+-- what is cut to, where there is a number
+abbrev pub if_some : {A : Type 0} → Bool → Bool → (A → Aim) → Option A → Meaning
+if_some keep as_is aim (Some x) = cut keep as_is (aim x)
+if_some keep as_is aim None = unknown
+
+abbrev pub counts : Natural → Aim
+counts a = cases (value a.words)
 
 abbrev pub meant : Request → Meaning
-meant r = comes r.asked r.target
+meant Help = help
+meant Unknown = unknown
+meant Which = which
+meant (Cut t) = cut t.keep t.as_is (aim_of t)

@@ -1,5 +1,5 @@
 // The form of the file that a request is about: `nodes` before the other words says a node file, and nothing else does.
-ghost use Rattle.std.specs.Prelude.{◌≡◌, ◌-◌};
+ghost use Rattle.std.specs.Prelude.{◌≡◌};
 ghost use Rattle.request.specs.Request.{meant, form_of, words_of, weighable};
 
 use crate::words::same;
@@ -15,15 +15,6 @@ pub fn form_of(first: &[u8]) -> Form
     Form::Blocks
 }
 
-fn fewer(count: usize) -> usize
-    ensures { result ≡ count - 1 }
-{
-    if count == 0 {
-        return 0;
-    }
-    count - 1
-}
-
 // All words of a request to shrink; `count` is how many there are. Behind `nodes` they mean what they mean without it.
 pub fn ask_words(
     count: usize,
@@ -36,7 +27,7 @@ pub fn ask_words(
     ensures { meant result ≡ words_of count first.now second.now third.now fourth.now fifth.now }
 {
     if same(first, b"nodes") {
-        return ask(fewer(count), second, third, fourth, fifth);
+        return ask(count.saturating_sub(1), second, third, fourth, fifth);
     }
     ask(count, first, second, third, fourth)
 }

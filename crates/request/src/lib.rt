@@ -5,94 +5,66 @@
 pub mod form;
 pub mod words;
 
-ghost use Rattle.std.specs.Prelude.{◌≡◌, cond};
-ghost use Rattle.naturals.specs.Natural.{value};
-ghost use Rattle.request.specs.Request.{nodes, cases, unknown, cut, meant, aimed, directed, request_of};
+ghost use Rattle.std.specs.Prelude.{◌≡◌};
+ghost use Rattle.request.specs.Request.{nodes, counts, if_some, meant, aimed, directed, request_of};
 
-use naturals::{Fit, Natural, zero};
-use text::parse::{Number, parse_decimal, parse_hexadecimal, parse_natural};
+use naturals::Natural;
+use text::parse::{parse_decimal, parse_hexadecimal, parse_natural};
 use text::print::DECIMAL;
 use words::same;
 
 // No word that is taken is longer, so a longer one may be read as an empty one (`word_buffer` and `Buffered` of specs/Request.antt).
 pub const WORD: usize = DECIMAL;
 
-// What the words come to. `Which` is for the word `count`, which does not say whether its number is decimal.
-#[derive(Clone, Copy)]
-pub enum Asked {
-    Help,
-    Unknown,
-    Which,
-    Cut,
+// How much is to be left: at most so many nodes, or so many cases.
+#[derive(Clone, Copy, Debug, PartialEq, Eq)]
+pub enum Amount {
+    Nodes(u32),
+    Cases(Natural),
 }
 
-// What to cut to: a number of cases where `counted`, else a number of nodes. There is no field that says to
-// underapproximate or to overapproximate: `keep` decides it. Where `as_is`, a diagram that meets the target already keeps its words.
-#[derive(Clone, Copy)]
+// What to cut to. There is no field that says to underapproximate or to overapproximate: `keep` decides it. Where `as_is`, a diagram that
+// meets the target already keeps its words.
+#[derive(Clone, Copy, Debug, PartialEq, Eq)]
 pub struct Target {
     pub keep: bool,
     pub as_is: bool,
-    pub counted: bool,
-    pub size: u32,
-    pub count: Natural,
+    pub amount: Amount,
 }
 
-#[derive(Clone, Copy)]
-pub struct Request {
-    pub asked: Asked,
-    pub target: Target,
+// What the words come to. `Which` is for the word `count`, which does not say whether its number is decimal.
+#[derive(Clone, Copy, Debug, PartialEq, Eq)]
+pub enum Request {
+    Help,
+    Unknown,
+    Which,
+    Cut(Target),
 }
 
-fn no_cut(asked: Asked) -> Request
-    ensures { result.asked ≡ asked }
+fn by_size(keep: bool, as_is: bool, read: Option<u32>) -> Request
+    ensures { meant result ≡ if_some keep as_is nodes read }
 {
-    let target = Target {
-        keep: false,
-        as_is: false,
-        counted: false,
-        size: 0,
-        count: zero(),
-    };
-    Request { asked, target }
-}
-
-fn by_size(keep: bool, as_is: bool, read: Number) -> Request
-    ensures { meant result ≡ cond read.valid (cut keep as_is (nodes read.value)) unknown }
-{
-    if !read.valid {
-        return no_cut(Asked::Unknown);
+    match read {
+        Some(size) => Request::Cut(Target {
+            keep,
+            as_is,
+            amount: Amount::Nodes(size),
+        }),
+        None => Request::Unknown,
     }
-    let target = Target {
+}
+
+fn by_count(keep: bool, as_is: bool, read: Option<Natural>) -> Request
+    ensures { meant result ≡ if_some keep as_is counts read }
+{
+    let Some(count) = read else {
+        return Request::Unknown;
+    };
+    Request::Cut(Target {
         keep,
         as_is,
-        counted: false,
-        size: read.value,
-        count: zero(),
-    };
-    Request {
-        asked: Asked::Cut,
-        target,
-    }
-}
-
-fn by_count(keep: bool, as_is: bool, read: Fit) -> Request
-    ensures { meant result ≡ cond read.fits (cut keep as_is (cases (value read.natural.words))) unknown }
-{
-    if !read.fits {
-        return no_cut(Asked::Unknown);
-    }
-    let count = read.natural;
-    let target = Target {
-        keep,
-        as_is,
-        counted: true,
-        size: 0,
-        count,
-    };
-    Request {
-        asked: Asked::Cut,
-        target,
-    }
+        amount: Amount::Cases(count),
+    })
 }
 
 // The second word says what the third counts, and in which base.
@@ -109,9 +81,9 @@ fn aim(keep: bool, as_is: bool, kind: &[u8], number: &[u8]) -> Request
         return by_count(keep, as_is, parse_hexadecimal(number));
     }
     if same(kind, b"count") {
-        return no_cut(Asked::Which);
+        return Request::Which;
     }
-    no_cut(Asked::Unknown)
+    Request::Unknown
 }
 
 // The first word says which way to cut.
@@ -124,7 +96,7 @@ fn direct(as_is: bool, direction: &[u8], kind: &[u8], number: &[u8]) -> Request
     if same(direction, b"suppress") {
         return aim(false, as_is, kind, number);
     }
-    no_cut(Asked::Unknown)
+    Request::Unknown
 }
 
 // The words but for `nodes`; `count` is how many there are.
@@ -132,16 +104,16 @@ pub fn ask(count: usize, direction: &[u8], kind: &[u8], number: &[u8], flag: &[u
     ensures { meant result ≡ request_of count direction.now kind.now number.now flag.now }
 {
     if count == 0 {
-        return no_cut(Asked::Help);
+        return Request::Help;
     }
     if count == 3 {
         return direct(false, direction, kind, number);
     }
     if count != 4 {
-        return no_cut(Asked::Unknown);
+        return Request::Unknown;
     }
     if same(flag, b"as-is") {
         return direct(true, direction, kind, number);
     }
-    no_cut(Asked::Unknown)
+    Request::Unknown
 }

@@ -15,7 +15,6 @@ use Rattle.setting_blocks.specs.Settings.{direction_at, kind_at, flag_at, target
 use Rattle.setting_blocks.specs.declared.setting.Setting.{Setting}
 use Rattle.setting_blocks.specs.declared.setting.SettingWritten.{SettingWritten}
 use Rattle.setting_blocks.proofs.Fields.{block_length}
-use Rattle.setting_blocks.proofs.Testing.{refused_38}
 
 -- ---- the fields of a block
 

@@ -1,6 +1,6 @@
 -- Words in bytes, as loops read and write them.
-use Prim.Native.Nat.{ℕ, zero, suc, ◌+◌, ◌-◌, ◌≤◌, ◌<◌}
-use mathlib.Core.Path.{◌≡◌, ◌∙◌}
+use Prim.Native.Nat.{ℕ, suc, ◌+◌, ◌-◌, ◌*◌, ◌≤◌, ◌<◌}
+use mathlib.Core.Path.{◌≡◌, ap, ◌∙◌}
 use mathlib.Core.List.{List, [], ◌∷◌, ◌++◌, append-nil}
 use native.Mathlib.Omega.{arith}
 use lib.ListN.{length, drop, get_or, drop_of_length-le}
@@ -27,15 +27,19 @@ wrote_all {t} {before} e w =
 
 -- ---- reading
 
+-- What is left once i of some words were read.
 module _ (s : List ℕ) where
-  pub words_next : (from left : ℕ) {a : ℕ} → 0 < left → a ≡ four s from → words_at s from left ≡ a ∷ words_at s (from + 4) (left - 1)
+  pub words_next : (first count i : ℕ) {a : ℕ} → i < count → a ≡ four s (first + 4 * i)
+      → words_at s (first + 4 * i) (count - i) ≡ a ∷ words_at s (first + 4 * (i + 1)) (count - (i + 1))
   unfolding words_at
-  words_next from zero h e = absurd (omega arith)
-  words_next from (suc k) h e = let f : suc k - 1 ≡ k = omega arith in rw (e, f)
+  words_next first count i h e =
+      let k : count - i ≡ suc (count - (i + 1)) = omega arith in
+      let f : first + 4 * i + 4 ≡ first + 4 * (i + 1) = omega arith in
+      rw (k, e) (ap (λ (at : ℕ). four s (first + 4 * i) ∷ words_at s at (count - (i + 1))) f)
 
-  pub words_none : (from left : ℕ) → left ≤ 0 → words_at s from left ≡ []
+  pub words_none : (first count i : ℕ) → count ≤ i → words_at s first (count - i) ≡ []
   unfolding words_at
-  words_none from left h = let e : left ≡ 0 = omega arith in rw e
+  words_none first count i h = let e : count - i ≡ 0 = omega arith in rw e
 
 -- ---- writing
 

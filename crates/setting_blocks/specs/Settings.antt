@@ -1,8 +1,11 @@
 -- Evening settings: what is stored beside a condition, in a block of 512 bytes (document 02, E9; the layout is docs/SETTINGS.md's).
 -- `s` is a list of bytes, `x` a setting, `reader` the newest version that a reader knows.
-use Rattle.std.specs.Prelude.{ℕ, zero, suc, ◌+◌, ◌-◌, ◌*◌, ◌<◌, ◌^◌, ◌≡◌, Bool, cond, not, ◌&&◌, List, [], ◌∷◌, ◌++◌, length, get_or, take, drop, replicate, leb, ltb, eqb}
+use Rattle.std.specs.Prelude.{Result, Ok, Err, ℕ, zero, suc, ◌+◌, ◌-◌, ◌*◌, ◌^◌, ◌≡◌, Bool, cond, not, ◌&&◌, List, [], ◌∷◌, ◌++◌, length, get_or, take, drop, replicate, leb, ltb, eqb}
 use Rattle.naturals.specs.Natural.{value, limit}
 use Rattle.blocks.specs.Block.{block_bytes, summed, four_bytes, four, total, sealed, sums_right}
+use Rattle.diagram.specs.Refusal.{number_of}
+use Rattle.diagram.specs.declared.verdict.Refused.{Refused}
+use Rattle.setting_blocks.specs.declared.setting.Kept.{Kept}
 use Rattle.setting_blocks.specs.declared.setting.Setting.{Setting}
 use Rattle.setting_blocks.specs.declared.setting.SettingRead.{SettingRead}
 use Rattle.setting_blocks.specs.declared.setting.SettingWritten.{SettingWritten}
@@ -96,6 +99,11 @@ pub data Outcome : Type 0 where
 unfoldable pub row : ℕ → Bool → Outcome → Outcome
 row number test below = cond test (refused number 0) below
 
+-- what the readers answer
+abbrev pub said : Result Kept Refused → Outcome
+said (Ok k) = kept k.version k.setting
+said (Err e) = refused (number_of e.reason) e.place
+
 -- the tests of a reader in their order
 unfoldable pub read_by : ℕ → List ℕ → Outcome
 read_by reader s =
@@ -114,7 +122,7 @@ write_by version x lent =
     (row 4 (ltb lent block_bytes)
     (kept version x)))
 
--- ---- the same as the code says it: number 0 with what was read, or a refusal that shows nothing
+-- ---- the same as C has it: number 0 with what was read, or a refusal that shows nothing
 
 abbrev pub blank : Setting
 blank = record { direction = 0; kind = 0; as_is = 0; target = replicate target_words 0 }
@@ -126,6 +134,11 @@ shown (refused number place) = record { number = number; place = place; version 
 abbrev pub told : Outcome → SettingWritten
 told (kept version x) = record { number = 0; place = 0; bytes = block_bytes }
 told (refused number place) = record { number = number; place = place; bytes = 0 }
+
+-- the writer's answer, the bytes that it wrote, likewise
+abbrev pub laid : Result ℕ Refused → SettingWritten
+laid (Ok n) = record { number = 0; place = 0; bytes = n }
+laid (Err e) = record { number = number_of e.reason; place = e.place; bytes = 0 }
 
 -- the output after it: the block, and as it was beyond it; after a refusal as it was
 abbrev pub left : Outcome → List ℕ → List ℕ

@@ -20,9 +20,3 @@ pub const UNUSED: usize = SUMMED - FIELDS_END;
 
 // The largest size that is stored.
 pub const LARGEST_SIZE: u32 = 4294967295;
-
-// The version is not known.
-pub const UNKNOWN_VERSION: u32 = 38;
-
-// A field is out of its range.
-pub const OUT_OF_RANGE: u32 = 39;

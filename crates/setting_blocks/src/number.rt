@@ -6,7 +6,7 @@ ghost use Rattle.setting_blocks.specs.Settings.{target_at, target_words, words_a
 
 use crate::layout::{TARGET, TARGET_WORDS};
 use blocks::fields::{get_four, put_four};
-use writing::put_word;
+use writing::put;
 
 // So many words, from a place on.
 fn get_words(bytes: &[u8], first: usize, count: usize, output: &mut [u32]) -> usize
@@ -14,12 +14,8 @@ fn get_words(bytes: &[u8], first: usize, count: usize, output: &mut [u32]) -> us
     ensures { Wrote (words_at bytes.now first count) output.old 0 output.new result }
 {
     let mut place = 0;
-    let mut from = first;
-    let mut left = count;
-    while 0 < left {
-        place = put_word(output, place, get_four(bytes, from));
-        from += 4;
-        left -= 1;
+    for i in 0..count {
+        place = put(output, place, get_four(bytes, first + 4 * i));
     }
     place
 }
@@ -36,10 +32,8 @@ pub(crate) fn put_words(out: &mut [u8], at: usize, words: &[u32]) -> usize
     ensures { Wrote (words_bytes words.now) out.old at out.new result }
 {
     let mut place = at;
-    let mut i = 0;
-    while i < words.len() {
-        place = put_four(out, place, words[i]);
-        i += 1;
+    for word in words {
+        place = put_four(out, place, *word);
     }
     place
 }

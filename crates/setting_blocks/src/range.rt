@@ -5,7 +5,7 @@ ghost use Rattle.setting_blocks.specs.Settings.{known, flag_span, fits, right};
 
 use crate::layout::{LARGEST_SIZE, TARGET_WORDS};
 use crate::setting::Setting;
-use naturals::{Natural, at_most, from_word};
+use naturals::{Natural, at_most};
 
 // `reader` is the newest version that is known.
 pub(crate) fn is_known(reader: u32, version: u32) -> bool
@@ -34,7 +34,7 @@ fn target_fits(kind: u32, target: [u32; TARGET_WORDS]) -> bool
     if kind != 0 {
         return true;
     }
-    at_most(Natural { words: target }, from_word(LARGEST_SIZE))
+    at_most(Natural { words: target }, Natural::from(LARGEST_SIZE))
 }
 
 pub(crate) fn is_right(version: u32, setting: Setting) -> bool

@@ -1,17 +1,17 @@
 // The readers: today's, and that of version 1, which refuses what came later.
 ghost use Rattle.std.specs.Prelude.{◌≡◌, ◌≤◌, eqb, length};
+ghost use Rattle.diagram.specs.Refusal.{number_of};
 ghost use Rattle.blocks.specs.Block.{block_bytes, total};
-ghost use Rattle.setting_blocks.specs.Settings.{version_in, flag_in, setting_in, unused_flag, unused_in, read_by, shown, newest};
+ghost use Rattle.setting_blocks.specs.Settings.{version_in, flag_in, setting_in, unused_flag, unused_in, read_by, said, shown, newest};
 
-use crate::layout::{
-    DIRECTION, FIELDS_END, FLAG, KIND, NEWEST, OUT_OF_RANGE, TARGET_WORDS, UNKNOWN_VERSION,
-};
+use crate::layout::{DIRECTION, FIELDS_END, FLAG, KIND, NEWEST};
 use crate::number::target_in;
 use crate::range::{is_known, is_right};
-use crate::setting::{Setting, SettingRead};
+use crate::setting::{Kept, Setting, SettingRead};
 use blocks::layout::{BLOCK, SUMMED};
-use blocks::stored::{SHORT_BLOCK, UNUSED_BYTES, WRONG_SUM};
 use blocks::sums::{sum, sums_right};
+use diagram::refusal::Refusal;
+use diagram::verdict::Refused;
 
 // In version 1 the flag is off, and its byte is unused.
 fn flag_in(block: &[u8]) -> u32
@@ -57,65 +57,55 @@ fn unused_zero(block: &[u8]) -> bool
     sum(&block[FIELDS_END..SUMMED]) == 0
 }
 
-// Nothing of a block is shown with a refusal.
-fn refused(number: u32) -> SettingRead
-    ensures { result ≡ shown (Rattle.setting_blocks.specs.Settings.refused number 0) }
+fn refused(reason: Refusal) -> Result<Kept, Refused>
+    ensures { said result ≡ Rattle.setting_blocks.specs.Settings.refused (number_of reason) 0 }
 {
-    let setting = Setting {
-        direction: 0,
-        kind: 0,
-        as_is: 0,
-        target: [0; TARGET_WORDS],
-    };
-    SettingRead {
-        number,
-        place: 0,
-        version: 0,
-        setting,
-    }
+    Err(Refused { reason, place: 0 })
 }
 
 // The tests in their order; `reader` is the newest version that is taken.
-fn read_by(reader: u32, block: &[u8]) -> SettingRead
-    ensures { result ≡ shown (read_by reader block.now) }
+fn read_by(reader: u32, block: &[u8]) -> Result<Kept, Refused>
+    ensures { said result ≡ read_by reader block.now }
 {
     if block.len() != BLOCK {
-        return refused(SHORT_BLOCK);
+        return refused(Refusal::ShortBlock);
     }
     if !sums_right(block) {
-        return refused(WRONG_SUM);
+        return refused(Refusal::WrongSum);
     }
     let version = block[0] as u32;
     if !is_known(reader, version) {
-        return refused(UNKNOWN_VERSION);
+        return refused(Refusal::UnknownVersion);
     }
     let setting = setting_in(block);
     let right = is_right(version, setting);
     let clean = unused_zero(block);
     if !right {
-        return refused(OUT_OF_RANGE);
+        return refused(Refusal::OutOfRange);
     }
     if !clean {
-        return refused(UNUSED_BYTES);
+        return refused(Refusal::UnusedBytes);
     }
-    SettingRead {
-        number: 0,
-        place: 0,
-        version,
-        setting,
-    }
+    Ok(Kept { version, setting })
 }
 
-// A block of version 1 has the flag off.
+// What a block of any version keeps; version 1 has the flag off.
+pub fn kept_in(block: &[u8]) -> Result<Kept, Refused>
+    ensures { said result ≡ read_by newest block.now }
+{
+    read_by(NEWEST, block)
+}
+
+// The same as C has it.
 pub fn read_settings(block: &[u8]) -> SettingRead
     ensures { result ≡ shown (read_by newest block.now) }
 {
-    read_by(NEWEST, block)
+    SettingRead::from(kept_in(block))
 }
 
 // For what knows of no flag: a setting of a later version is never shown.
 pub fn read_settings_v1(block: &[u8]) -> SettingRead
     ensures { result ≡ shown (read_by 1 block.now) }
 {
-    read_by(1, block)
+    SettingRead::from(read_by(1, block))
 }

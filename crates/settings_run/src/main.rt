@@ -9,7 +9,7 @@
 ghost use Rattle.std.specs.Prelude.{◌≤◌, ◌<◌, length};
 
 use blocks::layout::BLOCK;
-use cases::{least, number, words_of};
+use cases::{number, words_of};
 use diagram::node::word;
 use setting_blocks::layout::TARGET_WORDS;
 use setting_blocks::read::{read_settings, read_settings_v1};
@@ -41,12 +41,10 @@ fn say_change(last: u64, at: usize, value: u64) {
 
 fn say_words(words: &[u32]) {
     let mut last = 0;
-    let mut i = 0;
-    while i < words.len() {
-        let value = word(words, i) as u64;
+    for (i, word) in words.iter().enumerate() {
+        let value = u64::from(*word);
         say_change(last, i, value);
         last = value;
-        i += 1;
     }
     say(b" of ", words.len() as u64);
     io::write_all(STDOUT, b"\n");
@@ -54,12 +52,10 @@ fn say_words(words: &[u32]) {
 
 fn say_bytes(bytes: &[u8]) {
     let mut last = 0;
-    let mut i = 0;
-    while i < bytes.len() {
-        let value = bytes[i] as u64;
+    for (i, byte) in bytes.iter().enumerate() {
+        let value = u64::from(*byte);
         say_change(last, i, value);
         last = value;
-        i += 1;
     }
     say(b" of ", bytes.len() as u64);
     io::write_all(STDOUT, b"\n");
@@ -87,29 +83,19 @@ fn say_written(written: SettingWritten) {
     say(b" ", written.bytes as u64);
 }
 
-fn fill_bytes(bytes: &mut [u8], byte: u8) {
-    let mut i = 0;
-    while i < bytes.len() {
-        bytes[i] = byte;
-        i += 1;
-    }
-}
-
 // The words from a place on, and zeros where there are none.
 fn target_of(words: &[u32], from: usize) -> [u32; TARGET_WORDS]
     requires { from ≤ 128 }
 {
     let mut target = [0u32; TARGET_WORDS];
-    let mut i = 0;
-    while i < TARGET_WORDS {
+    for i in 0..TARGET_WORDS {
         target[i] = word(words, from + i);
-        i += 1;
     }
     target
 }
 
 fn write_to(output: &mut [u8], version: u32, setting: Setting, filling: u32) {
-    fill_bytes(output, (filling % 256) as u8);
+    output.fill((filling % 256) as u8);
     let written = write_settings(version, setting, output);
     say_written(written);
     say_bytes(output);
@@ -133,7 +119,7 @@ fn setting_of(words: &[u32], from: usize) -> Setting
 
 fn write_case(words: &[u32]) {
     let mut output = blank_bytes();
-    let end = least(word(words, 4) as usize, LENT);
+    let end = (word(words, 4) as usize).min(LENT);
     write_to(
         &mut output[0..end],
         word(words, 0),
@@ -150,10 +136,8 @@ fn put_byte(bytes: &mut [u8], at: usize, byte: u32) {
 
 // Each place gets its byte, where there is such a place.
 fn put_bytes(bytes: &mut [u8], pairs: &[u32]) {
-    let mut i = 0;
-    while i < pairs.len() {
-        put_byte(bytes, word(pairs, i) as usize, word(pairs, i + 1));
-        i += 2;
+    for pair in pairs.chunks(2) {
+        put_byte(bytes, word(pair, 0) as usize, word(pair, 1));
     }
 }
 
@@ -168,7 +152,7 @@ fn read_case(words: &[u32]) {
         return;
     }
     let mut bytes = blank_bytes();
-    let end = least(word(words, 0) as usize, LENT);
+    let end = (word(words, 0) as usize).min(LENT);
     read_from(&mut bytes[0..end], &words[1..]);
 }
 

@@ -3,8 +3,7 @@
 use Rattle.std.specs.Prelude.{ℕ, ◌*◌, ◌≡◌, Bool, true, false, List, [], ◌++◌, length, take, drop}
 use Rattle.diagram.specs.Diagram.{size}
 use Rattle.diagram.specs.Valuations.{count_of}
-use Rattle.diagram.specs.Verdict.{Outcome, accepted, refused as rejected}
-use Rattle.diagram.specs.declared.verdict.Verdict.{Verdict}
+use Rattle.diagram.specs.Verdict.{Verdict, Outcome, accepted, refused as rejected}
 use Rattle.approximation.specs.Search.{Answer}
 use Rattle.approximation.specs.Met.{under_size_answer, over_size_answer, under_count_answer, over_count_answer}
 use Rattle.targets.specs.Targets.{under_size_verdict, over_size_verdict, under_count_verdict, over_count_verdict, Meets}

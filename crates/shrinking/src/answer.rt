@@ -7,29 +7,27 @@ use crate::Ends;
 use crate::job::shrink;
 use forms::Form;
 use messages::words::{write_help, write_unknown, write_which};
+use request::Request;
 use request::form::{ask_words, form_of};
-use request::{Asked, Request};
 
 // Only a cut writes bytes of a file.
 fn obey(form: Form, request: Request, bytes: &[u8], file: &mut [u8], text: &mut [u8]) -> Ends
     ensures { Shrinks (done form (meant request) bytes.now (length file.old)) file.old file.new text.old text.new result.file result.text }
 {
-    let asked = request.asked;
-    let target = request.target;
-    match asked {
-        Asked::Help => {
+    match request {
+        Request::Help => {
             let end = write_help(text);
             Ends { file: 0, text: end }
         }
-        Asked::Unknown => {
+        Request::Unknown => {
             let end = write_unknown(text);
             Ends { file: 0, text: end }
         }
-        Asked::Which => {
+        Request::Which => {
             let end = write_which(text);
             Ends { file: 0, text: end }
         }
-        Asked::Cut => shrink(form, bytes, target, file, text),
+        Request::Cut(target) => shrink(form, bytes, target, file, text),
     }
 }
 
@@ -44,13 +42,11 @@ pub fn wants_input(
 ) -> bool
     ensures { result ≡ looks (words_of count first.now second.now third.now fourth.now fifth.now) }
 {
-    let request = ask_words(count, first, second, third, fourth, fifth);
-    let asked = request.asked;
-    match asked {
-        Asked::Cut => true,
-        Asked::Help => false,
-        Asked::Unknown => false,
-        Asked::Which => false,
+    match ask_words(count, first, second, third, fourth, fifth) {
+        Request::Cut(_) => true,
+        Request::Help => false,
+        Request::Unknown => false,
+        Request::Which => false,
     }
 }
 

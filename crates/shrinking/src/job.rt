@@ -2,6 +2,7 @@
 ghost use Rattle.std.specs.Prelude.{◌≡◌, ◌≤◌, length};
 ghost use Rattle.diagram.specs.Limits.{max_words};
 ghost use Rattle.diagram.specs.Diagram.{Accepted};
+ghost use Rattle.diagram.specs.Refusal.{number_of};
 ghost use Rattle.writing.specs.Writing.{Wrote};
 ghost use Rattle.report.specs.Report.{room_lent};
 ghost use Rattle.request.specs.Request.{cut, aim_of};
@@ -11,9 +12,8 @@ ghost use Rattle.shrinking.specs.Shrinking.{storing, diagram_done, done, Shrinks
 use crate::Ends;
 use crate::summary::write_summary;
 use crate::wanted::shrink_words;
-use blocks::stored::Stored;
 use diagram::limits::{MAX_NODES, MAX_WORDS, ROOM_PER_NODE};
-use diagram::verdict::Verdict;
+use diagram::verdict::Refused;
 use forms::{Form, file_bytes, read_form, write_form};
 use messages::refusal::write_refusal;
 use request::Target;
@@ -21,10 +21,10 @@ use request::Target;
 // Words of the room to cut the most nodes: two megabytes, and so there is one, which serves the counts of the summary too.
 const ROOM: usize = ROOM_PER_NODE * MAX_NODES;
 
-fn refuse(text: &mut [u8], number: u32, place: usize) -> Ends
-    ensures { (result.file ≡ 0) × Wrote (refusal_text number place) text.old 0 text.new result.text }
+fn refuse(text: &mut [u8], refused: Refused) -> Ends
+    ensures { (result.file ≡ 0) × Wrote (refusal_text (number_of refused.reason) refused.place) text.old 0 text.new result.text }
 {
-    let end = write_refusal(text, 0, number, place);
+    let end = write_refusal(text, 0, refused);
     Ends { file: 0, text: end }
 }
 
@@ -42,9 +42,8 @@ fn hand_out(
     requires { Accepted words.now × Accepted answer.now × (room_lent ≤ length room.old) }
     ensures { Shrinks (storing form target.keep (aim_of target) words.now answer.now trials (length file.old)) file.old file.new text.old text.new result.file result.text }
 {
-    let stored = write_form(form, answer, file);
-    match stored {
-        Stored::Nodes(nodes) => {
+    match write_form(form, answer, file) {
+        Ok(nodes) => {
             let length = file_bytes(form, nodes);
             let end = write_summary(text, target, words, answer, trials, room);
             Ends {
@@ -52,7 +51,7 @@ fn hand_out(
                 text: end,
             }
         }
-        Stored::Refused { number, place } => refuse(text, number, place),
+        Err(refused) => refuse(text, refused),
     }
 }
 
@@ -69,20 +68,18 @@ fn shrink_in(
     requires { (length room.old ≡ room_lent) × (length output.old ≡ max_words) }
     ensures { Shrinks (diagram_done form target.keep target.as_is (aim_of target) words.now (length file.old)) file.old file.new text.old text.new result.file result.text }
 {
-    let cut = shrink_words(words, target, room, output);
-    let verdict = cut.verdict;
-    match verdict {
-        Verdict::Accepted { nodes: _, vars: _ } => hand_out(
+    match shrink_words(words, target, room, output) {
+        Ok(found) => hand_out(
             form,
             words,
-            &output[..3 * cut.nodes],
+            &output[..3 * found.value.nodes],
             target,
-            cut.trials,
+            found.value.trials,
             room,
             file,
             text,
         ),
-        Verdict::Refused { number, place } => refuse(text, number, place),
+        Err(refused) => refuse(text, refused),
     }
 }
 
@@ -106,9 +103,8 @@ pub fn shrink(form: Form, bytes: &[u8], target: Target, file: &mut [u8], text: &
     ensures { Shrinks (done form (cut target.keep target.as_is (aim_of target)) bytes.now (length file.old)) file.old file.new text.old text.new result.file result.text }
 {
     let mut words = [0u32; MAX_WORDS];
-    let stored = read_form(form, bytes, &mut words);
-    match stored {
-        Stored::Nodes(nodes) => shrink_diagram(form, &words[..3 * nodes], target, file, text),
-        Stored::Refused { number, place } => refuse(text, number, place),
+    match read_form(form, bytes, &mut words) {
+        Ok(nodes) => shrink_diagram(form, &words[..3 * nodes], target, file, text),
+        Err(refused) => refuse(text, refused),
     }
 }

@@ -18,8 +18,7 @@ fn count_of(words: &[u32], room: &mut [u32]) -> Natural
     requires { Accepted words.now × (room_lent ≤ length room.old) }
     ensures { value result.words ≡ count_of words.now }
 {
-    let counted = exact_cardinality(words, room);
-    counted.count
+    exact_cardinality(words, room).unwrap().value
 }
 
 fn write_middle(

@@ -1,11 +1,13 @@
 // The one cut that a request means.
 ghost use Rattle.naturals.specs.Natural.{value};
 ghost use Rattle.request.specs.Request.{nodes, cases, aim_of};
+ghost use Rattle.diagram.specs.Verdict.{verdict_in};
+ghost use Rattle.targets.specs.Targets.{nodes_in, trials_in};
 ghost use Rattle.shrinking.specs.Shrinking.{Wants};
 
 use count_targets::count::{overapproximate_to_cardinality, underapproximate_to_cardinality};
 use naturals::Natural;
-use request::Target;
+use request::{Amount, Target};
 use targets::Approximated;
 use targets::size::{overapproximate_to_size, underapproximate_to_size};
 
@@ -17,7 +19,7 @@ fn to_size(
     room: &mut [u32],
     output: &mut [u32],
 ) -> Approximated
-    ensures { Wants words.now keep as_is (nodes target) room.old room.new output.old output.new result.verdict result.nodes result.trials }
+    ensures { Wants words.now keep as_is (nodes target) room.old room.new output.old output.new (verdict_in result) (nodes_in result) (trials_in result) }
 {
     if keep {
         return overapproximate_to_size(words, target, as_is, room, output);
@@ -33,7 +35,7 @@ fn to_count(
     room: &mut [u32],
     output: &mut [u32],
 ) -> Approximated
-    ensures { Wants words.now keep as_is (cases (value target.words)) room.old room.new output.old output.new result.verdict result.nodes result.trials }
+    ensures { Wants words.now keep as_is (cases (value target.words)) room.old room.new output.old output.new (verdict_in result) (nodes_in result) (trials_in result) }
 {
     if keep {
         return overapproximate_to_cardinality(words, target, as_is, room, output);
@@ -47,11 +49,10 @@ pub(crate) fn shrink_words(
     room: &mut [u32],
     output: &mut [u32],
 ) -> Approximated
-    ensures { Wants words.now target.keep target.as_is (aim_of target) room.old room.new output.old output.new result.verdict result.nodes result.trials }
+    ensures { Wants words.now target.keep target.as_is (aim_of target) room.old room.new output.old output.new (verdict_in result) (nodes_in result) (trials_in result) }
 {
-    let count = target.count;
-    if target.counted {
-        return to_count(words, target.keep, target.as_is, count, room, output);
+    match target.amount {
+        Amount::Nodes(size) => to_size(words, target.keep, target.as_is, size, room, output),
+        Amount::Cases(count) => to_count(words, target.keep, target.as_is, count, room, output),
     }
-    to_size(words, target.keep, target.as_is, target.size, room, output)
 }

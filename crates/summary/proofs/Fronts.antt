@@ -12,8 +12,7 @@ use lib.ListN.{length, take, drop}
 use lib.Seq.{length-take-le, take-take}
 use Rattle.diagram.specs.Limits.{max_variables}
 use Rattle.diagram.specs.Diagram.{size, vars}
-use Rattle.diagram.specs.Verdict.{Outcome, accepted, refused, said, row, if_accepted}
-use Rattle.diagram.specs.declared.verdict.Verdict.{Verdict}
+use Rattle.diagram.specs.Verdict.{Verdict, Outcome, accepted, refused, said, row, if_accepted}
 use Rattle.diagram.proofs.Outcomes.{same_counts, never_both}
 use Rattle.pool.specs.Answers.{with_added, with_dropped, add_of, live_of, drop_of}
 use Rattle.pool.proofs.Tables.{table_vars}

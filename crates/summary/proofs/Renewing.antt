@@ -3,8 +3,7 @@ use Prim.Native.Nat.{ℕ}
 use mathlib.Core.Path.{◌≡◌, sym, ap, ◌∙◌}
 use mathlib.Core.List.{List}
 use lib.ListN.{length}
-use Rattle.diagram.specs.Verdict.{Outcome, accepted, said, if_accepted}
-use Rattle.diagram.specs.declared.verdict.Verdict.{Verdict}
+use Rattle.diagram.specs.Verdict.{Verdict, Outcome, accepted, said, if_accepted}
 use Rattle.summary.specs.Kept.{renewed, add_beside, drop_beside, summarized, AddsBeside, DropsBeside, Summarizes}
 use Rattle.summary.specs.Summaries.{Renewed}
 use Rattle.summary.proofs.Counting.{renewed_front, renewed_behind}

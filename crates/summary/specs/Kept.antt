@@ -2,9 +2,8 @@
 -- first records, one for each variable, and then words that are neither looked at nor changed.
 use Rattle.std.specs.Prelude.{ℕ, ◌≡◌, Bool, true, false, not, ◌&&◌, List, [], ◌∷◌, ◌++◌, length, take, drop, ltb, eqb}
 use Rattle.diagram.specs.Diagram.{size, vars}
-use Rattle.diagram.specs.Verdict.{Outcome, accepted, said, row, if_accepted, room_after}
+use Rattle.diagram.specs.Verdict.{Verdict, Outcome, accepted, said, row, if_accepted, room_after}
 use Rattle.diagram.specs.declared.verdict.Output.TheVariants.{Nothing}
-use Rattle.diagram.specs.declared.verdict.Verdict.{Verdict}
 use Rattle.pool.specs.Pool.{is_pool, table_of, slots_of}
 use Rattle.pool.specs.Answers.{with_added, with_dropped, add_of, drop_of}
 use Rattle.summary.specs.Summary.{summary_words, fresh_summary}

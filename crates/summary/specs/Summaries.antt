@@ -1,8 +1,7 @@
 -- What is promised of the summary, in document 02's words (`summaries` of proofs/Promised.antt).
 use Rattle.std.specs.Prelude.{ℕ, ◌≤◌, ◌<◌, ◌≡◌, ◌↔◌, ◌≢◌, Bool, false, not, List, length, get_or, set, take, drop}
 use Rattle.diagram.specs.Diagram.{var_of, size, vars}
-use Rattle.diagram.specs.Verdict.{Outcome, accepted, refused, said}
-use Rattle.diagram.specs.declared.verdict.Verdict.{Verdict}
+use Rattle.diagram.specs.Verdict.{Verdict, Outcome, accepted, refused, said}
 use Rattle.counts.specs.Counting.{Number}
 use Rattle.pool.specs.Pool.{WellFormed, Inner, Live, holds_from}
 use Rattle.summary.specs.Summary.{summary_words, nodes_at, slots_at, fresh_summary}

@@ -1,15 +1,16 @@
 -- Each of the returns of the operations.
 use Prim.Native.Nat.{ℕ, ◌*◌, ◌≤◌, ◌<◌}
-use mathlib.Core.Path.{◌≡◌, refl, sym, ap, ◌∙◌}
+use mathlib.Core.Path.{◌≡◌, refl, sym, ap, ◌∙◌, subst}
 use mathlib.Core.Bool.{true, false}
 use mathlib.Core.List.{List}
 use native.Mathlib.Omega.{arith}
 use lib.ListN.{length, set, take, length-set}
 use Rattle.diagram.specs.Diagram.{size, vars, holds}
-use Rattle.diagram.specs.Verdict.{Outcome, accepted, refused, said, if_accepted, room_after}
+use Rattle.diagram.specs.Verdict.{Verdict, Outcome, accepted, refused, said, if_accepted, room_after}
 use Rattle.diagram.specs.declared.verdict.Output.TheVariants.{Nothing}
-use Rattle.diagram.specs.declared.verdict.Verdict.{Verdict}
-use Rattle.diagram.specs.declared.verdict.Verdict.TheVariants.{Accepted, Refused}
+use Rattle.diagram.specs.declared.verdict.Extent.{Extent}
+use Rattle.diagram.specs.declared.verdict.Refused.{Refused}
+use Rattle.std.specs.Prelude.{Ok, Err}
 use Rattle.diagram.proofs.Tests.{cond-true}
 use Rattle.diagram.proofs.Outcomes.{never_both}
 use Rattle.pool.specs.Pool.{slot_count, WellFormed, is_pool, Slot, empty, live, held, needs, table_of, slots_of}
@@ -21,7 +22,7 @@ use Rattle.pool.proofs.Tables.{table_vars}
 use Rattle.pool.proofs.Closed.{table_formed}
 use Rattle.pool.proofs.Rows.{added_fits}
 use Rattle.summary.specs.Summary.{record_words, summary_words, fresh_summary}
-use Rattle.summary.specs.Kept.{agrees, renewed, roomy, beside, add_beside, drop_beside, standing, summarized, AddsBeside, DropsBeside, Summarizes}
+use Rattle.summary.specs.Kept.{agrees, renewed, roomy, beside, add_beside, drop_beside, standing, summarized, AddsBeside, DropsBeside}
 use Rattle.summary.specs.Summaries.{Roomy}
 use Rattle.summary.proofs.Agreeing.{agrees_told}
 use Rattle.summary.proofs.Rows.{by_roomy, roomy_off, roomy_short, roomy_on, by_beside, beside_on, beside_other}
@@ -43,17 +44,17 @@ module _ (t s kept : List ℕ) where
 
 module _ (t s kept : List ℕ) {r : Verdict} (told : said r ≡ summarized t s kept) where
   -- A refusal is given whatever comes behind it.
-  pub refused_before : (below : Outcome) {j p : ℕ} → r ≡ Refused j p → roomy t s kept below ≡ refused j p
+  pub refused_before : (below : Outcome) {x : Refused} → r ≡ Err x → roomy t s kept below ≡ said (Err x)
   refused_before below e = by_roomy t s kept (accepted (size t) (vars t))
       (λ none d. by_roomy t s kept below (λ n o. o ∙ sym d ∙ sym told ∙ ap said e) (λ f h o. absurd (none f)) (λ y o. absurd (none y.pool)))
       (λ f h d. by_roomy t s kept below (λ n o. absurd (n f)) (λ f₂ h₂ o. o ∙ sym d ∙ sym told ∙ ap said e) (λ y o. let l = y.long in absurd (omega arith)))
       (λ y d. absurd (never_both (sym told ∙ ap said e) d))
 
-  pub stands_refused : {j p : ℕ} → r ≡ Refused j p → said r ≡ standing t s kept
+  pub stands_refused : {x : Refused} → r ≡ Err x → said (Err x) ≡ standing t s kept
   unfolding beside
-  stands_refused e = ap said e ∙ sym (refused_before _ e)
+  stands_refused e = sym (refused_before _ e)
 
-  module _ {n v : ℕ} (yes-it : r ≡ Accepted n v) where
+  module _ {x : Extent} (yes-it : r ≡ Ok x) where
     pub roomy_told : Roomy t s kept
     roomy_told = by_roomy t s kept (accepted (size t) (vars t))
         (λ none d. absurd (never_both d (sym told ∙ ap said yes-it)))
@@ -63,24 +64,16 @@ module _ (t s kept : List ℕ) {r : Verdict} (told : said r ≡ summarized t s k
     pub stands_other : agrees t s kept ≡ false → standing t s kept ≡ refused 47 0
     stands_other e = beside_other t s kept (accepted (size t) (vars t)) roomy_told e
 
-    pub stands_told : agrees t s kept ≡ true → said r ≡ standing t s kept
+    pub stands_told : agrees t s kept ≡ true → said (Ok x) ≡ standing t s kept
     stands_told e =
-        told ∙ roomy_on t s kept (accepted (size t) (vars t)) roomy_told
+        sym (ap said yes-it) ∙ told ∙ roomy_on t s kept (accepted (size t) (vars t)) roomy_told
         ∙ sym (beside_on t s kept (accepted (size t) (vars t)) roomy_told (agrees_told t s kept e))
-
-    pub sum_done : {kept' : List ℕ} → kept' ≡ renewed t s kept → Summarizes t s kept kept' r
-    sum_done e =
-        let is = roomy_on t s kept (accepted (size t) (vars t)) roomy_told in
-        record { verdict = told; summary = rw is e }
-
-  pub sum_refused : {j p : ℕ} → r ≡ Refused j p → Summarizes t s kept kept r
-  sum_refused e = record { verdict = told; summary = rw (sym told ∙ ap said e) refl }
 
 -- ---- adding and dropping
 
 module _ (t s kept : List ℕ) {r : Verdict} (told : said r ≡ standing t s kept) where
   -- A refusal is given whatever would be answered.
-  before_answer : (answer : Outcome) {j p : ℕ} → r ≡ Refused j p → beside t s kept answer ≡ refused j p
+  before_answer : (answer : Outcome) {x : Refused} → r ≡ Err x → beside t s kept answer ≡ said (Err x)
   before_answer answer e = by_beside t s kept (accepted (size t) (vars t))
       (λ none d. by_beside t s kept answer (λ n o. o ∙ sym d ∙ sym told ∙ ap said e) (λ f h o. absurd (none f)) (λ y ne o. absurd (none y.pool)) (λ y is o. absurd (none y.pool)))
       (λ f h d. by_beside t s kept answer (λ n o. absurd (n f)) (λ f₂ h₂ o. o ∙ sym d ∙ sym told ∙ ap said e)
@@ -89,18 +82,18 @@ module _ (t s kept : List ℕ) {r : Verdict} (told : said r ≡ standing t s kep
       (λ y₂ ne₂ o. o ∙ sym d ∙ sym told ∙ ap said e) (λ y₂ is o. absurd (ne is)))
       (λ y is d. absurd (never_both (sym told ∙ ap said e) d))
 
-  pub add_before : (w : List ℕ) (k : ℕ) (room : List ℕ) {j p : ℕ} → r ≡ Refused j p → AddsBeside t s kept w k t s kept room room r
+  pub add_before : (w : List ℕ) (k : ℕ) (room : List ℕ) {x : Refused} → r ≡ Err x → AddsBeside t s kept w k t s kept room room (Err x)
   add_before w k room e =
       let is = before_answer (add_of t s w (length room) k) e in
       let stays = sym told ∙ ap said e in
-      record { verdict = ap said e ∙ sym is; table = rw is refl; slots = rw is refl; summary = rw is refl; left = rw stays refl }
+      record { verdict = sym is; table = rw is refl; slots = rw is refl; summary = rw is refl; left = rw stays refl }
 
-  pub drop_before : (k : ℕ) {j p : ℕ} → r ≡ Refused j p → DropsBeside t s kept k t s kept r
+  pub drop_before : (k : ℕ) {x : Refused} → r ≡ Err x → DropsBeside t s kept k t s kept (Err x)
   drop_before k e =
       let is = before_answer (drop_of t s k) e in
-      record { verdict = ap said e ∙ sym is; table = rw is refl; slots = rw is refl; summary = rw is refl }
+      record { verdict = sym is; table = rw is refl; slots = rw is refl; summary = rw is refl }
 
-  module _ {n v : ℕ} (yes-it : r ≡ Accepted n v) where
+  module _ {x : Extent} (yes-it : r ≡ Ok x) where
     -- The pool and its summary stand.
     stands : Roomy t s kept × (take (summary_words t) kept ≡ fresh_summary t s)
     stands = by_beside t s kept (accepted (size t) (vars t))
@@ -144,11 +137,12 @@ module _ (t s kept : List ℕ) {r : Verdict} (told : said r ≡ standing t s kep
               left = adds.left ∙ cond-true (is_pool t s) (room_after w Nothing room) room pool_there ∙ sym (ap (λ (o : Outcome). if_accepted o (room_after w Nothing room) room) accepts);
             }
 
-      pub add_refused : {j p : ℕ} → a ≡ Refused j p → AddsBeside t s kept w k t' s' kept room room' a
-      add_refused e = add_all (sym (ap (λ (o : Outcome). if_accepted o (renewed t' s' kept) kept) (ap said e)))
+      pub add_refused : {y : Refused} → a ≡ Err y → AddsBeside t s kept w k t' s' kept room room' (Err y)
+      add_refused e = subst (λ (v : Verdict). AddsBeside t s kept w k t' s' kept room room' v) e
+          (add_all (sym (ap (λ (o : Outcome). if_accepted o (renewed t' s' kept) kept) (ap said e))))
 
-      module _ {m u : ℕ} (added : a ≡ Accepted m u) where
-        add_accepted : add_of t s w (length room) k ≡ accepted m u
+      module _ {y : Extent} (added : a ≡ Ok y) where
+        add_accepted : add_of t s w (length room) k ≡ said (Ok y)
         add_accepted = sym adds.verdict ∙ ap said added
 
         pub add_recounting : Roomy t' s' kept
@@ -156,8 +150,9 @@ module _ (t s kept : List ℕ) {r : Verdict} (told : said r ≡ standing t s kep
             (adds.table ∙ ap (λ (o : Outcome). if_accepted o (table_of (size t) (vars t) (with_added t s w k)) t) add_accepted)
             (adds.slots ∙ ap (λ (o : Outcome). if_accepted o (slots_of (vars t) (with_added t s w k)) s) add_accepted)
 
-        pub add_done : {kept' : List ℕ} → kept' ≡ renewed t' s' kept → AddsBeside t s kept w k t' s' kept' room room' a
-        add_done e = add_all (e ∙ sym (ap (λ (o : Outcome). if_accepted o (renewed t' s' kept) kept) (ap said added)))
+        pub add_done : {kept' : List ℕ} → kept' ≡ renewed t' s' kept → AddsBeside t s kept w k t' s' kept' room room' (Ok y)
+        add_done {kept'} e = subst (λ (v : Verdict). AddsBeside t s kept w k t' s' kept' room room' v) added
+            (add_all (e ∙ sym (ap (λ (o : Outcome). if_accepted o (renewed t' s' kept) kept) (ap said added))))
 
     module _ {k : ℕ} {t' s' : List ℕ} {a : Verdict} (drops : Drops t s k t' s' a) where
       drop_answer : said a ≡ drop_beside t s kept k
@@ -173,11 +168,12 @@ module _ (t s kept : List ℕ) {r : Verdict} (told : said r ≡ standing t s kep
             summary = is ∙ ap (λ (o : Outcome). if_accepted o (renewed t' s' kept) kept) drop_answer;
           }
 
-      pub drop_refused : {j p : ℕ} → a ≡ Refused j p → DropsBeside t s kept k t' s' kept a
-      drop_refused e = drop_all (sym (ap (λ (o : Outcome). if_accepted o (renewed t' s' kept) kept) (ap said e)))
+      pub drop_refused : {y : Refused} → a ≡ Err y → DropsBeside t s kept k t' s' kept (Err y)
+      drop_refused e = subst (λ (v : Verdict). DropsBeside t s kept k t' s' kept v) e
+          (drop_all (sym (ap (λ (o : Outcome). if_accepted o (renewed t' s' kept) kept) (ap said e))))
 
-      module _ {m u : ℕ} (dropped : a ≡ Accepted m u) where
-        drop_accepted : drop_of t s k ≡ accepted m u
+      module _ {y : Extent} (dropped : a ≡ Ok y) where
+        drop_accepted : drop_of t s k ≡ said (Ok y)
         drop_accepted = sym drops.verdict ∙ ap said dropped
 
         pub drop_recounting : Roomy t' s' kept
@@ -185,5 +181,6 @@ module _ (t s kept : List ℕ) {r : Verdict} (told : said r ≡ standing t s kep
             (drops.table ∙ ap (λ (o : Outcome). if_accepted o (table_of (size t) (vars t) (with_dropped t s k)) t) drop_accepted)
             (drops.slots ∙ ap (λ (o : Outcome). if_accepted o (slots_of (vars t) (with_dropped t s k)) s) drop_accepted)
 
-        pub drop_done : {kept' : List ℕ} → kept' ≡ renewed t' s' kept → DropsBeside t s kept k t' s' kept' a
-        drop_done e = drop_all (e ∙ sym (ap (λ (o : Outcome). if_accepted o (renewed t' s' kept) kept) (ap said dropped)))
+        pub drop_done : {kept' : List ℕ} → kept' ≡ renewed t' s' kept → DropsBeside t s kept k t' s' kept' (Ok y)
+        drop_done {kept'} e = subst (λ (v : Verdict). DropsBeside t s kept k t' s' kept' v) dropped
+            (drop_all (e ∙ sym (ap (λ (o : Outcome). if_accepted o (renewed t' s' kept) kept) (ap said dropped))))

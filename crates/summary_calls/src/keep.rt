@@ -4,11 +4,10 @@ ghost use Rattle.diagram.specs.Verdict.{said};
 ghost use Rattle.summary.specs.Kept.{standing, summarized, AddsBeside, DropsBeside, Summarizes};
 
 use diagram::node::word;
-use diagram::refusal::{NO_POOL, OTHER_SUMMARY, SHORT_SUMMARY};
-use diagram::verdict::Verdict;
+use diagram::refusal::Refusal;
+use diagram::verdict::{Extent, Refused, Verdict};
 use pool_calls::add::add_known;
 use pool_calls::drop::drop_known;
-use pool_calls::slot::refused;
 use pool_check::check::is_pool;
 use summary::RECORD;
 use summary_fresh::agree::agrees;
@@ -19,30 +18,36 @@ fn roomy(table: &[u32], slots: &[u32], summary: &[u32]) -> Verdict
     ensures { said result ≡ summarized table.now slots.now summary.now }
 {
     if !is_pool(table, slots) {
-        return refused(NO_POOL);
+        return Err(Refused {
+            reason: Refusal::NoPool,
+            place: 0,
+        });
     }
     let vars = word(table, 0);
     if summary.len() < RECORD * (vars as usize) {
-        return refused(SHORT_SUMMARY);
+        return Err(Refused {
+            reason: Refusal::ShortSummary,
+            place: 0,
+        });
     }
-    Verdict::Accepted {
+    Ok(Extent {
         nodes: table.len() / 3,
         vars,
-    }
+    })
 }
 
 // And whether the records agree with the pool.
 fn stands(table: &[u32], slots: &[u32], summary: &[u32]) -> Verdict
     ensures { said result ≡ standing table.now slots.now summary.now }
 {
-    let verdict = roomy(table, slots, summary);
-    let Verdict::Accepted { nodes: _, vars: _ } = verdict else {
-        return verdict;
-    };
+    let extent = roomy(table, slots, summary)?;
     if !agrees(table, slots, summary) {
-        return refused(OTHER_SUMMARY);
+        return Err(Refused {
+            reason: Refusal::OtherSummary,
+            place: 0,
+        });
     }
-    verdict
+    Ok(extent)
 }
 
 pub fn add(
@@ -55,41 +60,26 @@ pub fn add(
 ) -> Verdict
     ensures { AddsBeside table.old slots.old summary.old words.now slot table.new slots.new summary.new room.old room.new result }
 {
-    let first = stands(table, slots, summary);
-    let Verdict::Accepted { nodes: _, vars: _ } = first else {
-        return first;
-    };
-    let verdict = add_known(table, slots, words, slot, room);
-    let Verdict::Accepted { nodes: _, vars: _ } = verdict else {
-        return verdict;
-    };
+    stands(table, slots, summary)?;
+    let extent = add_known(table, slots, words, slot, room)?;
     recount(table, slots, summary);
-    verdict
+    Ok(extent)
 }
 
 pub fn drop(table: &mut [u32], slots: &mut [u32], summary: &mut [u32], slot: usize) -> Verdict
     ensures { DropsBeside table.old slots.old summary.old slot table.new slots.new summary.new result }
 {
-    let first = stands(table, slots, summary);
-    let Verdict::Accepted { nodes: _, vars: _ } = first else {
-        return first;
-    };
-    let verdict = drop_known(table, slots, slot);
-    let Verdict::Accepted { nodes: _, vars: _ } = verdict else {
-        return verdict;
-    };
+    stands(table, slots, summary)?;
+    let extent = drop_known(table, slots, slot)?;
     recount(table, slots, summary);
-    verdict
+    Ok(extent)
 }
 
 // Works the summary out, for a pool that has none or has another one.
 pub fn summarize(table: &[u32], slots: &[u32], summary: &mut [u32]) -> Verdict
     ensures { Summarizes table.now slots.now summary.old summary.new result }
 {
-    let verdict = roomy(table, slots, summary);
-    let Verdict::Accepted { nodes: _, vars: _ } = verdict else {
-        return verdict;
-    };
+    let extent = roomy(table, slots, summary)?;
     recount(table, slots, summary);
-    verdict
+    Ok(extent)
 }

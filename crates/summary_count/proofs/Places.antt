@@ -98,9 +98,6 @@ module _ (t : List ℕ) (p : ℕ) (kept : List ℕ) where
   free_stays free = sym (cond-true (is_free t p) kept (set kept (record_words * var_of t p) (nodes_in kept (var_of t p) + 1)) free)
 
   module _ (var x : ℕ) (is-var : var ≡ var_of t p) (is_x : x ≡ nodes_in kept var) where
-    pub small_count : nodes_in kept (var_of t p) < max_nodes → x < max_nodes
-    small_count few = let e = is_x ∙ ap (nodes_in kept) is-var in omega arith
-
     pub used_counts : is_free t p ≡ false → {kept' : List ℕ} → kept' ≡ set kept (record_words * var) (x + 1) → kept' ≡ with_node t p kept
     unfolding with_node
     used_counts used e =

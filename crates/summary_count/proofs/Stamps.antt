@@ -1,5 +1,5 @@
 -- The walk from a slot's root: at a terminal, at a marked node, and at a node whose children have been walked.
-use Prim.Native.Nat.{ℕ, ◌+◌, ◌-◌, ◌≤◌, ◌<◌}
+use Prim.Native.Nat.{ℕ, ◌+◌, ◌≤◌, ◌<◌}
 use mathlib.Core.Path.{◌≡◌, refl, sym, ap, ◌∙◌, subst}
 use mathlib.Core.Logic.{⊎_elim, ◌≢◌}
 use mathlib.Core.Bool.{Bool, true, false, cond, ◌||◌}
@@ -10,7 +10,7 @@ use lib.Seq.{get_or-set_same, get_or-set_other}
 use borrow.Author.Tests.{eq-eqb, ne_eqb}
 use Rattle.diagram.specs.Limits.{max_nodes}
 use Rattle.diagram.specs.Diagram.{var_of, low_of, high_of, vars}
-use Rattle.diagram.proofs.Tests.{by_test, by-eq, cond-true, cond-false}
+use Rattle.diagram.proofs.Tests.{by-eq, cond-true, cond-false}
 use Rattle.pool.specs.Pool.{WellFormed, Inner}
 use Rattle.summary.specs.Summary.{comes_to}
 use Rattle.summary.proofs.Counting.{comes_end, comes_node, low_place, high_place}
@@ -29,17 +29,6 @@ module _ (t work : List ℕ) (number p : ℕ) (s : Stamping t work number p) whe
   at_node : 2 ≤ p → Inner t p
   at_node two = ⊎_elim (λ ends. absurd (omega arith)) (λ i. i) s.place
 
-  -- A marked node has been walked.
-  pub at_mark : 2 ≤ p → mark_of work p ≡ number → Stamped t work number p work
-  at_mark two marked = record {
-    long = refl;
-    settled = s.settled;
-    few = s.few;
-    stamps = λ i h. by_test (comes_to t i (vars t) p)
-        (λ e. s.settled p i s.place two marked h e ∙ sym (cond-true (comes_to t i (vars t) p) number (get_or work i 0) e))
-        (λ e. sym (cond-false (comes_to t i (vars t) p) number (get_or work i 0) e));
-  }
-
   module _ (node : Inner t p) where
     formed : WellFormed t s.slots
     formed = s.pool
@@ -53,13 +42,6 @@ module _ (t work : List ℕ) (number p : ℕ) (s : Stamping t work number p) whe
       settled = s.settled;
       few = s.few;
     }
-
-    -- The variables left fall.
-    low_falls : vars t - var_of t (low_of t p) < vars t - var_of t p
-    low_falls = let up = (formed.ordered p node).low in let v = (formed.ranges p node).var in omega arith
-
-    high_falls : vars t - var_of t (high_of t p) < vars t - var_of t p
-    high_falls = let up = (formed.ordered p node).high in let v = (formed.ranges p node).var in omega arith
 
     module _ {work₁ : List ℕ} (low : Stamped t work number (low_of t p) work₁) where
       to_high : Stamping t work₁ number (high_of t p)
@@ -174,9 +156,6 @@ module _ {t work : List ℕ} {number p : ℕ} (s : Stamping t work number p) whe
   pub walk_end : p < 2 → Stamped t work number p work
   walk_end = at_end t work number p s
 
-  pub walk_marked : 2 ≤ p → {at x : ℕ} → at ≡ p → x ≡ mark_of work at → x ≡ number → Stamped t work number p work
-  walk_marked two is-p is_x e = at_mark t work number p s two (ap (mark_of work) (sym is-p) ∙ sym is_x ∙ e)
-
   pub walk_near : p < max_nodes
   walk_near =
       let few = s.pool.few in
@@ -193,18 +172,12 @@ module _ {t work : List ℕ} {number p : ℕ} (s : Stamping t work number p) whe
       pub walk_low : Stamping t work number l
       walk_low = subst (λ (q : ℕ). Stamping t work number q) (sym is-low) (to_low t work number p s node_there)
 
-      pub walk_low_falls : vars t - var_of t l < vars t - var_of t p
-      walk_low_falls = subst (λ (q : ℕ). vars t - var_of t q < vars t - var_of t p) (sym is-low) (low_falls t work number p s node_there)
-
       module _ {work₁ : List ℕ} (low : Stamped t work number l work₁) {h : ℕ} (is-high : h ≡ high_of t p) where
         low_done : Stamped t work number (low_of t p) work₁
         low_done = subst (λ (q : ℕ). Stamped t work number q work₁) is-low low
 
         pub walk_high : Stamping t work₁ number h
         walk_high = subst (λ (q : ℕ). Stamping t work₁ number q) (sym is-high) (to_high t work number p s node_there low_done)
-
-        pub walk_high_falls : vars t - var_of t h < vars t - var_of t p
-        walk_high_falls = subst (λ (q : ℕ). vars t - var_of t q < vars t - var_of t p) (sym is-high) (high_falls t work number p s node_there)
 
         pub walk_done : {work₂ work₃ work₄ : List ℕ} → Stamped t work₁ number h work₂ → {var at : ℕ} → var ≡ var_of t p → at ≡ p
             → work₃ ≡ set work₂ var number → work₄ ≡ set work₃ (marks + at) number → Stamped t work number p work₄

@@ -46,19 +46,7 @@ pub record Through (v number : ℕ) (work kept : List ℕ) (n : ℕ) (kept' : Li
   pub left : (i : ℕ) → n ≤ i → i < v → slots_in kept' i ≡ slots_in kept i
 
 module _ (v number : ℕ) (work kept : List ℕ) (noting : Noting v kept) where
-  pub none_through : Through v number work kept 0 kept
-  none_through = record {
-    long = refl;
-    rest = refl;
-    nodes = λ i h. refl;
-    gone = λ i n h. absurd (omega arith);
-    left = λ i n h. refl;
-  }
-
   module _ (n : ℕ) {kept' : List ℕ} (through : Through v number work kept n kept') (inside : n < v) where
-    pub few_slots : slots_in kept' n < slot_count
-    few_slots = let e = through.left n (omega arith) inside in let f = noting.few n inside in omega arith
-
     enough : record_words * v ≤ length kept'
     enough = let e = through.long in let l = noting.long in omega arith
 
@@ -98,14 +86,6 @@ module _ (v number : ℕ) (work kept : List ℕ) (noting : Noting v kept) where
 
     pub one_next : {kept₂ : List ℕ} → kept₂ ≡ with_slot work number n kept' → Through v number work kept (n + 1) kept₂
     one_next e = subst (λ (l : List ℕ). Through v number work kept (n + 1) l) (sym e) (subst (λ (m : ℕ). Through v number work kept m (with_slot work number n kept')) (omega arith) one_more)
-
-  pub all_through : {n : ℕ} {kept' : List ℕ} → Through v number work kept n kept' → v ≤ n → Noted v number work kept kept'
-  all_through through e = record {
-    long = through.long;
-    rest = through.rest;
-    nodes = through.nodes;
-    slots = λ i h. through.gone i (omega arith) h;
-  }
 
 -- ---- a slot
 
@@ -216,29 +196,6 @@ zero_anywhere n j = by_test (ltb j n)
     (λ e. get_or-eq_default (zeros n) 0 {n = j} (let l = zeros_long n in let h = ltb-false j n e in omega arith))
 
 module _ (t s kept : List ℕ) where
-  pub up_none : {work : List ℕ} → Slotting t s kept work 0 → Up t s kept 0 kept work
-  up_none slotting = record { slotting = slotting; behind = record { long = refl; rest = refl }; nodes = λ i h. refl }
-
-  up_suc : (k : ℕ) {kept₁ kept₂ work₁ work₂ : List ℕ} → k < slot_count → Up t s kept k kept₁ work₁ → Slotted t s k kept₁ kept₂ work₁ work₂
-      → Up t s kept (suc k) kept₂ work₂
-  up_suc k inside up slotted = record {
-    slotting = record {
-      pool = up.slotting.pool;
-      long = let e = slotted.behind.long in let l = up.slotting.long in omega arith;
-      inside = inside;
-      slots = slotted.slots;
-      room = slotted.room ∙ up.slotting.room;
-      few = slotted.few;
-    };
-    behind = record { long = slotted.behind.long ∙ up.behind.long; rest = slotted.behind.rest ∙ up.behind.rest };
-    nodes = λ i h. slotted.nodes i h ∙ up.nodes i h;
-  }
-
-  pub up_next : (k : ℕ) {kept₁ kept₂ work₁ work₂ : List ℕ} → k < slot_count → Up t s kept k kept₁ work₁ → Slotted t s k kept₁ kept₂ work₁ work₂
-      → Up t s kept (k + 1) kept₂ work₂
-  up_next k {kept₁} {kept₂} {work₁} {work₂} inside up slotted =
-      subst (λ (n : ℕ). Up t s kept n kept₂ work₂) (omega arith) (up_suc k inside up slotted)
-
   pub up_all : {k : ℕ} {kept' work : List ℕ} → slot_count ≤ k → Up t s kept k kept' work → Worked t s kept kept'
   up_all {k} end up =
       let is : k ≡ slot_count = let i = up.slotting.inside in omega arith in

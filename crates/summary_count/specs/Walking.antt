@@ -1,5 +1,5 @@
 -- Slots counted by variable, for the code inside. `work` has for each variable, and from `marks` on for each place, the number of a slot.
-use Rattle.std.specs.Prelude.{ℕ, suc, ◌+◌, ◌*◌, ◌≤◌, ◌<◌, ◌≡◌, ◌⊎◌, Bool, true, cond, List, length, get_or, set, drop, eqb}
+use Rattle.std.specs.Prelude.{ℕ, suc, ◌+◌, ◌*◌, ◌≤◌, ◌<◌, ◌≡◌, ◌⊎◌, true, cond, List, length, get_or, set, drop, eqb}
 use Rattle.diagram.specs.Limits.{max_nodes, max_variables}
 use Rattle.diagram.specs.Diagram.{vars}
 use Rattle.pool.specs.Pool.{slot_count, WellFormed, Inner}

@@ -28,9 +28,7 @@ pub fn count_nodes(table: &[u32], summary: &mut [u32])
     ensures { Counted table.now summary.old summary.new }
 {
     let places = table.len() / 3;
-    let mut node = BddPointer(2);
-    while node.to_index() < places {
-        count_node(table, summary, node);
-        node = BddPointer(node.0 + 1);
+    for p in 2..places {
+        count_node(table, summary, BddPointer(p as u32));
     }
 }

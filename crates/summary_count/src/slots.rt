@@ -54,10 +54,8 @@ fn count_stamped(work: &[u32], summary: &mut [u32], vars: usize, number: u32)
     requires { Noting vars summary.old }
     ensures { Noted vars number work.now summary.old summary.new }
 {
-    let mut i = 0;
-    while i < vars {
+    for i in 0..vars {
         count_if_stamped(work, summary, i, number);
-        i += 1;
     }
 }
 
@@ -79,10 +77,8 @@ fn count_each(table: &[u32], slots: &[u32], summary: &mut [u32], work: &mut [u32
     requires { Slotting table.now slots.now summary.old work.old 0 }
     ensures { Worked table.now slots.now summary.old summary.new }
 {
-    let mut k = 0;
-    while k < SLOTS {
+    for k in 0..SLOTS {
         count_slot(table, slots, summary, work, k);
-        k += 1;
     }
 }
 

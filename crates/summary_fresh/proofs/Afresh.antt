@@ -1,22 +1,21 @@
 -- The summary worked out, and compared with the one that is kept.
-use Prim.Native.Nat.{ℕ, min, ◌+◌, ◌*◌, ◌≤◌, ◌<◌}
+use Prim.Native.Nat.{ℕ, min, ◌*◌, ◌≤◌, ◌<◌}
 use mathlib.Core.Path.{◌≡◌, sym, ap, ◌∙◌}
 use mathlib.Core.Logic.{◌≢◌}
 use mathlib.Core.Bool.{Bool, true, false}
 use mathlib.Core.List.{List, ◌++◌}
 use native.Mathlib.Omega.{arith}
-use lib.ListN.{length, get_or, take, drop, replicate, length-append, length-replicate, get_or-replicate, get_or-append}
+use lib.ListN.{length, get_or, take, drop, replicate, length-append, length-replicate}
 use lib.Seq.{drop_at}
 use Rattle.diagram.specs.Limits.{max_variables}
 use Rattle.diagram.specs.Diagram.{vars}
-use Rattle.diagram.proofs.Tests.{by-eq}
 use Rattle.summary.specs.Summary.{record_words, summary_words}
 use Rattle.summary.specs.Kept.{same, agrees, renewed}
 use Rattle.summary.specs.Summaries.{Roomy}
-use Rattle.summary.proofs.Counting.{renewed_is, renewed_front, renewed_length}
+use Rattle.summary.proofs.Counting.{renewed_is, renewed_front}
 use Rattle.summary.proofs.Agreeing.{same_front, same_fails}
-use Rattle.summary_count.specs.Counting.{Ready, Counted}
-use Rattle.summary_count.specs.Walking.{Working, Worked}
+use Rattle.summary_count.specs.Counting.{Counted}
+use Rattle.summary_count.specs.Walking.{Worked}
 
 -- ---- worked out: cleared, nodes counted, slots counted
 
@@ -43,24 +42,7 @@ module _ (t s kept : List ℕ) (g : Roomy t s kept) {v : ℕ} (is-v : v ≡ vars
   behind₁ : drop (summary_words t) kept₁ ≡ drop (summary_words t) kept
   behind₁ = ap (drop (summary_words t)) is_cleared ∙ drop_at zeros (drop (summary_words t) kept) (summary_words t) zeros_long
 
-  zero_at : (j : ℕ) → j < summary_words t → get_or kept₁ j 0 ≡ 0
-  unfolding zeros
-  zero_at j h =
-      let z = zeros_long in
-      ap (λ (l : List ℕ). get_or l j 0) is_cleared ∙ get_or-append zeros (drop (summary_words t) kept) 0 j (omega arith)
-      ∙ get_or-replicate {A = ℕ} (summary_words t) j 0 0 h
-
-  pub nodes_ready : Ready t kept₁
-  nodes_ready = record { slots = s; pool = g.pool; long = long₁; none = λ i h. zero_at (record_words * i) (omega arith) }
-
   module _ {kept₂ : List ℕ} (counted : Counted t kept₁ kept₂) where
-    pub slots_ready : Working t s kept₂
-    slots_ready = record {
-      pool = g.pool;
-      long = let e = counted.behind.long in let l = long₁ in omega arith;
-      none = λ i h. counted.slots i h ∙ zero_at (record_words * i + 1) (omega arith);
-    }
-
     pub worked_out : {kept₃ : List ℕ} → Worked t s kept₂ kept₃ → kept₃ ≡ renewed t s kept
     worked_out {kept₃} worked =
         renewed_is t s kept kept₃
@@ -75,16 +57,6 @@ pub record SameBelow (kept fresh : List ℕ) (n : ℕ) : Type 0 where
   pub words : (j : ℕ) → j < n → get_or kept j 0 ≡ get_or fresh j 0
 
 module _ (kept fresh : List ℕ) where
-  pub same_none : SameBelow kept fresh 0
-  same_none = record { words = λ j h. absurd (omega arith) }
-
-  pub same_next : {at x y : ℕ} → SameBelow kept fresh at → x ≡ get_or kept at 0 → y ≡ get_or fresh at 0 → x ≡ y → SameBelow kept fresh (at + 1)
-  same_next {at} {x} {y} so_far is_x is_y e = record {
-    words = λ j h. by-eq j at
-        (λ here. ap (λ (i : ℕ). get_or kept i 0) here ∙ sym is_x ∙ e ∙ is_y ∙ ap (λ (i : ℕ). get_or fresh i 0) (sym here))
-        (λ other. so_far.words j (omega arith));
-  }
-
   pub same_all : {at count : ℕ} → SameBelow kept fresh at → count ≤ at → count ≤ length kept → count ≤ length fresh → true ≡ same (take count kept) (take count fresh)
   same_all {at} {count} so_far end a b = sym (same_front count kept fresh a b (λ j h. so_far.words j (omega arith)))
 
@@ -95,23 +67,8 @@ module _ (kept fresh : List ℕ) where
 abbrev pub blank : List ℕ
 blank = replicate (record_words * max_variables) 0
 
-blank_long : length blank ≡ record_words * max_variables
-blank_long = length-replicate {A = ℕ} (record_words * max_variables) 0
-
 module _ (t s kept : List ℕ) (g : Roomy t s kept) where
-  pub blank_ready : Roomy t s blank
-  blank_ready = record { pool = g.pool; long = let few = g.pool.variables in let e = blank_long in omega arith }
-
   module _ {fresh : List ℕ} (is-fresh : fresh ≡ renewed t s blank) {v : ℕ} (is-v : v ≡ vars t) where
-    pub compared_kept : record_words * v ≤ length kept
-    compared_kept = let l = g.long in omega arith
-
-    pub compared_fresh : record_words * v ≤ length fresh
-    compared_fresh =
-        let e = ap length is-fresh ∙ renewed_length t s blank blank_ready.long in
-        let l = blank_ready.long in
-        omega arith
-
     pub compared : {r : Bool} → r ≡ same (take (record_words * v) kept) (take (record_words * v) fresh) → r ≡ agrees t s kept
     unfolding agrees
     compared e =

@@ -15,12 +15,10 @@ fn is_same(kept: &[u32], fresh: &[u32], count: usize) -> bool
     requires { (count ≤ length kept.now) × (count ≤ length fresh.now) }
     ensures { result ≡ same (take count kept.now) (take count fresh.now) }
 {
-    let mut at = 0;
-    while at < count {
+    for at in 0..count {
         if word(kept, at) != word(fresh, at) {
             return false;
         }
-        at += 1;
     }
     true
 }

@@ -5,9 +5,8 @@
 --     length_words                  two words for each record
 --     taken_length, given_length    no store changes a length
 --     taken_is, given_is            what the contracts say of the list at the end
---     Bounds, bounds                what a turn computes is in range
 use mathlib.Core.Path.{◌≡◌, refl, sym, ◌∙◌, ap}
-use Prim.Native.Nat.{ℕ, zero, suc, ◌+◌, ◌*◌, ◌≤◌, ◌<◌, ◌^◌}
+use Prim.Native.Nat.{ℕ, zero, suc, ◌+◌, ◌*◌, ◌≤◌, ◌<◌}
 use native.Mathlib.Nat.{not-suc-le-zero, le_of_suc-le-suc}
 use native.Mathlib.Numerals.{add-one}
 use native.Mathlib.Omega.{arith}
@@ -110,28 +109,3 @@ given_is ws rs (suc i) l m =
     words_set (given ws rs i) i (made ws i) (omega (arith, given_length ws rs i)) ∙
     ap (λ (c : List ℕ). set (set c (2 * i) (get_or ws (2 * i) 0)) (2 * i + 1) (get_or ws (2 * i + 1) 0)) (given_is ws rs i (omega arith) (omega arith)) ∙
     front_two i ws (words_of rs) (omega arith) (omega (arith, length_words rs))
-
--- ---- what a turn computes, of r records and w words: the places are within the lists, and no number is too large
-pub record Bounds (i r w : ℕ) : Type 0 where
-  pub record_in : i < r
-  pub low_in_lem : 2 * i < w
-  pub high_in_lem : 2 * i + 1 < w
-  pub record_bytes : i * 8 < 2 ^ 64
-  pub low_fits : 2 * i < 2 ^ 64
-  pub low_bytes : 2 * i * 4 < 2 ^ 64
-  pub high_fits : 2 * i + 1 < 2 ^ 64
-  pub high_bytes : (2 * i + 1) * 4 < 2 ^ 64
-  pub next_fits : i + 1 < 2 ^ 64
-
-pub bounds : (i n r w : ℕ) → i < n → n ≤ r → 2 * n ≤ w → r * 8 < 2 ^ 63 → w * 4 < 2 ^ 63 → Bounds i r w
-bounds i n r w small records words bytes bytes' = record {
-  record_in = omega arith;
-  low_in_lem = omega arith;
-  high_in_lem = omega arith;
-  record_bytes = omega arith;
-  low_fits = omega arith;
-  low_bytes = omega arith;
-  high_fits = omega arith;
-  high_bytes = omega arith;
-  next_fits = omega arith;
-}

@@ -17,11 +17,9 @@ pub fn take(row: &[Signal], words: &mut [u32], count: usize)
     requires { (count ≤ length row.now) × (2 * count ≤ length words.old) }
     ensures { words.new ≡ taking (2 * count) (words_of row.now) ++ dropping (2 * count) words.old }
 {
-    let mut i = 0;
-    while i < count {
+    for i in 0..count {
         words[2 * i] = row[i].nodes;
         words[2 * i + 1] = row[i].slots;
-        i += 1;
     }
 }
 
@@ -30,12 +28,10 @@ pub fn give(row: &mut [Signal], words: &[u32], count: usize)
     requires { (count ≤ length row.old) × (2 * count ≤ length words.now) }
     ensures { words_of row.new ≡ taking (2 * count) words.now ++ dropping (2 * count) (words_of row.old) }
 {
-    let mut i = 0;
-    while i < count {
+    for i in 0..count {
         row[i] = Signal {
             nodes: words[2 * i],
             slots: words[2 * i + 1],
         };
-        i += 1;
     }
 }

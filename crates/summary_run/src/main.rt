@@ -64,13 +64,13 @@ fn say(text: &[u8], value: u64) {
 fn say_verdict(name: &[u8], verdict: Verdict) {
     io::write_all(STDOUT, name);
     match verdict {
-        Verdict::Accepted { nodes, vars } => {
-            say(b" accepted nodes ", nodes as u64);
-            say(b" vars ", vars as u64);
+        Ok(extent) => {
+            say(b" accepted nodes ", extent.nodes as u64);
+            say(b" vars ", extent.vars as u64);
         }
-        Verdict::Refused { number, place } => {
-            say(b" refused ", number as u64);
-            say(b" at ", place as u64);
+        Err(refused) => {
+            say(b" refused ", refused.reason.number() as u64);
+            say(b" at ", refused.place as u64);
         }
     }
 }
@@ -91,10 +91,8 @@ fn with_word(sum: u64, word: u32) -> u64
 
 fn sum_of(words: &[u32]) -> u64 {
     let mut sum: u64 = 0;
-    let mut i = 0;
-    while i < words.len() {
-        sum = with_word(sum, words[i]);
-        i += 1;
+    for word in words {
+        sum = with_word(sum, *word);
     }
     sum
 }
@@ -104,10 +102,8 @@ fn say_word(word: u32) {
 }
 
 fn list(words: &[u32]) {
-    let mut i = 0;
-    while i < words.len() {
-        say_word(words[i]);
-        i += 1;
+    for word in words {
+        say_word(*word);
     }
 }
 
@@ -215,14 +211,11 @@ fn summarize_line(numbers: &[u32], table: &[u32], slots: &[u32], summary: &mut [
 // Writes the numbers but the first, which is the place for them.
 fn write(numbers: &[u32], to: &mut [u32]) {
     let from = word(numbers, 0) as usize;
-    let mut i = 1;
-    while i < numbers.len() {
+    for i in 1..numbers.len() {
         put(to, from + (i - 1), word(numbers, i));
-        i += 1;
     }
 }
 
-// The letters in their order: a, d, s, t, u, w, and any other for z.
 fn run_line(
     letter: u8,
     numbers: &[u32],
@@ -231,33 +224,20 @@ fn run_line(
     summary: &mut [u32],
     room: &mut [u32],
 ) {
-    if letter == 97 {
-        add_line(numbers, table, slots, summary, room);
-        return;
+    match letter {
+        b'a' => add_line(numbers, table, slots, summary, room),
+        b'd' => drop_line(numbers, table, slots, summary),
+        b's' => write(numbers, slots),
+        b't' => write(numbers, table),
+        b'u' => summarize_line(numbers, table, slots, summary),
+        b'w' => write(numbers, summary),
+        // z
+        _ => {
+            fill(table, word(numbers, 0));
+            fill(slots, word(numbers, 0));
+            fill(summary, word(numbers, 0));
+        }
     }
-    if letter == 100 {
-        drop_line(numbers, table, slots, summary);
-        return;
-    }
-    if letter == 115 {
-        write(numbers, slots);
-        return;
-    }
-    if letter == 116 {
-        write(numbers, table);
-        return;
-    }
-    if letter == 117 {
-        summarize_line(numbers, table, slots, summary);
-        return;
-    }
-    if letter == 119 {
-        write(numbers, summary);
-        return;
-    }
-    fill(table, word(numbers, 0));
-    fill(slots, word(numbers, 0));
-    fill(summary, word(numbers, 0));
 }
 
 // One line of the text; the place after it.

@@ -1,5 +1,5 @@
 -- From what a search finds to what is answered: as it is, or negated back.
-use Prim.Native.Nat.{ℕ, ◌+◌, ◌-◌, ◌*◌, ◌≤◌, max, min}
+use Prim.Native.Nat.{ℕ, ◌*◌, ◌≤◌, max, min}
 use mathlib.Core.Path.{◌≡◌, refl, sym, ap, ◌∙◌}
 use mathlib.Core.List.{List, ◌++◌}
 use native.Mathlib.Omega.{arith}
@@ -7,9 +7,10 @@ use lib.ListN.{length, take, drop, replicate}
 use lib.Seq.{take-append_seam}
 use Rattle.diagram.specs.Limits.{max_nodes}
 use Rattle.diagram.specs.Diagram.{size, Accepted, Ordered}
-use Rattle.diagram.specs.Verdict.{Outcome, accepted, refused, most, room_of, room_after, Checked}
-use Rattle.diagram.specs.declared.verdict.Verdict.{Verdict}
-use Rattle.diagram.specs.declared.verdict.Verdict.TheVariants.{Accepted as Yes, Refused as No}
+use Rattle.diagram.specs.Verdict.{Verdict, Outcome, said, most, room_of, room_after, Checked}
+use Rattle.std.specs.Prelude.{Ok, Err}
+use Rattle.diagram.specs.declared.verdict.Extent.{Extent}
+use Rattle.diagram.specs.declared.verdict.Refused.{Refused}
 use Rattle.diagram.specs.declared.verdict.Output.TheVariants.{Diagram}
 use Rattle.diagram.proofs.Reading.{accepted_ordered}
 use Rattle.diagram.proofs.Entering.{admitted, lent_fits, lent_word, lent_enough, builds_refused, builds_accepted}
@@ -193,10 +194,10 @@ module _ {w r out : List ℕ} {n v : ℕ} (a : Targeting w r out n v) where
 -- A refusal, and an answer, of a request with a verdict of its own.
 module _ (outcome : ℕ → ℕ → Outcome) (b : Answer) {w room room' : List ℕ} (out : List ℕ)
     (left : room' ≡ room_after w (Diagram (length out)) room) {r : Verdict} where
-  pub meets_refused : {k p : ℕ} → r ≡ No k p → outcome (length room) (length out) ≡ refused k p → Meets outcome b w room room' out out r 0 0
+  pub meets_refused : {x : Refused} → r ≡ Err x → outcome (length room) (length out) ≡ said (Err x) → Meets outcome b w room room' out out r 0 0
   meets_refused e is = record { builds = builds_refused outcome b.words out left e is; trials = rw is refl }
 
-  pub meets_hit : {n v : ℕ} → r ≡ Yes n v → outcome (length room) (length out) ≡ accepted n v → {room'' out' : List ℕ} {k trials : ℕ}
+  pub meets_hit : {x : Extent} → r ≡ Ok x → outcome (length room) (length out) ≡ said (Ok x) → {room'' out' : List ℕ} {k trials : ℕ}
       → Hit b room' room'' out out' k trials → Meets outcome b w room room'' out out' r k trials
   meets_hit e is h = record {
     builds = builds_accepted outcome b.words out (h.room ∙ left) e is h.count h.written;
@@ -204,15 +205,14 @@ module _ (outcome : ℕ → ℕ → Outcome) (b : Answer) {w room room' : List �
   }
 
 module _ {w room room' : List ℕ} (out : List ℕ) {verdict : Verdict} (checked : Checked w (Diagram (length out)) room room' verdict) where
-  module _ {n v : ℕ} (e : verdict ≡ Yes n v) where
-    pub check_targets : Targeting w room' out n v
-    check_targets =
-        let given = admitted checked e in
-        record {
-          accepted = given.accepted;
-          is_size = given.nodes;
-          is_vars = given.variables;
-          long = lent_fits checked e (room_of w) (omega arith);
-          zero = lent_word checked e (room_of w) (omega arith);
-          output = lent_enough w (length out) given.lent;
-        }
+  pub check_targets : {x : Extent} → verdict ≡ Ok x → Targeting w room' out x.nodes x.vars
+  check_targets e =
+      let given = admitted checked e in
+      record {
+        accepted = given.accepted;
+        is_size = given.nodes;
+        is_vars = given.variables;
+        long = lent_fits checked e (room_of w) (omega arith);
+        zero = lent_word checked e (room_of w) (omega arith);
+        output = lent_enough w (length out) given.lent;
+      }

@@ -7,8 +7,7 @@ use native.Mathlib.Omega.{arith}
 use lib.ListN.{length, take, drop}
 use lib.Seq.{take_at}
 use Rattle.diagram.specs.Diagram.{size, vars, Accepted}
-use Rattle.diagram.specs.Verdict.{Outcome, accepted as yes, refused, said, and_then, verdict_of, verdict_for}
-use Rattle.diagram.specs.declared.verdict.Verdict.{Verdict}
+use Rattle.diagram.specs.Verdict.{Verdict, Outcome, accepted as yes, refused, said, and_then, verdict_of, verdict_for}
 use Rattle.diagram.specs.declared.verdict.Output.TheVariants.{Diagram}
 use Rattle.diagram.proofs.Meaning.{verdict_accepted}
 use Rattle.diagram.proofs.Outcomes.{never_both}

@@ -6,9 +6,10 @@ use mathlib.Core.List.{List}
 use native.Mathlib.Omega.{arith}
 use lib.ListN.{length, take}
 use Rattle.diagram.specs.Diagram.{size, vars}
-use Rattle.diagram.specs.Verdict.{Outcome, accepted, said, and_then, Checked}
-use Rattle.diagram.specs.declared.verdict.Verdict.{Verdict}
-use Rattle.diagram.specs.declared.verdict.Verdict.TheVariants.{Accepted as Yes, Refused as No}
+use Rattle.diagram.specs.Verdict.{Verdict, Outcome, accepted, said, and_then, Checked}
+use Rattle.std.specs.Prelude.{Ok, Err}
+use Rattle.diagram.specs.declared.verdict.Extent.{Extent}
+use Rattle.diagram.specs.declared.verdict.Refused.{Refused}
 use Rattle.diagram.specs.declared.verdict.Output.TheVariants.{Diagram}
 use Rattle.diagram.proofs.Meaning.{verdict_accepted}
 use Rattle.diagram.proofs.Outcomes.{never_both}
@@ -86,13 +87,13 @@ module _ (above as_is : Bool) (t : ℕ) {w room room' : List ℕ} (out : List �
     told_is c says = ap (λ (o : Outcome). and_then o (size_told_of above w t)) (sym c.verdict) ∙ sym says
 
     pub size_refuses : {checked : Verdict} → Checked w (Diagram (length out)) room room' checked → said l ≡ and_then (said checked) (size_told_of above w t)
-        → {k p : ℕ} → l ≡ No k p → ToSize above as_is w t room room' out out l 0 0
-    size_refuses c says e = meets_refused (size_verdict above w t) (to_size above as_is w t) out c.left e (told_is c says ∙ ap said e)
+        → {x : Refused} → l ≡ Err x → ToSize above as_is w t room room' out out (Err x) 0 0
+    size_refuses c says e = meets_refused (size_verdict above w t) (to_size above as_is w t) out c.left refl (told_is c says ∙ ap said e)
 
     pub size_targets : (checked : Verdict) → Checked w (Diagram (length out)) room room' checked → said l ≡ and_then (said checked) (size_told_of above w t)
-        → {n v : ℕ} → l ≡ Yes n v → Targeting w room' out n v
-    size_targets (No k p) c says e = absurd (never_both says (ap said e))
-    size_targets (Yes m u) c says e =
+        → {x : Extent} → l ≡ Ok x → Targeting w room' out x.nodes x.vars
+    size_targets (Err y) c says e = absurd (never_both says (ap said e))
+    size_targets (Ok y) c says e =
         let a = check_targets out c refl in
         let own = told_counts above w t (sym says ∙ ap said e) in
         record {
@@ -105,6 +106,6 @@ module _ (above as_is : Bool) (t : ℕ) {w room room' : List ℕ} (out : List �
         }
 
     pub size_meets : {checked : Verdict} → Checked w (Diagram (length out)) room room' checked → said l ≡ and_then (said checked) (size_told_of above w t)
-        → {n v : ℕ} → l ≡ Yes n v → {room'' out' : List ℕ} {k trials : ℕ} → Hit (to_size above as_is w t) room' room'' out out' k trials
-        → ToSize above as_is w t room room'' out out' (Yes n v) k trials
+        → {x : Extent} → l ≡ Ok x → {room'' out' : List ℕ} {k trials : ℕ} → Hit (to_size above as_is w t) room' room'' out out' k trials
+        → ToSize above as_is w t room room'' out out' (Ok x) k trials
     size_meets c says e h = meets_hit (size_verdict above w t) (to_size above as_is w t) out c.left refl (told_is c says ∙ ap said e) h

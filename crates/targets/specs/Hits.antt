@@ -2,8 +2,7 @@
 -- these.
 use Rattle.std.specs.Prelude.{ℕ, ◌*◌, ◌≤◌, ◌<◌, ◌≡◌, Bool, cond, List, ◌++◌, length, get_or, drop}
 use Rattle.diagram.specs.Diagram.{size, vars, Accepted}
-use Rattle.diagram.specs.Verdict.{Outcome, and_then, most, room_of, verdict_for}
-use Rattle.diagram.specs.declared.verdict.Verdict.{Verdict}
+use Rattle.diagram.specs.Verdict.{Verdict, Outcome, and_then, most, room_of, verdict_for}
 use Rattle.diagram.specs.declared.verdict.Output.TheVariants.{Diagram}
 use Rattle.approximation.specs.Search.{Answer}
 use Rattle.approximation.specs.Met.{under_size_answer, over_size_answer}

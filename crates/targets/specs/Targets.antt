@@ -1,11 +1,13 @@
 -- What cutting to a target answers (document 01, "The evening's cut").
-use Rattle.std.specs.Prelude.{ℕ, ◌*◌, ◌≤◌, ◌≡◌, Bool, false, List, length, take}
-use Rattle.diagram.specs.Verdict.{Outcome, accepted, said, and_then, verdict_for, if_accepted, Builds}
-use Rattle.diagram.specs.declared.verdict.Verdict.{Verdict}
+use Rattle.std.specs.Prelude.{Result, Ok, Err, ℕ, ◌*◌, ◌≤◌, ◌≡◌, Bool, false, List, length, take}
+use Rattle.diagram.specs.Verdict.{Verdict, Outcome, accepted, said, and_then, verdict_for, if_accepted, Builds}
+use Rattle.diagram.specs.declared.verdict.Finding.{Finding}
+use Rattle.diagram.specs.declared.verdict.Refused.{Refused}
 use Rattle.diagram.specs.declared.verdict.Output.TheVariants.{Diagram}
 use Rattle.reduction.specs.Reduce.{reduce}
 use Rattle.approximation.specs.Cut.{under_size_of, over_size_of, under_count_of, over_count_of, Under, Over}
 use Rattle.approximation.specs.Search.{Answer}
+use Rattle.trials.specs.declared.answers.Answer.{Answer as Given}
 use Rattle.approximation.specs.Met.{under_size_answer, over_size_answer, under_count_answer, over_count_answer}
 
 -- After the check for a diagram as output come 18 for a size target, 16 and 19 for a count target.
@@ -20,6 +22,15 @@ under_count_verdict w k room lent = and_then (verdict_for Diagram w room lent) (
 
 abbrev pub over_count_verdict : List ℕ → ℕ → ℕ → ℕ → Outcome
 over_count_verdict w k room lent = and_then (verdict_for Diagram w room lent) (over_count_of w k)
+
+-- How many nodes are answered, and how many trials: none where the request is refused.
+abbrev pub nodes_in : Result (Finding Given) Refused → ℕ
+nodes_in (Ok a) = a.value.nodes
+nodes_in (Err e) = 0
+
+abbrev pub trials_in : Result (Finding Given) Refused → ℕ
+trials_in (Ok a) = a.value.trials
+trials_in (Err e) = 0
 
 -- The answer's words in the output, and beside them its trials: 0 where the request is refused.
 pub record Meets (outcome : ℕ → ℕ → Outcome) (a : Answer) (w room room' out out' : List ℕ) (r : Verdict) (count trial-count : ℕ) : Type 0 where

@@ -4,12 +4,8 @@
 pub mod met;
 pub mod size;
 
-use diagram::verdict::Verdict;
+use diagram::verdict::{Finding, Refused};
+use trials::answers::Answer;
 
-// A verdict; how many nodes stand in the output, and how many cuts by a list were made: none where the request is refused.
-#[derive(Clone, Copy)]
-pub struct Approximated {
-    pub verdict: Verdict,
-    pub nodes: usize,
-    pub trials: usize,
-}
+// How many nodes stand in the output, and how many cuts by a list were made, where the request is not refused.
+pub type Approximated = Result<Finding<Answer>, Refused>;

@@ -1,14 +1,15 @@
 // To a size.
 ghost use Rattle.std.specs.Prelude.{◌<◌};
+ghost use Rattle.diagram.specs.Verdict.{verdict_in};
 ghost use Rattle.approximation.specs.Search.{under_to_size, over_to_size};
-ghost use Rattle.targets.specs.Targets.{UnderToSize, OverToSize};
+ghost use Rattle.targets.specs.Targets.{nodes_in, trials_in, UnderToSize, OverToSize};
 ghost use Rattle.targets.specs.Hits.{to_size, ToSize, Targeting, Hit};
 
 use crate::Approximated;
 use crate::met::meet;
 use diagram::limits::MAX_WORDS;
 use diagram::room::most;
-use diagram::verdict::{Output, Verdict};
+use diagram::verdict::{Finding, Output};
 use diagram_check::validate::admit;
 use negation::negate;
 use size_search::under_size;
@@ -87,23 +88,21 @@ fn to_size(
     room: &mut [u32],
     output: &mut [u32],
 ) -> Approximated
-    ensures { ToSize above as_is words.now target room.old room.new output.old output.new result.verdict result.nodes result.trials }
+    ensures { ToSize above as_is words.now target room.old room.new output.old output.new (verdict_in result) (nodes_in result) (trials_in result) }
 {
     let checked = admit(words, room, Output::Diagram(output.len()));
-    let verdict = tell(checked, words, target, above);
-    let Verdict::Accepted { nodes, vars } = verdict else {
-        return Approximated {
-            verdict,
-            nodes: 0,
-            trials: 0,
-        };
-    };
-    let found = hit(words, target, above, as_is, room, output, nodes, vars);
-    Approximated {
-        verdict,
-        nodes: found.nodes,
-        trials: found.trials,
-    }
+    let extent = tell(checked, words, target, above)?;
+    let value = hit(
+        words,
+        target,
+        above,
+        as_is,
+        room,
+        output,
+        extent.nodes,
+        extent.vars,
+    );
+    Ok(Finding { extent, value })
 }
 
 // The answer has at most so many nodes, and it holds only where the diagram does.
@@ -114,7 +113,7 @@ pub fn underapproximate_to_size(
     room: &mut [u32],
     output: &mut [u32],
 ) -> Approximated
-    ensures { UnderToSize as_is words.now target room.old room.new output.old output.new result.verdict result.nodes result.trials }
+    ensures { UnderToSize as_is words.now target room.old room.new output.old output.new (verdict_in result) (nodes_in result) (trials_in result) }
 {
     to_size(words, target, false, as_is, room, output)
 }
@@ -127,7 +126,7 @@ pub fn overapproximate_to_size(
     room: &mut [u32],
     output: &mut [u32],
 ) -> Approximated
-    ensures { OverToSize as_is words.now target room.old room.new output.old output.new result.verdict result.nodes result.trials }
+    ensures { OverToSize as_is words.now target room.old room.new output.old output.new (verdict_in result) (nodes_in result) (trials_in result) }
 {
     to_size(words, target, true, as_is, room, output)
 }

@@ -1,5 +1,5 @@
 -- What the checks of a count target say.
-use Prim.Native.Nat.{ℕ, ◌^◌, ◌≤◌, ◌<◌}
+use Prim.Native.Nat.{ℕ, ◌^◌, ◌≤◌}
 use mathlib.Core.Path.{◌≡◌, refl, sym, ap, ◌∙◌}
 use mathlib.Core.Bool.{Bool, true, false, not, ◌&&◌, and-false}
 use mathlib.Core.List.{List}
@@ -8,16 +8,21 @@ use native.Mathlib.Decide.{dec_lt}
 use lib.Dec.{leb, ltb, eqb}
 use borrow.Author.Tests.{lt-ltb, le-ltb, le-leb, lt-leb, eq-eqb, ne_eqb, eqb-true, eqb-false, leb-true, leb-false}
 use Rattle.naturals.specs.Natural.{value, Fitted}
-use Rattle.naturals.specs.declared.Fit.{Fit}
-use Rattle.naturals.proofs.Answer.{fitted_below}
+use Rattle.naturals.specs.declared.Natural.{Natural}
+use Rattle.std.specs.Prelude.{Option, Some}
+use Rattle.naturals.proofs.Answer.{fitted_some, answers_said}
 use Rattle.counts.proofs.Nodes.{under_limit}
 use Rattle.diagram.specs.Limits.{max_variables}
 use Rattle.diagram.specs.Diagram.{size, vars}
 use Rattle.diagram.specs.Verdict.{accepted, refused, row}
 use Rattle.approximation.specs.Cut.{between, under_count_of, over_count_of}
 
-pub power_value : (v : ℕ) {f : Fit} → v ≤ max_variables → Fitted (2 ^ v) f → value f.natural.words ≡ 2 ^ v
-power_value v h e = (fitted_below e (under_limit (2 ^ v) v (omega arith) h)).1.worth
+-- the power that stands for all valuations is there
+pub power_there : (v : ℕ) {f : Option Natural} → v ≤ max_variables → Fitted (2 ^ v) f → (a : Natural) × (f ≡ Some a)
+power_there v h e = let s = fitted_some e (under_limit (2 ^ v) v (omega arith) h) in (s.0, s.1)
+
+pub power_value : (v : ℕ) {f : Option Natural} {a : Natural} → Fitted (2 ^ v) f → f ≡ Some a → value a.words ≡ 2 ^ v
+power_value v e is = (answers_said e is).worth
 
 -- ---- strictly between
 

@@ -10,9 +10,12 @@ use borrow.Author.Tests.{eq-eqb, ne_eqb}
 use Rattle.diagram.specs.Limits.{max_nodes}
 use Rattle.diagram.specs.Diagram.{size, vars, Accepted}
 use Rattle.diagram.specs.Valuations.{count_of}
-use Rattle.diagram.specs.Verdict.{Outcome, accepted, refused, row, and_then}
+use Rattle.diagram.specs.Verdict.{Verdict, said, accepted, refused, row, and_then}
+use Rattle.diagram.specs.declared.verdict.Extent.{Extent}
+use Rattle.diagram.specs.declared.verdict.Refused.{Refused}
+use Rattle.std.specs.Prelude.{Ok, Err}
 use Rattle.approximation.specs.Cut.{under_size_of, over_size_of}
-use Rattle.told.specs.Told.{too_small, size_told_of, nodes_of, Passed}
+use Rattle.told.specs.Told.{too_small, size_told_of, Passed}
 
 -- ---- the test
 
@@ -42,26 +45,24 @@ unfolding too_small under_size_of over_size_of
 told_row true w t = refl
 told_row false w t = ap (λ (b : Bool). row 18 b 0 (accepted (size w) (vars w))) (sym (or-false (eqb t 0)))
 
-row_is : (b : Bool) (o : Outcome) → (b ≡ true → row 18 b 0 o ≡ refused 18 0) × (b ≡ false → row 18 b 0 o ≡ o)
-unfolding row
-row_is b o = (λ e. rw e refl, λ e. rw e refl)
+module _ (w : List ℕ) {checked : Verdict} (passed : Passed w (said checked)) {x : Extent} (e : checked ≡ Ok x) where
+  passes : Accepted w × (x.nodes ≡ size w) × (x.vars ≡ vars w)
+  passes = passed x.nodes x.vars (ap said e)
 
-pub passed_few : (w : List ℕ) (o : Outcome) → Passed w o → {n : ℕ} → n ≡ nodes_of o → n ≤ max_nodes
-passed_few w (accepted n v) passed e = let h = passed n v refl in omega (arith, h.0.formed.few)
-passed_few w (refused k p) passed e = omega arith
+  pub passed_few : x.nodes ≤ max_nodes
+  passed_few = let h = passes in omega (arith, h.0.formed.few)
 
-module _ (above : Bool) (w : List ℕ) (t : ℕ) {small : Bool} where
-  pub tells_18 : (o : Outcome) → Passed w o → {n : ℕ} → n ≡ nodes_of o → (Accepted w → n ≡ size w → small ≡ too_small above w t) → small ≡ true
-      → {x : Outcome} → x ≡ and_then o (refused 18 0) → x ≡ and_then o (size_told_of above w t)
-  tells_18 (refused k p) passed is says e x = x
-  tells_18 (accepted n v) passed is says e x =
-      let h = passed n v refl in
-      x ∙ sym (told_row above w t ∙ (row_is (too_small above w t) (accepted (size w) (vars w))).0 (sym (says h.0 (is ∙ h.1)) ∙ e))
+  module _ (above : Bool) (t : ℕ) {small : Bool} (says : Accepted w → x.nodes ≡ size w → small ≡ too_small above w t) where
+    told_is : (b : Bool) → small ≡ b → size_told_of above w t ≡ row 18 b 0 (accepted (size w) (vars w))
+    told_is b f = told_row above w t ∙ ap (λ (i : Bool). row 18 i 0 (accepted (size w) (vars w))) (sym (says passes.0 passes.1) ∙ f)
 
-  pub tells_fine : (o : Outcome) → Passed w o → {n : ℕ} → n ≡ nodes_of o → (Accepted w → n ≡ size w → small ≡ too_small above w t) → small ≡ false
-      → o ≡ and_then o (size_told_of above w t)
-  tells_fine (refused k p) passed is says e = refl
-  tells_fine (accepted n v) passed is says e =
-      let h = passed n v refl in
-      rw (h.1, h.2) refl
-      ∙ sym (told_row above w t ∙ (row_is (too_small above w t) (accepted (size w) (vars w))).1 (sym (says h.0 (is ∙ h.1)) ∙ e))
+    pub tells_18 : small ≡ true → refused 18 0 ≡ and_then (said checked) (size_told_of above w t)
+    unfolding row
+    tells_18 f = rw (e, told_is true f) refl
+
+    pub tells_fine : small ≡ false → accepted x.nodes x.vars ≡ and_then (said checked) (size_told_of above w t)
+    unfolding row
+    tells_fine f = rw (e, told_is false f, passes.1, passes.2) refl
+
+pub tells_first : (above : Bool) (w : List ℕ) (t : ℕ) {checked : Verdict} {y : Refused} → checked ≡ Err y → said (Err y) ≡ and_then (said checked) (size_told_of above w t)
+tells_first above w t e = rw e refl

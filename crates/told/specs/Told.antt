@@ -2,7 +2,7 @@
 use Rattle.std.specs.Prelude.{ℕ, ◌≡◌, Bool, cond, ◌&&◌, ◌||◌, List, ltb, eqb}
 use Rattle.diagram.specs.Diagram.{low_of, high_of, size, vars, Accepted}
 use Rattle.diagram.specs.Valuations.{count_of}
-use Rattle.diagram.specs.Verdict.{Outcome, accepted, refused}
+use Rattle.diagram.specs.Verdict.{Outcome, accepted}
 use Rattle.approximation.specs.Cut.{under_size_of, over_size_of, under_count_of, over_count_of}
 
 -- 16 and 19.
@@ -20,11 +20,6 @@ too_small above w t = eqb t 0 || (above && (eqb t 1 && ltb 0 (count_of w)))
 -- A node has a link to node 1.
 unfoldable pub to_one : List ℕ → ℕ → Bool
 to_one w p = eqb (low_of w p) 1 || eqb (high_of w p) 1
-
--- The nodes that an outcome counts: none where it is a refusal.
-abbrev pub nodes_of : Outcome → ℕ
-nodes_of (accepted n v) = n
-nodes_of (refused number place) = 0
 
 -- What the check has said of w: where that is an acceptance, w is accepted, and these are its counts.
 abbrev pub Passed : List ℕ → Outcome → Type 0

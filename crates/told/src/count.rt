@@ -7,8 +7,8 @@ ghost use Rattle.diagram.specs.Verdict.{said};
 ghost use Rattle.approximation.specs.Cut.{under_count_of, over_count_of};
 ghost use Rattle.told.specs.Told.{count_told_of};
 
-use diagram::refusal::{COUNT_TOO_LARGE, NOTHING_TO_CUT};
-use diagram::verdict::Verdict;
+use diagram::refusal::Refusal;
+use diagram::verdict::{Extent, Refused, Verdict};
 use naturals::{Natural, at_most, is_zero, power_of_two};
 
 // Whether a count lies strictly between none and all valuations.
@@ -19,8 +19,8 @@ fn is_between(target: Natural, vars: u32) -> bool
     if is_zero(target) {
         return false;
     }
-    let all = power_of_two(vars);
-    !at_most(all.natural, target)
+    let all = power_of_two(vars).unwrap();
+    !at_most(all, target)
 }
 
 // An array of two nodes is true, and nothing of it can be cut.
@@ -30,14 +30,14 @@ fn under_told(target: Natural, nodes: usize, vars: u32) -> Verdict
 {
     if nodes == 2 {
         if is_between(target, vars) {
-            return Verdict::Refused {
-                number: NOTHING_TO_CUT,
+            return Err(Refused {
+                reason: Refusal::NothingToCut,
                 place: 0,
-            };
+            });
         }
-        return Verdict::Accepted { nodes, vars };
+        return Ok(Extent { nodes, vars });
     }
-    Verdict::Accepted { nodes, vars }
+    Ok(Extent { nodes, vars })
 }
 
 // No diagram has more than all valuations; an array of one node is false, and nothing of its negation can be cut.
@@ -45,23 +45,23 @@ fn over_told(target: Natural, nodes: usize, vars: u32) -> Verdict
     requires { vars ≤ max_variables }
     ensures { (w : List ℕ) → nodes ≡ size w → vars ≡ varsOf w → said result ≡ over_count_of w (value target.words) }
 {
-    let all = power_of_two(vars);
-    if !at_most(target, all.natural) {
-        return Verdict::Refused {
-            number: COUNT_TOO_LARGE,
+    let all = power_of_two(vars).unwrap();
+    if !at_most(target, all) {
+        return Err(Refused {
+            reason: Refusal::CountTooLarge,
             place: 0,
-        };
+        });
     }
     if nodes == 1 {
         if is_between(target, vars) {
-            return Verdict::Refused {
-                number: NOTHING_TO_CUT,
+            return Err(Refused {
+                reason: Refusal::NothingToCut,
                 place: 0,
-            };
+            });
         }
-        return Verdict::Accepted { nodes, vars };
+        return Ok(Extent { nodes, vars });
     }
-    Verdict::Accepted { nodes, vars }
+    Ok(Extent { nodes, vars })
 }
 
 pub fn tell(target: Natural, above: bool, nodes: usize, vars: u32) -> Verdict

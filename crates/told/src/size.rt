@@ -4,11 +4,12 @@ ghost use Rattle.diagram.specs.Limits.{max_nodes};
 ghost use Rattle.diagram.specs.Diagram.{size, Accepted};
 ghost use Rattle.diagram.specs.Valuations.{count_of};
 ghost use Rattle.diagram.specs.Verdict.{said, and_then, first};
-ghost use Rattle.told.specs.Told.{to_one, too_small, nodes_of, size_told_of, Passed};
+ghost use Rattle.told.specs.Told.{to_one, too_small, size_told_of, Passed};
 
 use diagram::node::{BddPointer, high_link_of, low_link_of};
-use diagram::refusal::SIZE_TOO_SMALL;
-use diagram::verdict::Verdict;
+use diagram::refusal::Refusal;
+use diagram::room::most;
+use diagram::verdict::{Refused, Verdict};
 
 // Whether a node has a link to node 1.
 fn leads_to_one(words: &[u32], node: BddPointer) -> bool
@@ -27,14 +28,12 @@ fn first_to_one(words: &[u32], nodes: usize) -> usize
     requires { nodes ≤ max_nodes }
     ensures { result ≡ first (to_one words.now) 2 (nodes - 2) }
 {
-    let mut p = 2;
-    while p < nodes {
+    for p in 2..nodes {
         if leads_to_one(words, BddPointer(p as u32)) {
             return p;
         }
-        p += 1;
     }
-    p
+    most(nodes)
 }
 
 // Whether an accepted diagram holds for some valuation. Every node of it is reached, so one with a link to node 1 is
@@ -66,43 +65,17 @@ fn is_too_small(words: &[u32], target: u32, above: bool, nodes: usize) -> bool
     holds_somewhere(words, nodes)
 }
 
-// The nodes of an accepted diagram; none of a refused one.
-fn nodes_of(verdict: Verdict) -> usize
-    ensures { result ≡ nodes_of (said verdict) }
-{
-    match verdict {
-        Verdict::Accepted { nodes, vars: _ } => nodes,
-        Verdict::Refused {
-            number: _,
-            place: _,
-        } => 0,
-    }
-}
-
-// A refusal ends the checks; after an acceptance the next one's verdict is told.
-fn and_then(verdict: Verdict, next: Verdict) -> Verdict
-    ensures { said result ≡ and_then (said verdict) (said next) }
-{
-    match verdict {
-        Verdict::Accepted { nodes: _, vars: _ } => next,
-        Verdict::Refused {
-            number: _,
-            place: _,
-        } => verdict,
-    }
-}
-
 // 18, after what the check of the diagram says: a refusal of it stays, and no node of a refused diagram is looked at.
 pub fn tell(checked: Verdict, words: &[u32], target: u32, above: bool) -> Verdict
     requires { Passed words.now (said checked) }
     ensures { said result ≡ and_then (said checked) (size_told_of above words.now target) }
 {
-    if is_too_small(words, target, above, nodes_of(checked)) {
-        let small = Verdict::Refused {
-            number: SIZE_TOO_SMALL,
+    let extent = checked?;
+    if is_too_small(words, target, above, extent.nodes) {
+        return Err(Refused {
+            reason: Refusal::SizeTooSmall,
             place: 0,
-        };
-        return and_then(checked, small);
+        });
     }
-    checked
+    Ok(extent)
 }

@@ -1,9 +1,9 @@
 -- The answer of a search that takes no cut: false.
-use Prim.Native.Nat.{ℕ, ◌*◌, ◌≤◌, max}
+use Prim.Native.Nat.{ℕ, ◌≤◌, max}
 use mathlib.Core.Path.{◌≡◌, refl, sym, ap, ◌∙◌}
 use mathlib.Core.List.{List}
 use native.Mathlib.Omega.{arith}
-use lib.ListN.{length, take, drop}
+use lib.ListN.{take, drop}
 use Rattle.diagram.specs.Limits.{max_nodes}
 use Rattle.diagram.specs.Diagram.{vars, Ordered}
 use Rattle.diagram.specs.Verdict.{most}

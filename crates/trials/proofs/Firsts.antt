@@ -1,15 +1,14 @@
 -- The cut by the first priorities.
-use Prim.Native.Nat.{ℕ, suc, ◌+◌, ◌-◌, ◌*◌, ◌≤◌, ◌<◌, max, min}
+use Prim.Native.Nat.{ℕ, suc, ◌+◌, ◌-◌, ◌*◌, ◌≤◌, ◌<◌, min}
 use mathlib.Core.Path.{◌≡◌, refl, sym, ap, ◌∙◌}
-use mathlib.Core.Bool.{Bool, true, false, not, ◌||◌}
+use mathlib.Core.Bool.{Bool, not, ◌||◌}
 use mathlib.Core.List.{List, ◌++◌}
 use native.Mathlib.Omega.{arith}
 use lib.ListN.{length, get_or, take, drop, replicate, length-append, length-replicate, length-drop, get_or-replicate, get_or-append}
 use lib.Seq.{get_or-take, get_or-append-add, take-take, length-take-le}
 use lib.Dec.{eqb}
 use borrow.Rule.Slice.PartMut.{put_mid, mid_of, post_of, take_put, drop_put, mid_len}
-use Rattle.diagram.specs.Limits.{max_nodes}
-use Rattle.diagram.specs.Diagram.{size, vars, root}
+use Rattle.diagram.specs.Diagram.{size}
 use Rattle.diagram.specs.Verdict.{most}
 use Rattle.room_map.specs.Map.{marks_to, tables_from, answer_from, tables_to}
 use Rattle.approximation.specs.Cut.{cut, listed}

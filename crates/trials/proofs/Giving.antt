@@ -1,11 +1,9 @@
 -- The answer of a search, given.
-use Prim.Native.Nat.{ℕ, ◌+◌, ◌-◌, ◌*◌, ◌≤◌, ◌<◌, min}
+use Prim.Native.Nat.{ℕ, ◌+◌, ◌-◌, ◌*◌, ◌≤◌, min}
 use mathlib.Core.Path.{◌≡◌, refl, sym, ap, ◌∙◌}
 use mathlib.Core.List.{List, ◌++◌}
 use native.Mathlib.Omega.{arith}
-use native.Mathlib.Decide.{dec_lt}
-use lib.ListN.{length, get_or, set, take, drop, replicate, length-set, length-drop, take-append-drop}
-use lib.Seq.{get_or-set_same, get_or-set_other, get_or-take, get_or-drop, drop-set-lt, ext_get_or, length-take-le}
+use lib.ListN.{length, take, drop, replicate, take-append-drop}
 use Rattle.diagram.specs.Diagram.{size}
 use Rattle.room_map.specs.Map.{answer_from, search_to}
 use Rattle.reduction.specs.Room.{Copied}

@@ -1,6 +1,6 @@
 -- Priorities and weights in the working room.
 use Prim.Native.Nat.{ℕ, ◌+◌, ◌-◌, ◌*◌, ◌≤◌, ◌<◌}
-use mathlib.Core.Path.{◌≡◌, refl, sym, ap, ◌∙◌}
+use mathlib.Core.Path.{◌≡◌, sym, ap, ◌∙◌}
 use mathlib.Core.List.{List}
 use native.Mathlib.Omega.{arith}
 use lib.ListN.{length, get_or, take, drop, length-drop}
@@ -16,7 +16,6 @@ use Rattle.counts.proofs.Parts.{part_entry, part_kept, part_beyond, lent_long}
 use Rattle.weights.specs.Passes.{weights_from as weightsInFrom, Weighable, Standing}
 use Rattle.priorities.specs.Prioritised.{Topped, Prioritised}
 use Rattle.priorities.proofs.Ordering.{weights_topped, prioritised_order, prioritised_entry}
-use Rattle.approximation.specs.Search.{order}
 use Rattle.cuts.proofs.Rooms.{drop_more}
 use Rattle.trials.specs.Trials.{Ready, Preparing, Prepared}
 

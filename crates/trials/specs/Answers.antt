@@ -1,5 +1,5 @@
 -- The answer of a search in the working room, and how it is given. No promise to a caller rests on this file.
-use Rattle.std.specs.Prelude.{ℕ, ◌+◌, ◌-◌, ◌*◌, ◌≤◌, ◌≡◌, cond, List, ◌++◌, length, take, drop, replicate, eqb}
+use Rattle.std.specs.Prelude.{ℕ, ◌*◌, ◌≤◌, ◌≡◌, cond, List, ◌++◌, length, take, drop, replicate, eqb}
 use Rattle.diagram.specs.Limits.{max_nodes}
 use Rattle.diagram.specs.Diagram.{size}
 use Rattle.room_map.specs.Map.{answer_from, search_to}

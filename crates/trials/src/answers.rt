@@ -11,7 +11,7 @@ use reduction::answer::copy;
 use room_map::{ANSWER, END};
 
 // How many nodes the answer has, and how many cuts by a list were made for it.
-#[derive(Clone, Copy)]
+#[derive(Clone, Copy, Debug, PartialEq, Eq)]
 pub struct Answer {
     pub nodes: usize,
     pub trials: usize,

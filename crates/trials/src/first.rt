@@ -22,10 +22,8 @@ fn mark_first(room: &mut [u32], nodes: usize, count: usize)
     requires { FirstMarkable room.old nodes count }
     ensures { Marked (take count room.old) nodes room.old room.new }
 {
-    let mut i = 0;
-    while i < count {
+    for i in 0..count {
         mark(room, nodes, BddPointer(word(room, i)));
-        i += 1;
     }
 }
 

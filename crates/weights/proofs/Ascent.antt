@@ -10,8 +10,9 @@ use native.Mathlib.Nat.{mul-one, mul-zero, zero-mul, suc-mul, mul-le-mul, mul-le
 use lib.Pow.{pow_pos, pow-add, pow_mono}
 use lib.ListN.{length, get_or}
 use Rattle.naturals.specs.Natural.{value, limit, word_count, Holds, Fitted}
-use Rattle.naturals.specs.declared.Fit.{Fit}
-use Rattle.naturals.proofs.Answer.{holds_as, fitted_below}
+use Rattle.std.specs.Prelude.{Option, Some}
+use Rattle.naturals.specs.declared.Natural.{Natural}
+use Rattle.naturals.proofs.Answer.{holds_as, fitted_some, answers_said}
 use Rattle.in_place.specs.InPlace.{number_in, shifted_in, words_for, Adding, Multiplying, Fitting}
 use Rattle.in_place.specs.declared.sum.Shifted.{Shifted}
 use Rattle.in_place.proofs.Placed.{words_enough}
@@ -366,13 +367,19 @@ module _ {w : List ℕ} {base : ℕ} {room : List ℕ} {n : ℕ} (k : Counted w 
         visits = λ t h u. only_root w o (through_of w t) ∙ sym (weight_through w o t);
       }
 
-  pub begin_done : (above : ℕ) → above ≡ var_of w (n - 1) → {f : Fit} → Fitted (2 ^ above) f → {after : List ℕ}
-      → ((y : ℕ) → Holds y f.natural.words → Noted base zeros (n - 1) y after) → Passing w base after 0 (size w)
-  begin_done above e {f} a note =
+  pub begin_fits : (above : ℕ) → above ≡ var_of w (n - 1) → {f : Option Natural} → Fitted (2 ^ above) f
+      → (a : Natural) × (f ≡ Some a) × Holds (2 ^ var_of w (n - 1)) a.words
+  begin_fits above e {f} a =
       let root_is : n - 1 ≡ root w = ap (λ (m : ℕ). m - 1) k.given.nodes in
       let power : 2 ^ above ≡ 2 ^ var_of w (n - 1) = ap (λ (i : ℕ). 2 ^ i) e in
       let fits : 2 ^ var_of w (n - 1) < limit = rw root_is (root_fits w k.given.ordered) in
-      start_passing (note (2 ^ var_of w (n - 1)) (fitted_below (rw power at a) fits).1)
+      fitted_some (rw power at a) fits
+
+  pub begin_done : (above : ℕ) → above ≡ var_of w (n - 1) → {f : Option Natural} → Fitted (2 ^ above) f → {one : Natural} → f ≡ Some one → {after : List ℕ}
+      → ((y : ℕ) → Holds y one.words → Noted base zeros (n - 1) y after) → Passing w base after 0 (size w)
+  begin_done above e a {one} is note =
+      let power : 2 ^ above ≡ 2 ^ var_of w (n - 1) = ap (λ (i : ℕ). 2 ^ i) e in
+      start_passing (note (2 ^ var_of w (n - 1)) (answers_said (rw power at a) is))
 
 -- at the end only the terminals are left: node 1 has received its weight, and node 0's is zero
 pub passes_done : {w : List ℕ} {room : List ℕ} {n v : ℕ} → Given w n → v ≡ vars w → Passing w (weights_from n) room v (size w) → {after : List ℕ}

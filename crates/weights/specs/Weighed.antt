@@ -5,8 +5,7 @@ use Rattle.naturals.specs.Natural.{word_count, Holds}
 use Rattle.naturals.specs.Spelling.{words_of}
 use Rattle.diagram.specs.Diagram.{size, vars, root, holds}
 use Rattle.diagram.specs.Valuations.{count_of, meets, weight_of}
-use Rattle.diagram.specs.Verdict.{if_accepted, verdict_for, Answers}
-use Rattle.diagram.specs.declared.verdict.Verdict.{Verdict}
+use Rattle.diagram.specs.Verdict.{Verdict, if_accepted, verdict_for, Answers}
 use Rattle.diagram.specs.declared.verdict.Output.TheVariants.{Weights}
 use Rattle.counts.specs.Counting.{Number}
 

@@ -89,8 +89,8 @@ fn begin(words: &[u32], room: &mut [u32], nodes: usize, base: usize)
     empty(room, nodes, base);
     let root = BddPointer((nodes - 1) as u32);
     let above = var_of(words, root);
-    let all = power_of_two(above.0);
-    note(room, base, root, all.natural);
+    let all = power_of_two(above.0).unwrap();
+    note(room, base, root, all);
 }
 
 // All nodes.
@@ -106,9 +106,7 @@ pub(crate) fn pass_all(
     ensures { Passing words.now base room.new vars (size words.now) }
 {
     begin(words, room, nodes, base);
-    let mut c = 0;
-    while c < vars {
+    for c in 0..vars {
         level(words, heads, room, nodes, base, c);
-        c += 1;
     }
 }

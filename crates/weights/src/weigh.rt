@@ -57,9 +57,6 @@ pub fn hand_over(room: &[u32], output: &mut [u32], nodes: usize)
     ensures { Handed (weights_from nodes) room.now output.old nodes output.new }
 {
     let base = BEFORE * nodes;
-    let mut i = 0;
-    while i < naturals::WORDS * nodes {
-        output[i] = room[base + i];
-        i += 1;
-    }
+    let count = naturals::WORDS * nodes;
+    output[..count].copy_from_slice(&room[base..base + count]);
 }

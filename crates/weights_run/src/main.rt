@@ -13,7 +13,7 @@ use cases::{fill, least, number, run_of, words_of};
 use diagram::limits::{MAX_NODES, ROOM_PER_NODE};
 use diagram::node::word;
 use diagram::verdict::Verdict;
-use naturals::{Natural, load};
+use naturals::{Natural, load, zero};
 use node_weights::{count_and_weights, node_valuation_weights};
 
 // The number of standard output.
@@ -37,13 +37,13 @@ fn say(text: &[u8], value: u64) {
 
 fn say_verdict(verdict: Verdict) {
     match verdict {
-        Verdict::Accepted { nodes, vars } => {
-            say(b"accepted nodes ", nodes as u64);
-            say(b" vars ", vars as u64);
+        Ok(extent) => {
+            say(b"accepted nodes ", extent.nodes as u64);
+            say(b" vars ", extent.vars as u64);
         }
-        Verdict::Refused { number, place } => {
-            say(b"refused ", number as u64);
-            say(b" at ", place as u64);
+        Err(refused) => {
+            say(b"refused ", refused.reason.number() as u64);
+            say(b" at ", refused.place as u64);
         }
     }
 }
@@ -61,10 +61,8 @@ fn hex(x: u32, width: usize) {
 // Without zeros in front.
 fn show(a: Natural) {
     let mut begun = false;
-    let mut i = naturals::WORDS;
-    while 0 < i {
-        i -= 1;
-        let x = a.words[i];
+    for word in a.words.iter().rev() {
+        let x = *word;
         if begun {
             hex(x, 8);
         } else {
@@ -83,12 +81,9 @@ fn say_weights(output: &[u32], nodes: usize)
     requires { nodes ≤ max_nodes }
 {
     io::write_all(STDOUT, b", weights");
-    let mut i = 0;
-    while i < nodes {
+    for i in 0..nodes {
         io::write_all(STDOUT, b" ");
-        let weight = load(output, naturals::WORDS * i);
-        show(weight.natural);
-        i += 1;
+        show(load(output, naturals::WORDS * i).unwrap_or(zero()));
     }
 }
 
@@ -110,11 +105,8 @@ fn weighed(verdict: Verdict) -> usize
     ensures { result ≤ max_nodes }
 {
     match verdict {
-        Verdict::Accepted { nodes, vars: _ } => least(nodes, MAX_NODES),
-        Verdict::Refused {
-            number: _,
-            place: _,
-        } => 0,
+        Ok(extent) => least(extent.nodes, MAX_NODES),
+        Err(_) => 0,
     }
 }
 
@@ -122,10 +114,10 @@ fn run_both(words: &[u32], output: &mut [u32], room: &mut [u32], filled: u32, ma
     fill(output, filled);
     fill(room, marked);
     let both = count_and_weights(words, room, output);
-    let verdict = both.verdict;
+    let verdict = both.map(|found| found.extent);
     say_verdict(verdict);
     io::write_all(STDOUT, b", count ");
-    show(both.count);
+    show(both.map_or(zero(), |found| found.value));
     say_room(room, marked);
     say_output(output, filled, weighed(verdict));
 }

@@ -1,5 +1,5 @@
 -- What each pair is worth, as it stands in the table. Auxiliary: no promise to a caller names it.
-use Rattle.std.specs.Prelude.{ℕ, ◌+◌, ◌-◌, ◌≤◌, ◌<◌, ◌≡◌, Bool, true, false, cond, not, ◌&&◌, List, get_or, ltb}
+use Rattle.std.specs.Prelude.{ℕ, ◌+◌, ◌-◌, ◌<◌, ◌≡◌, Bool, true, false, cond, not, ◌&&◌, List, get_or, ltb}
 use Rattle.naturals.specs.Natural.{Holds}
 use Rattle.diagram.specs.Diagram.{vars}
 use Rattle.diagram.specs.Reading.{eval}

@@ -1,5 +1,5 @@
 // What each pair is worth, from the first place to the last: a pair's children stand before it.
-ghost use Rattle.std.specs.Prelude.{◌≡◌, ◌&&◌, ◌||◌, eqb, suc, ◌+◌, ◌-◌, ◌*◌, ◌<◌, ◌≤◌};
+ghost use Rattle.std.specs.Prelude.{◌≡◌, ◌&&◌, eqb, suc, ◌+◌, ◌-◌, ◌*◌, ◌<◌, ◌≤◌};
 ghost use Rattle.naturals.specs.Natural.{word_count};
 ghost use Rattle.diagram.specs.Diagram.{vars as varsOf};
 ghost use Rattle.pairs.specs.Pairs.{max_pairs, level_of, pairs_of};
@@ -9,7 +9,7 @@ ghost use Rattle.worths.specs.Worth.{pair_at, Listed, Placed, Worths, Noting, En
 use crate::flags::{differs_at, note_flag, word_of};
 use diagram::node::{BddPointer, BddVariable};
 use in_place::sum::{Shifted, add_shifted, words_for};
-use naturals::{from_word, store};
+use naturals::{Natural, store};
 use pairs::step::{is_ended, level};
 use pairs::table::{COUNTS, first_at, high_at, low_at, second_at};
 
@@ -41,10 +41,7 @@ pub fn count_from(capacity: usize, place: usize) -> usize
 fn are_ones(p: BddPointer, q: BddPointer) -> bool
     ensures { result ≡ (eqb p.0 1 && eqb q.0 1) }
 {
-    if p.0 == 1 {
-        return q.0 == 1;
-    }
-    false
+    p.0 == 1 && q.0 == 1
 }
 
 // Two terminals: both hold where both are node 1, and they differ where they are not the same.
@@ -62,7 +59,7 @@ fn note_end(
     ensures { Worths first.now second.now capacity table.new (suc place) }
 {
     let both = word_of(are_ones(p, q));
-    store(table, count_from(capacity, place), from_word(both));
+    store(table, count_from(capacity, place), Natural::from(both));
     note_flag(table, capacity, place, p.0 != q.0);
 }
 
@@ -123,16 +120,6 @@ fn note_sum(
     );
 }
 
-// Whether one of two does.
-fn either(x: bool, y: bool) -> bool
-    ensures { result ≡ (x || y) }
-{
-    if x {
-        return true;
-    }
-    y
-}
-
 // It differs where one of its children does.
 fn note_either(first: &[u32], second: &[u32], table: &mut [u32], capacity: usize, place: usize)
     requires { Counted first.now second.now capacity table.old place × Stepping first.now second.now place }
@@ -140,7 +127,7 @@ fn note_either(first: &[u32], second: &[u32], table: &mut [u32], capacity: usize
 {
     let low = differs_at(table, capacity, low_at(table, capacity, place));
     let high = differs_at(table, capacity, high_at(table, capacity, place));
-    note_flag(table, capacity, place, either(low, high));
+    note_flag(table, capacity, place, low || high);
 }
 
 fn note_pair(
@@ -176,9 +163,7 @@ pub fn note_all(
     requires { Listed first.now second.now capacity table.old × (count ≡ pairs_of first.now second.now) × (vars ≡ varsOf first.now) }
     ensures { Worths first.now second.now capacity table.new count }
 {
-    let mut place = 0;
-    while place < count {
+    for place in 0..count {
         note_pair(first, second, table, capacity, place, vars);
-        place += 1;
     }
 }

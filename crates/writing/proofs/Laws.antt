@@ -1,12 +1,12 @@
 -- Writing one thing after another is writing them together.
-use Prim.Native.Nat.{ℕ, zero, suc, ◌-◌, ◌+◌, ◌≤◌, ◌<◌, max, min}
+use Prim.Native.Nat.{ℕ, suc, ◌-◌, ◌+◌, ◌≤◌, ◌<◌}
 use mathlib.Core.Path.{◌≡◌, refl, sym, ap, ◌∙◌}
 use mathlib.Core.List.{List, [], ◌∷◌, ◌++◌}
 use mathlib.Core.Bool.{Bool, true, false}
 use mathlib.Core.Logic.{◌⊎◌, inl, inr, ⊎_elim}
 use native.Mathlib.Omega.{arith}
 use native.Mathlib.Numerals.{add-one}
-use lib.ListN.{length, take, drop, get_or, set, replicate, length-append, length-set, drop_of_length-le}
+use lib.ListN.{length, take, drop, get_or, set, replicate, length-append, drop_of_length-le}
 use lib.Dec.{leb}
 use borrow.Author.Tests.{leb-true, leb-false}
 use lib.Seq.{sets, sets-eq, length-sets, set_out, drop-cons}
@@ -21,30 +21,30 @@ pub by_le {ℓ} : {C : Type ℓ} (a b : ℕ) → (a ≤ b → C) → (b < a → 
 by_le a b f g = by-leb a b (leb a b) refl f g
 
 -- Past the end nothing is stored.
-sets_out : (t l : List ℕ) (at : ℕ) → length l ≤ at → sets l at t ≡ l
+sets_out : {A : Type 0} → (t l : List A) (at : ℕ) → length l ≤ at → sets l at t ≡ l
 sets_out [] l at h = refl
 sets_out (a ∷ t) l at h = rw set_out (sets_out t l (suc at) (omega arith))
 
-sets_append : (s t l : List ℕ) (at : ℕ) → sets l at (s ++ t) ≡ sets (sets l at s) (at + length s) t
+sets_append : {A : Type 0} → (s t l : List A) (at : ℕ) → sets l at (s ++ t) ≡ sets (sets l at s) (at + length s) t
 sets_append [] t l at = let e : at + 0 ≡ at = omega arith in rw e
 sets_append (a ∷ s) t l at =
     let e : at + suc (length s) ≡ suc at + length s = omega arith in
     rw e (sets_append s t (set l at a) (suc at))
 
-past_none : (n at : ℕ) → past n at [] ≡ at
+past_none : (A : Type 0) (n at : ℕ) → past {A = A} n at [] ≡ at
 unfolding past
-past_none n at = omega arith
+past_none A n at = omega arith
 
-past_append : (n at : ℕ) (s t : List ℕ) → past n at (s ++ t) ≡ past n (past n at s) t
+past_append : {A : Type 0} → (n at : ℕ) (s t : List A) → past n at (s ++ t) ≡ past n (past n at s) t
 unfolding past
 past_append n at s t = rw length-append (omega arith)
 
 -- Where the second part starts: right after the first, or past the end.
-past_where : (n at : ℕ) (s : List ℕ) → (past n at s ≡ at + length s) ⊎ ((n ≤ past n at s) × (n ≤ at + length s))
+past_where : {A : Type 0} → (n at : ℕ) (s : List A) → (past n at s ≡ at + length s) ⊎ ((n ≤ past n at s) × (n ≤ at + length s))
 unfolding past
 past_where n at s = by_le n (at + length s) (λ h. inr (omega arith)) (λ h. inl (omega arith))
 
-sets_past : (s t l : List ℕ) (at : ℕ) → sets l at (s ++ t) ≡ sets (sets l at s) (past (length l) at s) t
+sets_past : {A : Type 0} → (s t l : List A) (at : ℕ) → sets l at (s ++ t) ≡ sets (sets l at s) (past (length l) at s) t
 sets_past s t l at =
     sets_append s t l at
     ∙ ⊎_elim
@@ -54,13 +54,13 @@ sets_past s t l at =
 
 -- ---- writings one after another
 
-pub wrote_none : (out : List ℕ) (at : ℕ) → Wrote [] out at out at
-wrote_none out at = record { left = refl; ends = sym (past_none (length out) at) }
+pub wrote_none : {A : Type 0} → (out : List A) (at : ℕ) → Wrote [] out at out at
+wrote_none {A} out at = record { left = refl; ends = sym (past_none A (length out) at) }
 
-pub wrote_length : {t before after : List ℕ} {at place : ℕ} → Wrote t before at after place → length after ≡ length before
+pub wrote_length : {A : Type 0} → {t before after : List A} {at place : ℕ} → Wrote t before at after place → length after ≡ length before
 wrote_length {t} {before} {after} {at} w = ap length w.left ∙ length-sets before at t
 
-pub wrote_then : {s t before mid after : List ℕ} {at place end : ℕ} → Wrote s before at mid place → Wrote t mid place after end → Wrote (s ++ t) before at after end
+pub wrote_then : {A : Type 0} → {s t before mid after : List A} {at place end : ℕ} → Wrote s before at mid place → Wrote t mid place after end → Wrote (s ++ t) before at after end
 wrote_then {s} {t} {before} {mid} {after} {at} {place} {end} a b =
     record {
       left = b.left ∙ rw (a.left, a.ends) (sym (sets_past s t before at));
@@ -68,7 +68,7 @@ wrote_then {s} {t} {before} {mid} {after} {at} {place} {end} a b =
     }
 
 -- Where all of it fits.
-module _ {t before after : List ℕ} {at place : ℕ} (w : Wrote t before at after place) (fits : at + length t ≤ length before) where
+module _ {A : Type 0} {t before after : List A} {at place : ℕ} (w : Wrote t before at after place) (fits : at + length t ≤ length before) where
   pub wrote_fits : after ≡ take at before ++ t ++ drop (at + length t) before
   wrote_fits = w.left ∙ sets-eq t before at fits
 
@@ -77,25 +77,25 @@ module _ {t before after : List ℕ} {at place : ℕ} (w : Wrote t before at aft
   wrote_place = w.ends ∙ omega arith
 
 -- One element, as the code stores it.
-pub wrote_one : (out : List ℕ) (at x : ℕ) → at < length out → Wrote (x ∷ []) out at (set out at x) (at + 1)
+pub wrote_one : {A : Type 0} → (out : List A) (at : ℕ) (x : A) → at < length out → Wrote (x ∷ []) out at (set out at x) (at + 1)
 unfolding past
 wrote_one out at x h = record { left = refl; ends = omega arith }
 
-pub wrote_out : (out : List ℕ) (at x : ℕ) → length out ≤ at → Wrote (x ∷ []) out at out at
+pub wrote_out : {A : Type 0} → (out : List A) (at : ℕ) (x : A) → length out ≤ at → Wrote (x ∷ []) out at out at
 unfolding past
 wrote_out out at x h = record { left = sym (set_out out at x h); ends = omega arith }
 
 -- ---- a loop that writes: `rest` is what is still to be written
 
-pub record Still (whole before : List ℕ) (at : ℕ) (rest now : List ℕ) (place : ℕ) : Type 0 where
+pub record Still {A : Type 0} (whole before : List A) (at : ℕ) (rest now : List A) (place : ℕ) : Type 0 where
   pub size : length now ≡ length before
   pub left : sets before at whole ≡ sets now place rest
   pub ends : past (length before) at whole ≡ past (length before) place rest
 
-pub still_begins : (whole out : List ℕ) (at : ℕ) → Still whole out at whole out at
+pub still_begins : {A : Type 0} → (whole out : List A) (at : ℕ) → Still whole out at whole out at
 still_begins whole out at = record { size = refl; left = refl; ends = refl }
 
-pub still_goes_on : {whole before now after : List ℕ} {at place end : ℕ} (s rest : List ℕ) → Still whole before at (s ++ rest) now place
+pub still_goes_on : {A : Type 0} → {whole before now after : List A} {at place end : ℕ} (s rest : List A) → Still whole before at (s ++ rest) now place
     → Wrote s now place after end → Still whole before at rest after end
 still_goes_on {whole} {before} {now} {after} {at} {place} {end} s rest a w =
     record {
@@ -104,15 +104,15 @@ still_goes_on {whole} {before} {now} {after} {at} {place} {end} s rest a w =
       ends = a.ends ∙ past_append (length before) place s rest ∙ rw (w.ends, a.size);
     }
 
-pub still_ends : {whole before after : List ℕ} {at place : ℕ} → Still whole before at [] after place → Wrote whole before at after place
-still_ends {whole} {before} {after} {at} {place} a = record { left = sym a.left; ends = sym (past_none (length before) place) ∙ sym a.ends }
+pub still_ends : {A : Type 0} → {whole before after : List A} {at place : ℕ} → Still whole before at [] after place → Wrote whole before at after place
+still_ends {A} {whole} {before} {after} {at} {place} a = record { left = sym a.left; ends = sym (past_none A (length before) place) ∙ sym a.ends }
 
 -- By what is left: a part and more, one element and more, or none.
-module _ {whole before now : List ℕ} {at place : ℕ} {rest : List ℕ} (a : Still whole before at rest now place) where
-  pub still_part : {after : List ℕ} {end : ℕ} (s more : List ℕ) → rest ≡ s ++ more → Wrote s now place after end → Still whole before at more after end
+module _ {A : Type 0} {whole before now : List A} {at place : ℕ} {rest : List A} (a : Still whole before at rest now place) where
+  pub still_part : {after : List A} {end : ℕ} (s more : List A) → rest ≡ s ++ more → Wrote s now place after end → Still whole before at more after end
   still_part {after} {end} s more e w = still_goes_on s more (rw e at a) w
 
-  pub still_next : {after : List ℕ} {end : ℕ} {x : ℕ} {more : List ℕ} → rest ≡ x ∷ more → Wrote (x ∷ []) now place after end → Still whole before at more after end
+  pub still_next : {after : List A} {end : ℕ} {x : A} {more : List A} → rest ≡ x ∷ more → Wrote (x ∷ []) now place after end → Still whole before at more after end
   still_next {after} {end} {x} {more} e w = still_part (x ∷ []) more e w
 
   pub still_none : rest ≡ [] → Wrote whole before at now place
@@ -121,12 +121,12 @@ module _ {whole before now : List ℕ} {at place : ℕ} {rest : List ℕ} (a : S
 pub drop_next : (text : List ℕ) (i : ℕ) → i < length text → drop i text ≡ get_or text i 0 ∷ drop (i + 1) text
 drop_next text i h = rw (add-one, drop-cons text i 0)
 
-pub drop_none : (text : List ℕ) (i : ℕ) → length text ≤ i → drop i text ≡ []
+pub drop_none : {A : Type 0} → (text : List A) (i : ℕ) → length text ≤ i → drop i text ≡ []
 drop_none text i h = drop_of_length-le text h
 
-pub zeros_next : (n : ℕ) → 0 < n → replicate {A = ℕ} n 0 ≡ 0 ∷ replicate (n - 1) 0
-zeros_next zero h = absurd (omega arith)
-zeros_next (suc n) h = let e : suc n - 1 ≡ n = omega arith in rw e
+-- The zeros that are left once i of n were written.
+pub zeros_next : (n i : ℕ) → i < n → replicate {A = ℕ} (n - i) 0 ≡ 0 ∷ replicate (n - (i + 1)) 0
+zeros_next n i h = let e : n - i ≡ suc (n - (i + 1)) = omega arith in rw e
 
-pub zeros_none : (n : ℕ) → n ≤ 0 → replicate {A = ℕ} n 0 ≡ []
-zeros_none n h = let e : n ≡ 0 = omega arith in rw e
+pub zeros_none : (n i : ℕ) → n ≤ i → replicate {A = ℕ} (n - i) 0 ≡ []
+zeros_none n i h = let e : n - i ≡ 0 = omega arith in rw e

@@ -1,12 +1,9 @@
-use mathlib.Core.Bool.{not}
-use Rattle.blocks.specs.Block.{nodes, block_nodes, block_words}
+use Rattle.blocks.specs.Block.{nodes, block_nodes}
 use mathlib.Core.Path.{ap}
 use Rattle.blocks.specs.Block.{two}
-use Prim.Native.Nat.{◌+◌, ◌*◌, ◌≤◌}
+use Prim.Native.Nat.{◌≤◌}
 use mathlib.Core.Path.{sym, ◌∙◌}
-use borrow.Author.Tests.{not-true, not-false}
 use Rattle.blocks.proofs.Testing.{refused_21, refused_22, refused_23, refused_25, refused_24, refused_4, taken, held_few, due_small}
-use borrow.Author.Tests.{leb-true, leb-false}
 use native.Mathlib.Omega.{arith}
 use Rattle.block_reading.proofs.test_block.Goals as goal
 

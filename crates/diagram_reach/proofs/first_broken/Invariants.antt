@@ -5,6 +5,3 @@ use Rattle.diagram_reach.proofs.first_broken.Given as goal
 
 abbrev pub invariant-loop-node : goal.invariant-loop-node
 invariant-loop-node l = Scanned (is_broken l.words) 2 l.node × (l.node ≤ 2 + (l.nodes - 2))
-
-abbrev pub decreases-loop-node : goal.decreases-loop-node
-decreases-loop-node l = l.nodes - l.node

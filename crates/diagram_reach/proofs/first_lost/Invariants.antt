@@ -6,6 +6,3 @@ use Rattle.diagram_reach.proofs.first_lost.Given as goal
 
 abbrev pub invariant-loop-p : goal.invariant-loop-p
 invariant-loop-p l = Scanned (λ q. eqb (get_or l.room q 0) 0) 2 l.p × (l.p ≤ 2 + (l.nodes - 2))
-
-abbrev pub decreases-loop-p : goal.decreases-loop-p
-decreases-loop-p l = l.nodes - l.p

@@ -3,4 +3,4 @@ use Rattle.houayletan.proofs.Flattening.{flat_count}
 use Rattle.houayletan.proofs.houayletan_exact_cardinality_3.Goals as goal
 
 pub returns : goal.returns
-returns c = flat_count (Counts _ _ _ _) c.exact_cardinality.ensures _ c.flat_count.ensures
+returns c = flat_count (Counts _ _ _ _) c.exact_cardinality.ensures _ c.from.ensures

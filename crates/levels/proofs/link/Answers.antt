@@ -1,5 +1,4 @@
 use mathlib.Core.Path.{refl, ◌∙◌, ap, ◌≡◌}
-use Prim.Native.Nat.{◌-◌}
 use lib.ListN.{length}
 use Rattle.levels.proofs.Chaining.{link_begins, link_on}
 use borrow.Author.Rules.{rules}

@@ -1,5 +1,4 @@
 use Rattle.negation.proofs.Words.{written_starts, written_on, written_ends}
-use Prim.Native.Nat.{◌-◌}
 use Rattle.negation.proofs.Answers.{end_is, made_is}
 use native.Mathlib.Omega.{arith}
 use Rattle.negation.proofs.negate.Goals as goal

@@ -1,10 +1,6 @@
 use Rattle.negation.proofs.Words.{Written}
-use Prim.Native.Nat.{◌-◌}
 use Rattle.negation.specs.Negation.{negated}
 use Rattle.negation.proofs.negate.Given as goal
 
 abbrev pub invariant-loop-i : goal.invariant-loop-i
 invariant-loop-i l = Written (negated l.words) l.initial.output l.i l.output
-
-abbrev pub decreases-loop-i : goal.decreases-loop-i
-decreases-loop-i l = l.end - l.i

@@ -6,4 +6,4 @@ use Rattle.summary_row.proofs.give.Goals as goal
 pub returns : goal.returns
 returns c =
     let e : c.loop-i.i ≡ c.args.count = omega arith in
-    ap words_of (rw e at c.loop-i.invariant.3) ∙ given_is c.args.words.now c.args.row.now c.args.count (omega arith) (omega arith)
+    ap words_of (rw e at c.loop-i.invariant.2) ∙ given_is c.args.words.now c.args.row.now c.args.count (omega arith) (omega arith)

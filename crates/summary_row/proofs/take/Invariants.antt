@@ -1,10 +1,7 @@
-use Rattle.std.proofs.Common.{◌-◌, ◌≡◌, ◌≤◌, ◌*◌, length}
+use Rattle.std.proofs.Common.{◌≡◌, ◌≤◌, ◌*◌, length}
 use Rattle.summary_row.proofs.Copied.{taken}
 use Rattle.summary_row.proofs.take.Given as goal
 
 abbrev pub invariant-loop-i : goal.invariant-loop-i
 invariant-loop-i l =
-    (l.i ≤ l.count) × (l.count ≤ length l.row) × (2 * l.count ≤ length l.initial.words) × (l.words ≡ taken l.row l.initial.words l.i)
-
-abbrev pub decreases-loop-i : goal.decreases-loop-i
-decreases-loop-i l = l.count - l.i
+    (l.count ≤ length l.row) × (2 * l.count ≤ length l.initial.words) × (l.words ≡ taken l.row l.initial.words l.i)

@@ -1,10 +1,5 @@
-use lib.ListN.{length}
-use Prim.Native.Nat.{◌-◌, ◌/◌}
 use Rattle.block_file.proofs.Storing.{Narrow}
 use Rattle.block_file.proofs.write.first_wide.Given as goal
 
 abbrev pub invariant-loop-p : goal.invariant-loop-p
 invariant-loop-p l = Narrow l.words l.p
-
-abbrev pub decreases-loop-p : goal.decreases-loop-p
-decreases-loop-p l = length l.words / 3 - l.p

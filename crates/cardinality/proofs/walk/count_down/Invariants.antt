@@ -6,6 +6,3 @@ use Rattle.cardinality.proofs.walk.count_down.Given as goal
 
 abbrev pub invariant-loop-c : goal.invariant-loop-c
 invariant-loop-c l = Floated l.words l.room l.c 0 × (l.c ≤ l.vars) × (length l.room ≡ length l.initial.room)
-
-abbrev pub decreases-loop-c : goal.decreases-loop-c
-decreases-loop-c l = l.c

@@ -1,18 +1,22 @@
 use Rattle.naturals.specs.Natural.{value}
+use Rattle.diagram.proofs.Accepting.{passed_on}
 use Rattle.count_targets.proofs.Counts.{check_refuses, open_few, open_refuses, open_counts, open_meets}
 use Rattle.count_targets.proofs.count.to_count.Goals as goal
 
-pub returns-in_default : goal.returns-in_default
-returns-in_default c = check_refuses c.args.above c.args.as_is (value c.args.target.words) c.args.output.now c.admit-verdict.ensures c.in_default.is
+pub returns-in_err-extent : goal.returns-in_err-extent
+returns-in_err-extent c =
+    rw (passed_on c.from_residual.result c.in_err-extent.field-0.0 c.from_residual.ensures.1) (check_refuses c.args.above c.args.as_is (value c.args.target.words) c.args.output.now c.admit.ensures c.in_err-extent.was)
 
-pub tell-told-requires : goal.tell-told-requires
-tell-told-requires c = open_few c.args.above c.args.as_is (value c.args.target.words) c.args.output.now c.admit-verdict.ensures c.in-Accepted.is
+pub tell-requires : goal.tell-requires
+tell-requires c = open_few c.args.above c.args.as_is (value c.args.target.words) c.args.output.now c.admit.ensures c.in_ok-extent.was
 
-pub returns-in_default-told : goal.returns-in_default-told
-returns-in_default-told c = open_refuses c.args.above c.args.as_is (value c.args.target.words) c.args.output.now c.admit-verdict.ensures c.in-Accepted.is c.tell-told.result c.tell-told.ensures c.in_default-told.is
+pub returns-in_err-tell : goal.returns-in_err-tell
+returns-in_err-tell c =
+    rw (passed_on c.from_residual-in_err-tell.result c.in_err-tell.field-0.0 c.from_residual-in_err-tell.ensures.1)
+    (open_refuses c.args.above c.args.as_is (value c.args.target.words) c.args.output.now c.admit.ensures c.in_ok-extent.was c.tell.result c.tell.ensures c.in_err-tell.was)
 
-pub hit-found-requires : goal.hit-found-requires
-hit-found-requires c = open_counts c.args.above c.args.as_is (value c.args.target.words) c.args.output.now c.admit-verdict.ensures c.in-Accepted.is c.tell-told.result c.tell-told.ensures c.in-Accepted-told.is
+pub hit-value-requires : goal.hit-value-requires
+hit-value-requires c = open_counts c.args.above c.args.as_is (value c.args.target.words) c.args.output.now c.admit.ensures c.in_ok-extent.was c.tell.result c.tell.ensures c.in_ok-tell.was
 
 pub returns : goal.returns
-returns c = open_meets c.args.above c.args.as_is (value c.args.target.words) c.args.output.now c.admit-verdict.ensures c.in-Accepted.is c.tell-told.result c.tell-told.ensures c.in-Accepted-told.is c.hit-found.ensures
+returns c = open_meets c.args.above c.args.as_is (value c.args.target.words) c.args.output.now c.admit.ensures c.in_ok-extent.was c.tell.result c.tell.ensures c.in_ok-tell.was c.hit-value.ensures

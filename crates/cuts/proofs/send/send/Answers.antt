@@ -7,21 +7,6 @@ use Rattle.diagram.specs.Diagram.{size}
 use native.Mathlib.Omega.{arith}
 use Rattle.cuts.proofs.send.send.Goals as goal
 
-pub loop-p-init : goal.loop-p-init
-loop-p-init c = ((λ f j h. absurd (omega arith)), omega arith, refl)
-
-pub overflow_cast-node : goal.overflow_cast-node
-overflow_cast-node c = omega (arith, c.requires.is_size, c.requires.formed.few)
-
-pub sent_link-low-requires : goal.sent_link-low-requires
-sent_link-low-requires c = c.requires.few
-
-pub sent_link-high-requires : goal.sent_link-high-requires
-sent_link-high-requires c = c.requires.few
-
-pub loop-p-smaller : goal.loop-p-smaller
-loop-p-smaller c = omega arith
-
 pub loop-p-preserved : goal.loop-p-preserved
 loop-p-preserved c =
     let inside : c.loop-p.p < size c.args.words.now = omega (arith, c.requires.is_size) in
@@ -29,9 +14,6 @@ loop-p-preserved c =
     let low = c.sent_link-low.ensures ∙ ap (λ (q : ℕ). link_from (marked_in c.args.most c.args.room.now) c.args.target.0 c.loop-p.p q) c.low_link_of.ensures in
     let high = c.sent_link-high.ensures ∙ ap (λ (q : ℕ). link_from (marked_in c.args.most c.args.room.now) c.args.target.0 c.loop-p.p q) c.high_link_of.ensures in
     ((λ f. rw c.put_node.ensures (sent_on c.args.words.now f (marked_in c.args.most c.args.room.now) c.args.target.0 c.loop-p.p c.loop-p.sent (c.loop-p.invariant.0 f) inside long c.var_of.result.0 c.sent_link-low.result.0 c.sent_link-high.result.0 c.var_of.ensures low high)), omega arith, c.put_node.auto.sent ∙ c.loop-p.invariant.2)
-
-pub shape_of-sent : goal.shape_of-sent
-shape_of-sent c = c.loop-p.invariant.2
 
 pub returns : goal.returns
 returns c = sent_ends c.args.words.now c.requires.formed (marked_in c.args.most c.args.room.now) c.args.target.0 c.loop-p.p c.loop-p.sent c.args.sent.now (c.loop-p.invariant.0 c.requires.formed) (omega (arith, c.requires.is_size)) c.loop-p.invariant.2 c.requires.long

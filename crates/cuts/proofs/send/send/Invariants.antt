@@ -8,6 +8,3 @@ use Rattle.cuts.proofs.send.send.Given as goal
 
 abbrev pub invariant-loop-p : goal.invariant-loop-p
 invariant-loop-p l = ((f : Formed l.words) → Sofar l.words f (marked_in l.most l.room) l.target.0 l.p l.sent) × (l.p ≤ l.nodes) × (length l.sent ≡ length l.initial.sent)
-
-abbrev pub decreases-loop-p : goal.decreases-loop-p
-decreases-loop-p l = l.nodes - l.p

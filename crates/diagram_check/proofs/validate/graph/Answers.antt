@@ -16,7 +16,7 @@ overflow_cast-broken c =
 pub returns-then-broken-nodes : goal.returns-then-broken-nodes
 returns-then-broken-nodes c =
     refuse_order c.args.words.now c.args.nodes c.first_broken-broken.result c.requires.0 c.first_broken-broken.ensures c.if-broken-nodes.true
-    c.broken_order-number.result c.broken_order-number.ensures
+    _ c.broken_order-reason.ensures
 
 pub returns : goal.returns
 returns c =

@@ -2,10 +2,10 @@ use mathlib.Core.Path.{sym}
 use Rattle.differ_texts.specs.Texts.{difference_text}
 use Rattle.differ_texts.proofs.lines.write_difference.Goals as goal
 
-pub returns-then-differs : goal.returns-then-differs
+pub returns-in-Some : goal.returns-in-Some
 unfolding difference_text
-returns-then-differs c = rw (c.if-differs.true, sym c.put_bits.ensures) c.write_smallest.ensures
+returns-in-Some c = rw (c.in-Some.is, sym c.put_bits.ensures) c.write_smallest.ensures
 
-pub returns : goal.returns
+pub returns-in-None : goal.returns-in-None
 unfolding difference_text
-returns c = rw c.if-differs.false c.write.ensures
+returns-in-None c = rw c.in-None.is c.write.ensures

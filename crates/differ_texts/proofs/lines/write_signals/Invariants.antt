@@ -1,11 +1,7 @@
-use Prim.Native.Nat.{◌-◌, ◌≤◌}
-use lib.ListN.{length, drop}
+use lib.ListN.{drop}
 use Rattle.writing.proofs.Laws.{Still}
 use Rattle.differ_texts.specs.Texts.{signals}
 use Rattle.differ_texts.proofs.lines.write_signals.Given as goal
 
 abbrev pub invariant-loop-i : goal.invariant-loop-i
-invariant-loop-i l = (l.i ≤ length l.row) × Still (signals 0 l.row) l.initial.out l.at (signals l.i (drop l.i l.row)) l.out l.place
-
-abbrev pub decreases-loop-i : goal.decreases-loop-i
-decreases-loop-i l = length l.row - l.i
+invariant-loop-i l = Still (signals 0 l.row) l.initial.out l.at (signals l.i (drop l.i l.row)) l.out l.place

@@ -1,32 +1,30 @@
+use Rattle.std.specs.Option.{option_copied}
 use Prim.Native.Nat.{ℕ, ◌*◌}
 use mathlib.Core.Path.{◌≡◌, refl, sym}
 use lib.ListN.{length, length-replicate}
 use lib.Seq.{length-take-le}
 use Rattle.diagram.specs.Limits.{max_words}
-use Rattle.differing.proofs.Answering.{only_said, new_missing, new_refused, new_loaded}
+use Rattle.differing.proofs.Answering.{only_said, new_unloaded, new_loaded}
 use native.Mathlib.Omega.{arith}
 use Rattle.differing.proofs.job.differ_from.Goals as goal
 
 pub slice_bounds-load-end : goal.slice_bounds-load-end
 slice_bounds-load-end c = sym (length-replicate {A = ℕ} max_words 0)
 
-pub load-loading-requires : goal.load-loading-requires
-load-loading-requires c = refl
+pub load-requires : goal.load-requires
+load-requires c = refl
 
 pub overflow_mul-words : goal.overflow_mul-words
-overflow_mul-words c = omega (arith, c.load-loading.ensures.few _ c.in-Loaded.is)
+overflow_mul-words c = omega (arith, c.load.ensures.few _ c.in-Ok.is)
 
 pub slice_bounds-words-end : goal.slice_bounds-words-end
-slice_bounds-words-end c = omega (arith, c.load-loading.ensures.few _ c.in-Loaded.is, c.load-loading.auto.words)
+slice_bounds-words-end c = omega (arith, c.load.ensures.few _ c.in-Ok.is, c.load.auto.words)
 
 pub slice_bounds-tell-end : goal.slice_bounds-tell-end
-slice_bounds-tell-end c = let h : length c.load-loading.new.words ≡ max_words = c.load-loading.auto.words in sym (length-take-le (3 * c.in-Loaded.nodes) c.load-loading.new.words (omega (arith, c.load-loading.ensures.few _ c.in-Loaded.is, h)))
+slice_bounds-tell-end c = let h : length c.load.new.words ≡ max_words = c.load.auto.words in sym (length-take-le (3 * c.in-Ok.nodes) c.load.new.words (omega (arith, c.load.ensures.few _ c.in-Ok.is, h)))
 
-pub returns-in-Missing : goal.returns-in-Missing
-returns-in-Missing c = new_missing c.args.form c.args.found c.args.bytes.now _ c.load-loading.ensures c.args.old.now c.args.new.now c.args.first.now c.in-Missing.is (only_said c.miss.ensures)
+pub returns-in-Err : goal.returns-in-Err
+returns-in-Err c = new_unloaded c.args.form (option_copied c.args.file) _ c.load.ensures c.args.old.now c.args.new.now c.args.first.now c.in-Err.is (only_said c.say_unloaded.ensures)
 
-pub returns-in-Refused : goal.returns-in-Refused
-returns-in-Refused c = new_refused c.args.form c.args.found c.args.bytes.now _ c.load-loading.ensures c.args.old.now c.args.new.now c.args.first.now c.in-Refused.is (only_said c.refuse.ensures)
-
-pub returns-in-Loaded : goal.returns-in-Loaded
-returns-in-Loaded c = new_loaded c.args.form c.args.found c.args.bytes.now _ c.load-loading.ensures c.args.old.now c.args.new.now c.args.first.now c.in-Loaded.is c.tell.ensures
+pub returns-in-Ok : goal.returns-in-Ok
+returns-in-Ok c = new_loaded c.args.form (option_copied c.args.file) _ c.load.ensures c.args.old.now c.args.new.now c.args.first.now c.in-Ok.is c.tell.ensures

@@ -6,6 +6,3 @@ use Rattle.exact_counts.proofs.down.count_down.Given as goal
 
 abbrev pub invariant-loop-c : goal.invariant-loop-c
 invariant-loop-c l = Worths l.valuations l.words l.room l.c 0 × (l.c ≤ l.vars) × (length l.room ≡ length l.initial.room)
-
-abbrev pub decreases-loop-c : goal.decreases-loop-c
-decreases-loop-c l = l.c

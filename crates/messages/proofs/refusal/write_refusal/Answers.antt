@@ -4,4 +4,4 @@ use Rattle.messages.proofs.refusal.write_refusal.Goals as goal
 
 pub returns : goal.returns
 unfolding refusal_text
-returns c = wrote_then (wrote_then (wrote_then (wrote_then c.write_refused-refused.ensures c.write-colon.ensures) c.write_subject-of.ensures) c.write_phrase-said.ensures) c.put.ensures
+returns c = wrote_then (wrote_then (wrote_then (wrote_then (rw c.number.ensures at c.write_refused-begun.ensures) c.write-colon.ensures) c.write_subject-of.ensures) c.write_phrase-said.ensures) c.put.ensures

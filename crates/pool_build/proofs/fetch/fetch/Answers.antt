@@ -1,6 +1,6 @@
 use lib.Seq.{length-take-le}
 use mathlib.Core.Path.{sym}
-use Rattle.pool_build.proofs.Fetching.{fetch_part, fetch_makes, fetch_gives, fetched}
+use Rattle.pool_build.proofs.Fetching.{fetch_part, fetch_makes, fetched}
 use Rattle.pool_build.proofs.fetch.fetch.Goals as goal
 
 pub slice_bounds-make-end : goal.slice_bounds-make-end
@@ -8,9 +8,6 @@ slice_bounds-make-end c = sym (length-take-le c.walked-part.result c.args.table.
 
 pub make-count-requires : goal.make-count-requires
 make-count-requires c = fetch_makes c.requires c.walked-part.ensures
-
-pub give-verdict-requires : goal.give-verdict-requires
-give-verdict-requires c = fetch_gives c.requires c.walked-part.ensures c.make-count.ensures c.make-count.auto.room
 
 pub returns : goal.returns
 returns c = fetched c.requires c.walked-part.ensures c.make-count.ensures c.make-count.auto.room c.args.output.now c.give-verdict.ensures c.clear.ensures

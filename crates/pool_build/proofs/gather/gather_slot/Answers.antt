@@ -1,12 +1,9 @@
-use Rattle.pool_build.proofs.Gathering.{slot_stays, slot_walks, slot_small, slot_goes}
+use Rattle.pool_build.proofs.Gathering.{slot_stays, slot_small, slot_goes}
 use native.Mathlib.Omega.{arith}
 use Rattle.pool_build.proofs.gather.gather_slot.Goals as goal
 
 pub returns-then-name-eq0 : goal.returns-then-name-eq0
 returns-then-name-eq0 c = slot_stays c.requires.0 c.requires.1 c.word-name.ensures c.if-name-eq0.true
-
-pub build-made-requires : goal.build-made-requires
-build-made-requires c = slot_walks c.requires.0 c.requires.1 c.word-name.ensures c.if-name-eq0.false
 
 pub overflow_add-made : goal.overflow_add-made
 overflow_add-made c = omega (arith, slot_small c.requires.0 c.requires.1 c.word-name.ensures c.if-name-eq0.false c.build-made.ensures)

@@ -1,11 +1,7 @@
 use lib.Seq.{length-take-le}
 use mathlib.Core.Path.{refl, sym, ◌∙◌}
-use Rattle.pool_build.proofs.Replacing.{part_fits, put_begun, put_composed, replaced_not, handing, replaced}
-use native.Mathlib.Omega.{arith}
+use Rattle.pool_build.proofs.Replacing.{part_fits, put_begun, put_composed, replaced_not, replaced}
 use Rattle.pool_build.proofs.place.place_in.Goals as goal
-
-pub copy-requires : goal.copy-requires
-copy-requires c = (omega (arith, c.requires.0.pool.slots), omega (arith, c.requires.1.slots))
 
 pub slice_bounds-compose-end : goal.slice_bounds-compose-end
 slice_bounds-compose-end c = part_fits c.requires.0.pool c.walked-part.ensures
@@ -18,9 +14,6 @@ compose-count-requires c = put_begun c.requires.0 c.requires.1 c.walked-part.ens
 
 pub returns-then-capacity-count : goal.returns-then-capacity-count
 returns-then-capacity-count c = replaced_not c.requires.0.pool c.walked-part.ensures (put_composed c.requires.0 c.requires.1 c.walked-part.ensures refl c.copy.ensures c.copy.auto.output c.compose-count.ensures) c.if-capacity-count.true
-
-pub hand_back-requires : goal.hand_back-requires
-hand_back-requires c = handing c.requires.0.pool c.walked-part.ensures (put_composed c.requires.0 c.requires.1 c.walked-part.ensures refl c.copy.ensures c.copy.auto.output c.compose-count.ensures) c.if-capacity-count.false (c.compose-count.auto.work ∙ c.requires.1.long) (c.compose-count.auto.names ∙ c.copy.auto.output ∙ c.requires.1.slots)
 
 pub returns : goal.returns
 returns c = replaced c.requires.0.pool c.walked-part.ensures (put_composed c.requires.0 c.requires.1 c.walked-part.ensures refl c.copy.ensures c.copy.auto.output c.compose-count.ensures) c.if-capacity-count.false (c.compose-count.auto.work ∙ c.requires.1.long) c.hand_back.ensures

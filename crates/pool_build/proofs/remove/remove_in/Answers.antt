@@ -1,11 +1,7 @@
 use lib.Seq.{length-take-le}
 use mathlib.Core.Path.{refl, sym, ◌∙◌}
 use Rattle.pool_build.proofs.Replacing.{part_fits, left_begun, left_composed, left_fits, handing, replaced}
-use native.Mathlib.Omega.{arith}
 use Rattle.pool_build.proofs.remove.remove_in.Goals as goal
-
-pub copy-requires : goal.copy-requires
-copy-requires c = (omega (arith, c.requires.0.slots), omega (arith, c.requires.1.slots))
 
 pub slice_bounds-compose_named-end : goal.slice_bounds-compose_named-end
 slice_bounds-compose_named-end c = part_fits c.requires.0 c.walked-part.ensures

@@ -1,4 +1,3 @@
-use Prim.Native.Nat.{◌-◌}
 use mathlib.Core.Path.{◌≡◌}
 use lib.ListN.{length}
 use Rattle.diagram.proofs.Count.{Scanned}
@@ -9,6 +8,3 @@ use Rattle.pool_check.proofs.again.distinct_in.Given as goal
 
 abbrev pub invariant-loop-p : goal.invariant-loop-p
 invariant-loop-p l = Scanned (fails l.table (is_first l.table)) 2 l.p × Linked l.table l.chains l.p × (length l.chains ≡ length l.initial.chains)
-
-abbrev pub decreases-loop-p : goal.decreases-loop-p
-decreases-loop-p l = l.places - l.p

@@ -1,21 +1,11 @@
-use native.Mathlib.Omega.{arith}
-use Rattle.pool_check.proofs.Chaining.{seek_begin, seek_inside, seek_hit, seek_on, seek_less, seek_end}
+use Rattle.pool_check.proofs.Chaining.{seek_begin, seek_hit, seek_on, seek_less, seek_end}
 use Rattle.pool_check.proofs.again.is_in.Goals as goal
 
 pub loop-q-init : goal.loop-q-init
 loop-q-init c = seek_begin c.requires.0 c.requires.1 c.requires.2
 
-pub are_alike-requires : goal.are_alike-requires
-are_alike-requires c = seek_inside c.requires.0 c.requires.1 c.loop-q.invariant
-
 pub returns-then-are_alike : goal.returns-then-are_alike
 returns-then-are_alike c = seek_hit c.requires.0 c.requires.1 c.loop-q.invariant c.loop-q-test.true c.are_alike.ensures c.if-are_alike.true
-
-pub overflow_cast-q : goal.overflow_cast-q
-overflow_cast-q c = omega (arith, seek_inside c.requires.0 c.requires.1 c.loop-q.invariant)
-
-pub overflow_add-q : goal.overflow_add-q
-overflow_add-q c = omega (arith, seek_inside c.requires.0 c.requires.1 c.loop-q.invariant)
 
 pub loop-q-smaller : goal.loop-q-smaller
 loop-q-smaller c = seek_less c.requires.0 c.requires.1 c.loop-q.invariant c.loop-q-test.true c.word-q.ensures

@@ -1,4 +1,4 @@
-use Prim.Native.Nat.{◌-◌, ◌≤◌}
+use Prim.Native.Nat.{◌≤◌}
 use Rattle.diagram.proofs.Count.{Scanned}
 use Rattle.pool.specs.Pool.{slot_count}
 use Rattle.pool_check.proofs.Returns.{isUnnamed}
@@ -6,6 +6,3 @@ use Rattle.pool_check.proofs.nodes.are_names.Given as goal
 
 abbrev pub invariant-loop-k : goal.invariant-loop-k
 invariant-loop-k l = Scanned (isUnnamed l.table l.slots) 0 l.k × (l.k ≤ slot_count)
-
-abbrev pub decreases-loop-k : goal.decreases-loop-k
-decreases-loop-k l = slot_count - l.k

@@ -1,4 +1,3 @@
-use Prim.Native.Nat.{◌-◌}
 use Rattle.diagram.proofs.Count.{Scanned}
 use Rattle.pool.proofs.Testing.{fails}
 use Rattle.pool_check.proofs.Marking.{is_marked}
@@ -6,6 +5,3 @@ use Rattle.pool_check.proofs.wanted.are_marked.Given as goal
 
 abbrev pub invariant-loop-p : goal.invariant-loop-p
 invariant-loop-p l = Scanned (fails l.table (is_marked l.marks)) 2 l.p
-
-abbrev pub decreases-loop-p : goal.decreases-loop-p
-decreases-loop-p l = l.places - l.p

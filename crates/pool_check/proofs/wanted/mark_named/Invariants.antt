@@ -1,4 +1,4 @@
-use Prim.Native.Nat.{◌-◌, ◌≤◌}
+use Prim.Native.Nat.{◌≤◌}
 use mathlib.Core.Path.{◌≡◌}
 use lib.ListN.{length}
 use Rattle.pool.specs.Pool.{slot_count}
@@ -7,6 +7,3 @@ use Rattle.pool_check.proofs.wanted.mark_named.Given as goal
 
 abbrev pub invariant-loop-k : goal.invariant-loop-k
 invariant-loop-k l = Marks (is_named l.slots l.k) l.marks × (l.k ≤ slot_count) × (length l.marks ≡ length l.initial.marks)
-
-abbrev pub decreases-loop-k : goal.decreases-loop-k
-decreases-loop-k l = slot_count - l.k

@@ -2,8 +2,5 @@ use Prim.Native.Nat.{◌-◌}
 use Rattle.queries.proofs.Listing.{Listing}
 use Rattle.queries.proofs.per_variable.list.Given as goal
 
-abbrev pub invariant-loop-node : goal.invariant-loop-node
-invariant-loop-node l = Listing l.words l.initial.output l.node.0 l.output
-
-abbrev pub decreases-loop-node : goal.decreases-loop-node
-decreases-loop-node l = l.nodes - l.node.0
+abbrev pub invariant-loop-p : goal.invariant-loop-p
+invariant-loop-p l = Listing l.words l.initial.output l.p l.output

@@ -4,6 +4,3 @@ use Rattle.recounts.proofs.turning.turn.Given as goal
 
 abbrev pub invariant-loop-p : goal.invariant-loop-p
 invariant-loop-p l = Turned l.words l.initial.room l.room l.p × (2 ≤ l.p) × (l.p ≤ l.nodes)
-
-abbrev pub decreases-loop-p : goal.decreases-loop-p
-decreases-loop-p l = l.nodes - l.p

@@ -1,11 +1,8 @@
-use Prim.Native.Nat.{◌-◌, ◌≤◌}
+use Prim.Native.Nat.{◌-◌}
 use Rattle.diagram.specs.Diagram.{size}
 use Rattle.report.specs.Report.{lines, weight_in}
 use Rattle.writing.proofs.Laws.{Still}
 use Rattle.report.proofs.lines.write_nodes.Given as goal
 
 abbrev pub invariant-loop-node : goal.invariant-loop-node
-invariant-loop-node l = (l.node ≤ size l.words) × Still (lines l.words (weight_in l.weights) 0 (size l.words)) l.initial.out l.at (lines l.words (weight_in l.weights) l.node (size l.words - l.node)) l.out l.place
-
-abbrev pub decreases-loop-node : goal.decreases-loop-node
-decreases-loop-node l = size l.words - l.node
+invariant-loop-node l = Still (lines l.words (weight_in l.weights) 0 (size l.words)) l.initial.out l.at (lines l.words (weight_in l.weights) l.node (size l.words - l.node)) l.out l.place

@@ -11,16 +11,16 @@ pub slice_bounds-read_form-end : goal.slice_bounds-read_form-end
 slice_bounds-read_form-end c = sym (length-replicate {A = ℕ} max_words 0)
 
 pub overflow_mul-words : goal.overflow_mul-words
-overflow_mul-words c = omega (arith, file_few c.args.form c.args.bytes.now _ _ c.read_form-stored.ensures refl c.in-Nodes.is)
+overflow_mul-words c = omega (arith, file_few c.args.form c.args.bytes.now _ _ c.read_form.ensures refl c.in-Ok.is)
 
 pub slice_bounds-words-end : goal.slice_bounds-words-end
-slice_bounds-words-end c = omega (arith, file_few c.args.form c.args.bytes.now _ _ c.read_form-stored.ensures refl c.in-Nodes.is, c.read_form-stored.auto.output)
+slice_bounds-words-end c = omega (arith, file_few c.args.form c.args.bytes.now _ _ c.read_form.ensures refl c.in-Ok.is, c.read_form.auto.output)
 
 pub slice_bounds-report_diagram-end : goal.slice_bounds-report_diagram-end
-slice_bounds-report_diagram-end c = let h : length c.read_form-stored.new.output ≡ max_words = c.read_form-stored.auto.output in sym (length-take-le (3 * c.in-Nodes.nodes) c.read_form-stored.new.output (omega (arith, file_few c.args.form c.args.bytes.now _ _ c.read_form-stored.ensures refl c.in-Nodes.is)))
+slice_bounds-report_diagram-end c = let h : length c.read_form.new.output ≡ max_words = c.read_form.auto.output in sym (length-take-le (3 * c.in-Ok.nodes) c.read_form.new.output (omega (arith, file_few c.args.form c.args.bytes.now _ _ c.read_form.ensures refl c.in-Ok.is)))
 
-pub returns-in-Nodes : goal.returns-in-Nodes
-returns-in-Nodes c = file_read_lem c.args.form c.args.bytes.now _ _ c.read_form-stored.ensures refl c.in-Nodes.is c.report_diagram.ensures
+pub returns-in-Ok : goal.returns-in-Ok
+returns-in-Ok c = file_read_lem c.args.form c.args.bytes.now _ _ c.read_form.ensures refl c.in-Ok.is c.report_diagram.ensures
 
-pub returns-in-Refused : goal.returns-in-Refused
-returns-in-Refused c = file_refused c.args.form c.args.bytes.now _ _ c.read_form-stored.ensures refl c.in-Refused.is c.write_refusal.ensures
+pub returns-in-Err : goal.returns-in-Err
+returns-in-Err c = file_refused c.args.form c.args.bytes.now _ _ c.read_form.ensures refl c.in-Err.is c.write_refusal.ensures

@@ -1,16 +1,13 @@
+use native.Mathlib.Numerals.{unary_clauses}
 use Rattle.writing.proofs.Laws.{still_begins, still_next, still_none}
 use Rattle.setting_blocks.proofs.Words.{words_next, words_none}
-use native.Mathlib.Omega.{arith}
 use Rattle.setting_blocks.proofs.number.get_words.Goals as goal
 
-pub loop-left-init : goal.loop-left-init
-loop-left-init c = (omega arith, still_begins _ _ _)
+pub loop-i-init : goal.loop-i-init
+loop-i-init c = simp unary_clauses (still_begins _ _ _)
 
-pub loop-left-preserved : goal.loop-left-preserved
-loop-left-preserved c = (omega arith, still_next c.loop-left.invariant.1 (words_next _ _ _ c.loop-left-test.true c.get_four.ensures) c.put_word-place.ensures)
-
-pub shape_of-output : goal.shape_of-output
-shape_of-output c = c.loop-left.invariant.1.size
+pub loop-i-preserved : goal.loop-i-preserved
+loop-i-preserved c = still_next c.loop-i.invariant (words_next _ _ _ _ c.loop-i-test.true c.get_four.ensures) c.put-place.ensures
 
 pub returns : goal.returns
-returns c = still_none c.loop-left.invariant.1 (words_none _ _ _ c.loop-left-test.false)
+returns c = still_none c.loop-i.invariant (words_none _ _ _ _ c.loop-i-test.false)

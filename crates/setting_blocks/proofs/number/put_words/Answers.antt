@@ -1,17 +1,12 @@
-use Prim.Native.Nat.{◌-◌}
 use Rattle.writing.proofs.Laws.{still_begins, still_part, still_none}
 use Rattle.setting_blocks.proofs.Words.{bytes_next, bytes_none}
-use native.Mathlib.Omega.{arith}
 use Rattle.setting_blocks.proofs.number.put_words.Goals as goal
 
-pub loop-i-init : goal.loop-i-init
-loop-i-init c = (omega arith, still_begins _ _ _)
+pub loop-word-init : goal.loop-word-init
+loop-word-init c = still_begins _ _ _
 
-pub loop-i-preserved : goal.loop-i-preserved
-loop-i-preserved c = (omega arith, still_part c.loop-i.invariant.1 _ _ (bytes_next _ _ c.loop-i-test.true) c.put_four-place.ensures)
-
-pub shape_of-out : goal.shape_of-out
-shape_of-out c = c.loop-i.invariant.1.size
+pub loop-word-preserved : goal.loop-word-preserved
+loop-word-preserved c = still_part c.loop-word.invariant _ _ (bytes_next _ _ c.loop-word-test.true) c.put_four-place.ensures
 
 pub returns : goal.returns
-returns c = still_none c.loop-i.invariant.1 (bytes_none _ _ c.loop-i-test.false)
+returns c = still_none c.loop-word.invariant (bytes_none _ _ c.loop-word-test.false)

@@ -1,7 +1,7 @@
 use Rattle.shrinking.proofs.wanted.shrink_words.Goals as goal
 
-pub returns-then-target : goal.returns-then-target
-returns-then-target c = rw c.if-target.true c.to_count.ensures
+pub returns-in-Nodes : goal.returns-in-Nodes
+returns-in-Nodes c = rw c.in-Nodes.is c.to_size.ensures
 
-pub returns : goal.returns
-returns c = rw c.if-target.false c.to_size.ensures
+pub returns-in-Cases : goal.returns-in-Cases
+returns-in-Cases c = rw c.in-Cases.is c.to_count.ensures

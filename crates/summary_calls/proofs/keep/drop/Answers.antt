@@ -1,17 +1,22 @@
+use Rattle.diagram.proofs.Accepting.{passed_on}
 use Rattle.summary_calls.proofs.Keeping.{drop_before, pool_there, drop_refused, drop_recounting, drop_done}
 use Rattle.summary_calls.proofs.keep.drop.Goals as goal
 
-pub returns-in_default : goal.returns-in_default
-returns-in_default c = drop_before c.args.table.now c.args.slots.now c.args.summary.now c.stands-first.ensures c.args.slot c.in_default.is
+pub returns-in_err-stands : goal.returns-in_err-stands
+returns-in_err-stands c =
+    rw (passed_on c.from_residual.result c.in_err-stands.field-0.0 c.from_residual.ensures.1)
+    (drop_before c.args.table.now c.args.slots.now c.args.summary.now c.stands.ensures c.args.slot c.in_err-stands.was)
 
-pub drop_known-verdict-requires : goal.drop_known-verdict-requires
-drop_known-verdict-requires c = pool_there c.args.table.now c.args.slots.now c.args.summary.now c.stands-first.ensures c.in-Accepted.is
+pub drop_known-requires : goal.drop_known-requires
+drop_known-requires c = pool_there c.args.table.now c.args.slots.now c.args.summary.now c.stands.ensures c.in_ok-stands.was
 
-pub returns-in_default-verdict : goal.returns-in_default-verdict
-returns-in_default-verdict c = drop_refused c.args.table.now c.args.slots.now c.args.summary.now c.stands-first.ensures c.in-Accepted.is c.drop_known-verdict.ensures c.in_default-verdict.is
+pub returns-in_err-extent : goal.returns-in_err-extent
+returns-in_err-extent c =
+    rw (passed_on c.from_residual-in_err-extent.result c.in_err-extent.field-0.0 c.from_residual-in_err-extent.ensures.1)
+    (drop_refused c.args.table.now c.args.slots.now c.args.summary.now c.stands.ensures c.in_ok-stands.was c.drop_known.ensures c.in_err-extent.was)
 
 pub recount-requires : goal.recount-requires
-recount-requires c = drop_recounting c.args.table.now c.args.slots.now c.args.summary.now c.stands-first.ensures c.in-Accepted.is c.drop_known-verdict.ensures c.in-Accepted-verdict.is
+recount-requires c = drop_recounting c.args.table.now c.args.slots.now c.args.summary.now c.stands.ensures c.in_ok-stands.was c.drop_known.ensures c.in_ok-extent.was
 
 pub returns : goal.returns
-returns c = drop_done c.args.table.now c.args.slots.now c.args.summary.now c.stands-first.ensures c.in-Accepted.is c.drop_known-verdict.ensures c.in-Accepted-verdict.is c.recount.ensures
+returns c = drop_done c.args.table.now c.args.slots.now c.args.summary.now c.stands.ensures c.in_ok-stands.was c.drop_known.ensures c.in_ok-extent.was c.recount.ensures

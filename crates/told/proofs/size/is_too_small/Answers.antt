@@ -1,4 +1,3 @@
-use borrow.Author.Tests.{not-true, not-false}
 use Rattle.told.proofs.Small.{small_none, small_below, small_many, small_one}
 use native.Mathlib.Omega.{arith}
 use Rattle.told.proofs.size.is_too_small.Goals as goal

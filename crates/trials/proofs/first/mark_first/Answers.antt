@@ -1,5 +1,4 @@
 use lib.ListN.{take}
-use Prim.Native.Nat.{◌-◌}
 use Rattle.trials.proofs.Firsts.{first_markable, first_long, first_read}
 use Rattle.cuts.proofs.Marking.{mark_start, mark_on, marked_all}
 use native.Mathlib.Omega.{arith}
@@ -10,9 +9,6 @@ loop-i-init c = (mark_start (take c.args.count c.args.room.now) c.args.nodes c.a
 
 pub mark-requires : goal.mark-requires
 mark-requires c = c.requires.few
-
-pub loop-i-smaller : goal.loop-i-smaller
-loop-i-smaller c = omega arith
 
 pub loop-i-preserved : goal.loop-i-preserved
 loop-i-preserved c = (mark_on (take c.args.count c.args.room.now) c.args.nodes c.args.room.now c.loop-i.invariant.0 (first_markable c.requires) (omega (arith, first_long c.requires, c.loop-i-test.true)) (first_read c.requires c.loop-i.invariant.0 c.loop-i-test.true c.word.ensures) c.mark.ensures, omega arith)

@@ -7,6 +7,3 @@ use Rattle.weights.proofs.up.pass_all.Given as goal
 
 abbrev pub invariant-loop-c : goal.invariant-loop-c
 invariant-loop-c l = Passing l.words l.base l.room l.c (size l.words) × (l.c ≤ l.vars) × (length l.room ≡ length l.initial.room)
-
-abbrev pub decreases-loop-c : goal.decreases-loop-c
-decreases-loop-c l = l.vars - l.c

@@ -1,6 +1,5 @@
 use Rattle.worths.proofs.Places.{worths_none, worths_next, worths_to}
 use native.Mathlib.Numerals.{add-one}
-use Prim.Native.Nat.{◌-◌}
 use mathlib.Core.Path.{refl, sym, ◌∙◌}
 use native.Mathlib.Omega.{arith}
 use Rattle.worths.proofs.sums.note_all.Goals as goal
@@ -10,9 +9,6 @@ loop-place-init c = (worths_none c.requires.0, omega arith, refl)
 
 pub note_pair-requires : goal.note_pair-requires
 note_pair-requires c = worths_next c.loop-place.invariant.0 c.loop-place-test.true c.requires.1 c.requires.2
-
-pub loop-place-smaller : goal.loop-place-smaller
-loop-place-smaller c = omega (arith, c.loop-place-test.true)
 
 pub loop-place-preserved : goal.loop-place-preserved
 loop-place-preserved c = (worths_to c.note_pair.ensures (sym (add-one _)), omega (arith, c.loop-place-test.true), c.note_pair.auto.table ∙ c.loop-place.invariant.2)

@@ -1,8 +1,0 @@
-use Prim.Native.Nat.{◌-◌, ◌≤◌}
-use Rattle.naturals_run.proofs.shifts.Given as goal
-
-abbrev pub invariant-loop-j : goal.invariant-loop-j
-invariant-loop-j l = l.j ≤ 17
-
-abbrev pub decreases-loop-j : goal.decreases-loop-j
-decreases-loop-j l = 17 - l.j

@@ -1,9 +1,0 @@
-use mathlib.Core.Path.{sym}
-use lib.Seq.{length-take-le}
-use Rattle.pool_run.proofs.drop_line.Goals as goal
-
-pub slice_bounds-run_drop-end-2 : goal.slice_bounds-run_drop-end-2
-slice_bounds-run_drop-end-2 c = sym (length-take-le c.lent-places.result c.args.table.now c.lent-places.ensures)
-
-pub slice_bounds-run_drop-end-4 : goal.slice_bounds-run_drop-end-4
-slice_bounds-run_drop-end-4 c = sym (length-take-le c.lent-names.result c.args.slots.now c.lent-names.ensures)
