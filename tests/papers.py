@@ -229,6 +229,15 @@ ruled, compared, pooled, stored, filed = (
 SETTINGS = "docs/SETTINGS.md"
 settled = numbers(ROW, section(text_of(SETTINGS), "Refusals"))
 own = ruled[:ruled.index(12) + 1]
+variants = {name: int(number) for name, number in re.findall(r"^    (\w+) = (\d+),$", text_of("crates/diagram/src/refusal.rt"), re.M)}
+
+
+def given(*names):
+    """The numbers of the refusals that the code of these crates names."""
+    code = "".join(text_of(path) for name in names for path in sorted(glob.glob(f"crates/{name}/src/*.rt")))
+    return sorted({variants[name] for name in re.findall(r"\bRefusal::(\w+)", code) if name in variants})
+
+
 every = sorted(set(ruled + compared + pooled + stored + filed + settled))
 shown = ruled + compared + pooled + filed + [number for number in settled if number not in ruled]
 for path, found, said in [
@@ -240,6 +249,9 @@ for path, found, said in [
     ("crates/summary/specs/Kept.antt", numbers(r"\brow (\d+) ", text_of("crates/summary/specs/Kept.antt")), pooled[:3]),
     ("include/houayletan.h", numbers(r"^ \*   {,2}(\d+)   ", text_of("include/houayletan.h")), shown),
     ("bindings/rust/src/refusal.rs", sorted(numbers(r"^            (\d+) => ", text_of("bindings/rust/src/refusal.rs"))), sorted(shown)),
+    ("crates/blocks, block_reading and block_file", sorted(set(given("blocks", "block_reading", "block_file")) - set(ruled)), sorted(set(stored) - set(ruled))),
+    ("crates/node_file", sorted(set(given("node_file")) - set(ruled)), sorted(filed)),
+    ("crates/setting_blocks", given("setting_blocks"), sorted(settled)),
     ("crates/node_file/specs/NodeFile.antt", numbers(r"\brow (\d+) ", text_of("crates/node_file/specs/NodeFile.antt")), filed[:-1] + ruled[:2] + filed[-1:]),
     ("crates/setting_blocks/specs/Settings.antt", numbers(r"\brow (\d+) ", text_of("crates/setting_blocks/specs/Settings.antt")), settled),
 ]:

@@ -20,7 +20,7 @@ use blocks::stored::Stored;
 use cases::{number, words_of};
 use diagram::node::word;
 use forms::Form;
-use messages::number::write_numbered;
+use messages::refusal::write_refusal;
 use naturals::Natural;
 use report::lines::REPORT;
 use report::weigh::report;
@@ -151,7 +151,7 @@ fn report_case(bytes: &[u8], lent: usize) {
 
 fn refusal_case(number: u32, place: usize) {
     let mut lines = blank_lines();
-    let end = write_numbered(&mut lines, 0, number, place);
+    let end = write_refusal(&mut lines, 0, number, place);
     show(&lines, end);
 }
 

@@ -16,7 +16,7 @@ use diagram::limits::{MAX_NODES, MAX_WORDS, ROOM_PER_NODE};
 use diagram::verdict::{Refused, Verdict};
 use diagram_check::validate::validate;
 use forms::{Form, file_bytes, read_form, write_form};
-use messages::refusal::write_refusal;
+use messages::refusal::write_refusal_of;
 
 // Words of the room to check the most nodes.
 const ROOM: usize = ROOM_PER_NODE * MAX_NODES;
@@ -51,7 +51,7 @@ fn read_diagram(form: Form, bytes: &[u8], words: &mut [u32]) -> Stored
 fn refuse(text: &mut [u8], refused: Refused) -> Ends
     ensures { (result.file ≡ 0) × Wrote (refusal_text (number_of refused.reason) refused.place) text.old 0 text.new result.text }
 {
-    let end = write_refusal(text, 0, refused);
+    let end = write_refusal_of(text, 0, refused);
     Ends { file: 0, text: end }
 }
 

@@ -45,8 +45,14 @@ fn contents(words: &[u32], room: &mut [u32]) -> Verdict
     requires { Sized words.now room.old }
     ensures { said result ≡ contents_of words.now }
 {
-    terminals(words)?;
-    let Extent { nodes, vars } = ranges(words)?;
+    let ended = terminals(words);
+    let Ok(_) = ended else {
+        return ended;
+    };
+    let ranged = ranges(words);
+    let Ok(Extent { nodes, vars }) = ranged else {
+        return ranged;
+    };
     graph(words, room, nodes, vars)
 }
 
@@ -65,8 +71,11 @@ fn inspect(words: &[u32], room: &mut [u32]) -> Verdict
 pub fn admit(words: &[u32], room: &mut [u32], output: Output) -> Verdict
     ensures { Checked words.now output room.old room.new result }
 {
-    let measured = lengths(words, room.len(), output)?;
-    let all = ROOM_PER_NODE * most(measured.nodes);
+    let measured = lengths(words, room.len(), output);
+    let Ok(Extent { nodes, vars: _ }) = measured else {
+        return measured;
+    };
+    let all = ROOM_PER_NODE * most(nodes);
     inspect(words, &mut room[..all])
 }
 

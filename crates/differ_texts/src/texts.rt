@@ -6,7 +6,7 @@ ghost use Rattle.differ_texts.specs.Texts.{help_text, unknown_text, missing_text
 
 use diagram::refusal::Refusal;
 use diagram::verdict::Refused;
-use messages::refusal::write_refusal;
+use messages::refusal::write_refusal_of;
 use text::print::DECIMAL;
 use writing::write;
 
@@ -52,7 +52,7 @@ pub fn write_named(out: &mut [u8], name: &[u8], refused: Refused) -> usize
 {
     let named = write(out, 0, name);
     let colon = write(out, named, b": ");
-    write_refusal(out, colon, refused)
+    write_refusal_of(out, colon, refused)
 }
 
 fn of_both(reason: Refusal) -> bool

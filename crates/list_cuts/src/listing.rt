@@ -26,13 +26,15 @@ fn first_terminal(list: &[u32]) -> Option<usize>
 pub(crate) fn listing(list: &[u32], nodes: usize, vars: u32) -> Verdict
     ensures { (w : List ℕ) → nodes ≡ size w → vars ≡ varsOf w → said result ≡ list_of w list.now }
 {
-    if let Some(place) = first_outside(list, nodes) {
+    let outside = first_outside(list, nodes);
+    let terminal = first_terminal(list);
+    if let Some(place) = outside {
         return Err(Refused {
             reason: Refusal::BadPointer,
             place,
         });
     }
-    if let Some(place) = first_terminal(list) {
+    if let Some(place) = terminal {
         return Err(Refused {
             reason: Refusal::ListedTerminal,
             place,

@@ -55,7 +55,7 @@ module _ (number : ℕ) (none : Numbered number None) where
       simp (differs NoTerminal, differs BrokenHighOrder, lt-leb 8 number h))
       (λ l. simp (differs NoTerminal, differs BrokenHighOrder, le-leb 8 number (omega arith), lt-leb number 12 l))
 
-  -- of a settings file no less: what `write_numbered` writes is this text too
+  -- of a settings file no less: what `write_refusal` writes is this text too
   pub settings_as : (place : ℕ) → settings_refusal_text number place ≡ refusal_text number place
   unfolding settings_refusal_text settings_phrase refusal_text
   settings_as place = simp (differs UnknownVersion, differs OutOfRange)

@@ -1,15 +1,9 @@
-// The line of a refusal by its number, of which there may be one that no refusal has.
-ghost use Rattle.writing.specs.Writing.{Wrote};
-ghost use Rattle.messages.specs.Texts.{Numbered, refusal_text};
+// The refusal that has a number; there are numbers that no refusal has.
+ghost use Rattle.messages.specs.Texts.{Numbered};
 
-use crate::refusal::write_refusal;
 use diagram::refusal::Refusal;
-use diagram::verdict::Refused;
-use report::lines::write_refused;
-use writing::{put, write};
 
-// The refusal that has a number.
-fn numbered(number: u32) -> Option<Refusal>
+pub(crate) fn numbered(number: u32) -> Option<Refusal>
     ensures { Numbered number result }
 {
     match number {
@@ -55,16 +49,4 @@ fn numbered(number: u32) -> Option<Refusal>
         55 => Some(Refusal::WideNode),
         _ => None,
     }
-}
-
-pub fn write_numbered(out: &mut [u8], at: usize, number: u32, place: usize) -> usize
-    ensures { Wrote (refusal_text number place) out.old at out.new result }
-{
-    if let Some(reason) = numbered(number) {
-        return write_refusal(out, at, Refused { reason, place });
-    }
-    let begun = write_refused(out, at, number, place);
-    let colon = write(out, begun, b": ");
-    let said = write(out, colon, b"the input is refused");
-    put(out, said, b'\n')
 }

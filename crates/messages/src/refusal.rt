@@ -4,6 +4,7 @@ ghost use Rattle.diagram.specs.Refusal.{number_of};
 ghost use Rattle.writing.specs.Writing.{Wrote};
 ghost use Rattle.messages.specs.Texts.{of_node, subject, more_than, pairs_phrase, phrase, refusal_text, settings_phrase, settings_refusal_text};
 
+use crate::number::numbered;
 use blocks::layout::MOST;
 use diagram::limits::{MAX_NODES, MAX_VARIABLES};
 use diagram::refusal::Refusal;
@@ -126,13 +127,27 @@ fn write_phrase(out: &mut [u8], at: usize, reason: Refusal) -> usize
     }
 }
 
-pub fn write_refusal(out: &mut [u8], at: usize, refused: Refused) -> usize
+// Of a refusal that the code gives.
+pub fn write_refusal_of(out: &mut [u8], at: usize, refused: Refused) -> usize
     ensures { Wrote (refusal_text (number_of refused.reason) refused.place) out.old at out.new result }
 {
     let begun = write_refused(out, at, refused.reason.number(), refused.place);
     let colon = write(out, begun, b": ");
     let of = write_subject(out, colon, refused);
     let said = write_phrase(out, of, refused.reason);
+    put(out, said, b'\n')
+}
+
+// By a number, of which there may be one that no refusal has.
+pub fn write_refusal(out: &mut [u8], at: usize, number: u32, place: usize) -> usize
+    ensures { Wrote (refusal_text number place) out.old at out.new result }
+{
+    if let Some(reason) = numbered(number) {
+        return write_refusal_of(out, at, Refused { reason, place });
+    }
+    let begun = write_refused(out, at, number, place);
+    let colon = write(out, begun, b": ");
+    let said = write(out, colon, b"the input is refused");
     put(out, said, b'\n')
 }
 

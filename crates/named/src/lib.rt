@@ -1,7 +1,7 @@
 // Files that are read by their names.
 #![tactic(auto)]
 
-ghost use Rattle.std.specs.Prelude.{◌≡◌, ◌≤◌, length, IfSome, None};
+ghost use Rattle.std.specs.Prelude.{◌≡◌, ◌≤◌, length, IfSome, None, OnErr};
 ghost use Rattle.std.specs.Str.{IsUtf8};
 
 use std::fs::{File, Files};
@@ -36,12 +36,23 @@ fn read_opened<'a, R: Read>(file: &mut R, bytes: &'a mut [u8]) -> Option<&'a [u8
     Some(&bytes[..length])
 }
 
+// What could not be opened is no file.
+fn read_if_opened<'a, R: Read + Drop, E: Drop>(
+    opened: Result<R, E>,
+    bytes: &'a mut [u8],
+) -> Option<&'a [u8]>
+    ensures length { IfSome result (λ read. length read.now ≤ length bytes.old) }
+    ensures missing { OnErr opened (result ≡ None) }
+{
+    let mut file = opened.ok()?;
+    read_opened(&mut file, bytes)
+}
+
 // The bytes of a file, as many as there is place for, and `None` where it could not be read. A name that is no UTF-8 text names no file.
 pub fn read_file<'a, F: Files>(files: &F, name: &[u8], bytes: &'a mut [u8]) -> Option<&'a [u8]>
     ensures length { IfSome result (λ read. length read.now ≤ length bytes.old) }
     ensures text { ¬ IsUtf8 name.now → result ≡ None }
 {
     let name = from_utf8(name).ok()?;
-    let mut file = File::open(files, name).ok()?;
-    read_opened(&mut file, bytes)
+    read_if_opened(File::open(files, name), bytes)
 }

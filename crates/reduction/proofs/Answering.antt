@@ -4,9 +4,8 @@ use mathlib.Core.Path.{◌≡◌, refl, sym, ap, ◌∙◌, subst}
 use mathlib.Core.List.{List, ◌++◌}
 use native.Mathlib.Omega.{arith}
 use native.Mathlib.Decide.{ℕ_discrete, dec_lt}
-use Rattle.std.proofs.lemmas.Slice.{drop-append-drop}
 use lib.ListN.{length, get_or, set, take, drop, replicate, length-append, length-drop, length-replicate, take-append-drop, get_or-append}
-use lib.Seq.{get_or-take, get_or-drop, get_or-append-add, ext_get_or, length-take-le}
+use lib.Seq.{get_or-set_same, get_or-set_other, get_or-take, get_or-drop, get_or-append-add, ext_get_or, length-take-le}
 use Rattle.diagram.specs.Limits.{max_nodes}
 use Rattle.diagram.specs.Diagram.{size, vars, root, holds}
 use Rattle.diagram.specs.Verdict.{most as most-of}
@@ -199,19 +198,13 @@ module _ {w r : List ℕ} {c n v : ℕ} (a : Asked w r c n v) {m : ℕ} (is_m : 
 
 -- ---- copying
 
--- A stretch of r at the front of other words is a copy of it.
-pub copied_stretch : (r before s : List ℕ) (from k : ℕ) → from + k ≤ length r → s ≡ take (from + k - from) (drop from r)
-    → Copied r from before (s ++ drop k before) k
-copied_stretch r before s from k fits e =
-    let n : from + k - from ≡ k = omega arith in
-    let t : s ≡ take k (drop from r) = e ∙ ap (λ (m : ℕ). take m (drop from r)) n in
-    let there : k ≤ length (drop from r) = omega (arith, length-drop from r) in
-    let whole : length s ≡ k = ap length t ∙ length-take-le k (drop from r) there in
-    record {
-      first = λ j h.
-          get_or-append s (drop k before) 0 j (omega arith) ∙ ap (λ (l : List ℕ). get_or l j 0) t ∙ get_or-take k (drop from r) j 0 h ∙ get_or-drop from r j 0;
-      rest = drop-append-drop k before s k (omega arith) whole;
-    }
+-- One word more has been copied.
+pub copy_more : (r out : List ℕ) (from i x : ℕ) → x ≡ get_or r (from + i) 0 → i < length out → ((j : ℕ) → j < i → get_or out j 0 ≡ get_or r (from + j) 0)
+    → (j : ℕ) → j < i + 1 → get_or (set out i x) j 0 ≡ get_or r (from + j) 0
+copy_more r out from i x e inside below j h = elim (ℕ_discrete j i) [
+  | yes same ↦ rw same (get_or-set_same out i x 0 inside ∙ e)
+  | no other ↦ get_or-set_other out i j x 0 other ∙ below j (omega arith)
+]
 
 -- Words that were copied, as lists.
 pub copied_front : {r before after : List ℕ} {from k : ℕ} → Copied r from before after k → k ≤ length after → from + k ≤ length r

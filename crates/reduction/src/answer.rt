@@ -12,12 +12,15 @@ use store::walk::build;
 
 const MEMO: usize = 0;
 
-// Copies `count` words of the room, from a place on, to the output.
+// Copies `count` words of the room, from a place on, to the output. A loop: `copy_from_slice` of a length that is not known is a call of
+// memmove, which the archive for C would then need from outside.
 pub fn copy(room: &[u32], from: usize, output: &mut [u32], count: usize)
     requires { (from + count ≤ length room.now) × (count ≤ length output.old) }
     ensures { Copied room.now from output.old output.new count }
 {
-    output[..count].copy_from_slice(&room[from..from + count]);
+    for i in 0..count {
+        output[i] = room[from + i];
+    }
 }
 
 // Builds the reduced diagram of an ordered array with at most `limit` nodes, and gives its number of nodes: one more than the

@@ -43,7 +43,7 @@ pub(crate) fn write_count(out: &mut [u8], at: usize, label: &[u8], a: Natural) -
     write_hexadecimal(out, next, a)
 }
 
-// `refused 12 at 4`, without the line feed. Any number: what no refusal has is written too (`write_numbered` of crates/messages).
+// `refused 12 at 4`, without the line feed. Any number: what no refusal has is written too (`write_refusal` of crates/messages).
 pub fn write_refused(out: &mut [u8], at: usize, number: u32, place: usize) -> usize
     ensures { Wrote (refused_at number place) out.old at out.new result }
 {

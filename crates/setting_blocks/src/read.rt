@@ -96,11 +96,11 @@ pub fn kept_in(block: &[u8]) -> Result<Kept, Refused>
     read_by(NEWEST, block)
 }
 
-// The same as C has it.
+// The same as C has it; not by way of `kept_in`, whose answer would be copied once more.
 pub fn read_settings(block: &[u8]) -> SettingRead
     ensures { result ≡ shown (read_by newest block.now) }
 {
-    SettingRead::from(kept_in(block))
+    SettingRead::from(read_by(NEWEST, block))
 }
 
 // For what knows of no flag: a setting of a later version is never shown.

@@ -15,7 +15,7 @@ use crate::wanted::shrink_words;
 use diagram::limits::{MAX_NODES, MAX_WORDS, ROOM_PER_NODE};
 use diagram::verdict::Refused;
 use forms::{Form, file_bytes, read_form, write_form};
-use messages::refusal::write_refusal;
+use messages::refusal::write_refusal_of;
 use request::Target;
 
 // Words of the room to cut the most nodes: two megabytes, and so there is one, which serves the counts of the summary too.
@@ -24,7 +24,7 @@ const ROOM: usize = ROOM_PER_NODE * MAX_NODES;
 fn refuse(text: &mut [u8], refused: Refused) -> Ends
     ensures { (result.file ≡ 0) × Wrote (refusal_text (number_of refused.reason) refused.place) text.old 0 text.new result.text }
 {
-    let end = write_refusal(text, 0, refused);
+    let end = write_refusal_of(text, 0, refused);
     Ends { file: 0, text: end }
 }
 

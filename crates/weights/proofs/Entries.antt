@@ -3,14 +3,14 @@ use Prim.Native.Nat.{ℕ, ◌+◌, ◌-◌, ◌*◌, ◌^◌, ◌≤◌, ◌<◌
 use mathlib.Core.Path.{◌≡◌, refl, sym, ap, ◌∙◌}
 use mathlib.Core.List.{List, ◌++◌}
 use native.Mathlib.Omega.{arith}
-use Rattle.std.proofs.lemmas.Slice.{drop-append-drop}
-use lib.ListN.{length, get_or, take, drop, length-take, length-drop, length-append, get_or-append}
-use lib.Seq.{ext_get_or, get_or-take, get_or-drop, take-append-le, drop-append-le, length-take-le, length_front, drop_at}
+use lib.ListN.{length, get_or, take, drop, set, length-take, length-drop, length-set}
+use lib.Seq.{ext_get_or, get_or-take, get_or-drop, get_or-set_same, get_or-set_other, drop-set-lt, take-append-le, drop-append-le, drop-drop, length-take-le, length_front, drop_at}
 use Rattle.naturals.specs.Natural.{value, word_count, Holds}
 use Rattle.naturals.proofs.Place.{words_count, words_at_lem}
 use Rattle.in_place.specs.Words.{Blanked}
 use Rattle.in_place.proofs.Placed.{words_small_at, blank_put}
 use Rattle.diagram.specs.Valuations.{weight_of}
+use Rattle.diagram.proofs.Tests.{by-eq}
 use Rattle.counts.specs.Table.{entry, num, In}
 use Rattle.weights.specs.Passes.{weights_from, weights_to, Standing, Emptied, Handed}
 
@@ -63,31 +63,21 @@ pub record Copied (base : ℕ) (room before : List ℕ) (i : ℕ) (now : List �
   pub small : (j : ℕ) → j < i → get_or now j 0 < 2 ^ 32
   pub rest : drop i now ≡ drop i before
 
--- what was copied in one go
-pub copied_stretch : {base k : ℕ} {room before s : List ℕ} → base + k ≤ length room → k ≤ length before
-    → ((i : ℕ) → get_or room i 0 < 2 ^ 32) → s ≡ take (base + k - base) (drop base room) → Copied base room before k (s ++ drop k before)
-copied_stretch {base} {k} {room} {before} {s} from to words e = record {
-  kept = length-append s (drop k before) ∙ omega (arith, whole, length-drop k before);
-  front = front;
-  small = λ j h. rw (front j h) (words (base + j));
-  rest = drop-append-drop k before s k (omega arith) whole;
+pub copy_begins : (base : ℕ) (room before : List ℕ) → Copied base room before 0 before
+copy_begins base room before = record { kept = refl; front = λ j h. absurd (omega arith); small = λ j h. absurd (omega arith); rest = refl }
+
+pub copy_on : {base : ℕ} {room before : List ℕ} {i : ℕ} {now : List ℕ} → Copied base room before i now → i < length before
+    → get_or room (base + i) 0 < 2 ^ 32 → Copied base room before (i + 1) (set now i (get_or room (base + i) 0))
+copy_on {base} {room} {before} {i} {now} c h word = record {
+  kept = length-set now i (get_or room (base + i) 0) ∙ c.kept;
+  front = λ j l. by-eq j i
+      (λ e. rw e (get_or-set_same now i (get_or room (base + i) 0) 0 (omega (arith, c.kept))))
+      (λ ne. get_or-set_other now i j (get_or room (base + i) 0) 0 (λ e. ne (omega arith)) ∙ c.front j (omega arith));
+  small = λ j l. by-eq j i
+      (λ e. rw (e, get_or-set_same now i (get_or room (base + i) 0) 0 (omega (arith, c.kept))) word)
+      (λ ne. rw (get_or-set_other now i j (get_or room (base + i) 0) 0 (λ e. ne (omega arith))) (c.small j (omega arith)));
+  rest = drop-set-lt (i + 1) now i (get_or room (base + i) 0) (omega arith) ∙ sym (drop-drop 1 i now) ∙ ap (λ (l : List ℕ). drop 1 l) c.rest ∙ drop-drop 1 i before;
 }
-  where
-    n : base + k - base ≡ k
-    n = omega arith
-
-    t : s ≡ take k (drop base room)
-    t = e ∙ ap (λ (m : ℕ). take m (drop base room)) n
-
-    whole : length s ≡ k
-    whole = ap length t ∙ length-take-le k (drop base room) (omega (arith, length-drop base room))
-
-    front : (j : ℕ) → j < k → get_or (s ++ drop k before) j 0 ≡ get_or room (base + j) 0
-    front j h =
-        get_or-append s (drop k before) 0 j (omega (arith, whole))
-        ∙ ap (λ (l : List ℕ). get_or l j 0) t
-        ∙ get_or-take k (drop base room) j 0 h
-        ∙ get_or-drop base room j 0
 
 pub handed : {base : ℕ} {room before after : List ℕ} {n : ℕ} → base + word_count * n ≤ length room → word_count * n ≤ length before
     → Copied base room before (word_count * n) after → Handed base room before n after

@@ -57,6 +57,7 @@ pub fn hand_over(room: &[u32], output: &mut [u32], nodes: usize)
     ensures { Handed (weights_from nodes) room.now output.old nodes output.new }
 {
     let base = BEFORE * nodes;
-    let count = naturals::WORDS * nodes;
-    output[..count].copy_from_slice(&room[base..base + count]);
+    for i in 0..naturals::WORDS * nodes {
+        output[i] = room[base + i];
+    }
 }

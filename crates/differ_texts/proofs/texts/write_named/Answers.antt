@@ -4,4 +4,4 @@ use Rattle.differ_texts.proofs.texts.write_named.Goals as goal
 
 pub returns : goal.returns
 unfolding named_text
-returns c = wrote_then (wrote_then c.write-named.ensures c.write-colon.ensures) c.write_refusal.ensures
+returns c = wrote_then (wrote_then c.write-named.ensures c.write-colon.ensures) c.write_refusal_of.ensures
